@@ -1,0 +1,17 @@
+//! What every other crate stands on: texts, lists and boxes that contracts see as plain data, the types of values,
+//! places in a text, want of memory, and whole numbers as decimal text.
+#![tactic(auto)]
+
+mod boxed;
+mod decimal;
+mod items;
+mod memory;
+mod text;
+mod types;
+
+pub use boxed::Boxed;
+pub use decimal::put_int;
+pub use items::Items;
+pub use memory::Memory;
+pub use text::Text;
+pub use types::{Span, Ty};

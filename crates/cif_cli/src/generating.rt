@@ -1,0 +1,44 @@
+//! From the bytes of a source to the text of its program.
+
+ghost use Rattle.std.specs.Prelude.{◌≡◌, ◌≤◌, ◌+◌, IfOk, IfErr, length};
+ghost use Rattle.cif_cli.specs.Answers.{IsTextFor, TextEnds};
+ghost use Rattle.cif_cli.specs.Refusals.{status_of};
+
+use crate::status::{Refusal, Status};
+use cif_form::{ReadError, number_plant, read_plant};
+use plc_back::generate_text;
+use plc_gen::Bounds;
+use std::alloc::Global;
+
+/// How a call ends whose source is not read.
+fn status_of(error: ReadError) -> Status
+    ensures { result ≡ status_of error }
+{
+    match error {
+        ReadError::NotRead { at } => Status::Refused {
+            why: Refusal::NotRead { at },
+        },
+        ReadError::Memory => Status::Memory,
+    }
+}
+
+/// The text of the program of the plant that a source reads as, with these most rounds of each class in a scan.
+pub fn program_text(alloc: Global, source: &[u8], bounds: Bounds) -> Result<Vec<u8>, Status>
+    requires size { length source.now ≤ 4194304 }
+    requires turns { bounds.unc + bounds.con ≤ 1000000 }
+    ensures text { IfOk result (λ text. IsTextFor bounds.unc bounds.con source.now text.items) }
+    ensures ends { IfErr result (TextEnds source.now) }
+{
+    let plant = match read_plant(alloc, source) {
+        Ok(plant) => plant,
+        Err(error) => return Err(status_of(error)),
+    };
+    let numbered = match number_plant(alloc, &plant) {
+        Ok(numbered) => numbered,
+        Err(_) => return Err(Status::Memory),
+    };
+    match generate_text(alloc, &numbered, bounds) {
+        Ok(text) => Ok(text),
+        Err(_) => Err(Status::Memory),
+    }
+}

@@ -1,0 +1,222 @@
+-- What is found at the front of a text, said of the pieces that begin there.
+use Rattle.std.proofs.Common.{◌≡◌, ◌==◌, ℕ, ◌<◌, Bool, true, false, ◌&&◌, if◌then◌else◌, nat_le, List, [], ◌∷◌, ◌++◌, Option, Some, None, Ok, Err, refl, sym, ap, subst, ◌∙◌, inl, inr, arith, leb-true}
+use Rattle.std.proofs.lemmas.Bool.Decides.{nat_tests}
+use Rattle.grammar.specs.Pieces.{Text, Cut, IsLongest, one_text}
+use Rattle.cif_lex.specs.declared.token.TokenKind.{TokenKind}
+use Rattle.cif_lex.specs.declared.found.Fault.{Fault}
+use Rattle.cif_lex.specs.declared.found.Fault.TheVariants as f
+use Rattle.cif_lex.specs.Tokens.{Piece, blank, comment, word, escaped, number, sign, signs, piece, kind_of, number_of, greatest_number, IsInRange}
+use Rattle.cif_lex.specs.Cutting.{Found, letter, is_small, after_close, closed_found, slash_found, found_of}
+use Rattle.cif_lex.proofs.SignLaws.{in_range, judge}
+use Rattle.cif_lex.proofs.CutLaws.{piece_cut, piece_cuts}
+use Rattle.cif_lex.proofs.FrontLaws.{opens, judged, front_is, from_test}
+
+-- ---- numbers in range
+
+in_range_is : (p : Piece) → in_range p ≡ true → IsInRange p
+unfolding IsInRange is_small
+in_range_is blank e = tt
+in_range_is comment e = tt
+in_range_is (word t) e = tt
+in_range_is (escaped t) e = tt
+in_range_is (number t) e = leb-true (number_of t) greatest_number e
+in_range_is (sign t) e = tt
+
+above : (n m : ℕ) → nat_le n m ≡ false → m < n
+above n m e = grind (arith, nat_tests)
+
+too_big_is : (p : Piece) → in_range p ≡ false → (digits : Text) × (p ≡ number digits) × (greatest_number < number_of digits)
+unfolding is_small
+too_big_is blank e = absurd cc
+too_big_is comment e = absurd cc
+too_big_is (word t) e = absurd cc
+too_big_is (escaped t) e = absurd cc
+too_big_is (number t) e = (t, refl, above (number_of t) greatest_number e)
+too_big_is (sign t) e = absurd cc
+
+no_sign_number : (ss : List Text) (t x : Text) → one_text ss sign (number t) x → ⊥
+no_sign_number [] t x d = d
+no_sign_number (s ∷ ss) t x (inl d) = let e : number t ≡ sign s = d.1 in cc
+no_sign_number (s ∷ ss) t x (inr d) = no_sign_number ss t x d
+
+-- a number is made with its text
+number_bytes : (t x : Text) → piece (number t) x → t ≡ x
+unfolding piece
+number_bytes t x (inl d) = absurd (let e : number t ≡ blank = d.5 in cc)
+number_bytes t x (inr (inl d)) = absurd (let e : number t ≡ word (d.0 ∷ d.1) = d.5 in cc)
+number_bytes t x (inr (inr (inl d))) = absurd (let e : number t ≡ escaped (d.1.0 ∷ d.1.1) = d.1.5 in cc)
+number_bytes t x (inr (inr (inr (inl d)))) = let e : number t ≡ number (d.0 ∷ d.1) = d.5 in let g : x ≡ d.0 ∷ d.1 = d.4 in cc
+number_bytes t x (inr (inr (inr (inr (inl d))))) = let e : number t ≡ number (d.0 ∷ d.1) = d.5 in let g : x ≡ d.0 ∷ d.1 = d.4 in cc
+number_bytes t x (inr (inr (inr (inr (inr (inl (y, inl d, g))))))) = absurd (let e : number t ≡ comment = d.5 in cc)
+number_bytes t x (inr (inr (inr (inr (inr (inl (y, inr d, g))))))) = absurd (let e : number t ≡ comment = d.3 in cc)
+number_bytes t x (inr (inr (inr (inr (inr (inr d)))))) = absurd (no_sign_number signs t x d)
+
+-- ---- a piece is taken
+
+pub record Takes (text rest : Text) (kind : Option TokenKind) : Type 0 where
+  pub taken : Piece
+  pub bytes : Text
+  pub is : piece taken bytes
+  pub longest : IsLongest piece bytes text
+  pub whole : text ≡ bytes ++ rest
+  pub has_kind : kind_of taken ≡ kind
+  pub small : IsInRange taken
+
+judge_ok : (p : Piece) (rest more : Text) (k : Option TokenKind) → judge p rest ≡ Ok (k, more) → (in_range p ≡ true) × (kind_of p ≡ k) × (rest ≡ more)
+judge_ok p rest more k e = go (in_range p) refl e
+  where
+    go : (x : Bool) → in_range p ≡ x → (let r : Found = if x then Ok (kind_of p, rest) else Err f.NumberTooBig in r) ≡ Ok (k, more) → (in_range p ≡ true) × (kind_of p ≡ k) × (rest ≡ more)
+    go true is g = let pair : (kind_of p, rest) ≡ (k, more) = cc in (is, ap (λ (q : Option TokenKind × Text). q.0) pair, ap (λ (q : Option TokenKind × Text). q.1) pair)
+    go false is g = absurd cc
+
+judge_err : (p : Piece) (rest : Text) (e : Fault) → judge p rest ≡ Err e → (in_range p ≡ false) × (e ≡ f.NumberTooBig)
+judge_err p rest e h = go (in_range p) refl h
+  where
+    go : (x : Bool) → in_range p ≡ x → (let r : Found = if x then Ok (kind_of p, rest) else Err f.NumberTooBig in r) ≡ Err e → (in_range p ≡ false) × (e ≡ f.NumberTooBig)
+    go true is g = absurd cc
+    go false is g = (is, cc)
+
+found_takes : (b : ℕ) (text rest : Text) (k : Option TokenKind) → found_of (b ∷ text) ≡ Ok (k, rest) → Takes (b ∷ text) rest k
+found_takes b text rest k e = go (piece_cut (b ∷ text)) refl (sym (front_is b text) ∙ e)
+  where
+    neither : (x : Bool) → (let r : Found = if x then Err f.OpenComment else Err f.BadByte in r) ≡ Ok (k, rest) → ⊥
+    neither true g = cc
+    neither false g = cc
+
+    go : (o : Option (Cut Piece)) → piece_cut (b ∷ text) ≡ o → judged (b ∷ text) o ≡ Ok (k, rest) → Takes (b ∷ text) rest k
+    go None is g = absurd (neither (opens (b ∷ text)) g)
+    go (Some c) is g =
+        let m = piece_cuts.found (b ∷ text) c is in
+        let j = judge_ok c.piece c.rest rest k g in
+        record { taken = c.piece; bytes = c.bytes; is = m.0; longest = m.1; whole = m.2 ∙ ap (λ (u : Text). c.bytes ++ u) j.2; has_kind = j.1; small = in_range_is c.piece j.0 }
+
+pub takes : (text rest : Text) (k : Option TokenKind) → found_of text ≡ Ok (k, rest) → Takes text rest k
+unfolding found_of
+takes [] rest k e = absurd cc
+takes (b ∷ text) rest k e = found_takes b text rest k e
+
+-- ---- nothing is taken
+
+-- what is cut where this fault is found
+judged_fault : (b : ℕ) (text : Text) (e : Fault) → found_of (b ∷ text) ≡ Err e → (o : Option (Cut Piece)) × (piece_cut (b ∷ text) ≡ o) × (judged (b ∷ text) o ≡ Err e)
+judged_fault b text e h = (piece_cut (b ∷ text), refl, sym (front_is b text) ∙ h)
+
+opens_at : (text : Text) → opens (47 ∷ 42 ∷ text) ≡ true
+opens_at text = refl
+
+pub bad_byte : (b : ℕ) (text : Text) → found_of (b ∷ text) ≡ Err f.BadByte → ((p : Piece) (x more : Text) → piece p x → b ∷ text ≡ x ++ more → ⊥) × ((more : Text) → b ∷ text ≡ 47 ∷ 42 ∷ more → ⊥)
+bad_byte b text h = go (piece_cut (b ∷ text)) refl (sym (front_is b text) ∙ h)
+  where
+    closed : (x : Bool) → opens (b ∷ text) ≡ x → (let r : Found = if x then Err f.OpenComment else Err f.BadByte in r) ≡ Err f.BadByte → opens (b ∷ text) ≡ false
+    closed true is g = absurd cc
+    closed false is g = is
+
+    go : (o : Option (Cut Piece)) → piece_cut (b ∷ text) ≡ o → judged (b ∷ text) o ≡ Err f.BadByte → ((p : Piece) (x more : Text) → piece p x → b ∷ text ≡ x ++ more → ⊥) × ((more : Text) → b ∷ text ≡ 47 ∷ 42 ∷ more → ⊥)
+    go None is g = (
+      (λ p x more d e. piece_cuts.none (b ∷ text) is p x more d e),
+      (λ more e. let no = closed (opens (b ∷ text)) refl g in let yes : opens (b ∷ text) ≡ true = ap opens e ∙ opens_at more in cc),
+    )
+    go (Some c) is g = absurd (let j = judge_err c.piece c.rest f.BadByte g in let e : f.BadByte ≡ f.NumberTooBig = j.1 in cc)
+
+pub big_number : (b : ℕ) (text : Text) → found_of (b ∷ text) ≡ Err f.NumberTooBig
+    → (digits : Text) × (more : Text) × piece (number digits) digits × IsLongest piece digits (b ∷ text) × (b ∷ text ≡ digits ++ more) × (greatest_number < number_of digits)
+big_number b text h = go (piece_cut (b ∷ text)) refl (sym (front_is b text) ∙ h)
+  where
+    neither : (x : Bool) → (let r : Found = if x then Err f.OpenComment else Err f.BadByte in r) ≡ Err f.NumberTooBig → ⊥
+    neither true g = cc
+    neither false g = cc
+
+    go : (o : Option (Cut Piece)) → piece_cut (b ∷ text) ≡ o → judged (b ∷ text) o ≡ Err f.NumberTooBig
+        → (digits : Text) × (more : Text) × piece (number digits) digits × IsLongest piece digits (b ∷ text) × (b ∷ text ≡ digits ++ more) × (greatest_number < number_of digits)
+    go None is g = absurd (neither (opens (b ∷ text)) g)
+    go (Some c) is g =
+        let m = piece_cuts.found (b ∷ text) c is in
+        let j = judge_err c.piece c.rest f.NumberTooBig g in
+        let t = too_big_is c.piece j.0 in
+        let there : piece (number t.0) c.bytes = subst (λ p. piece p c.bytes) t.1 m.0 in
+        let same : c.bytes ≡ t.0 = sym (number_bytes t.0 c.bytes there) in
+        (t.0, c.rest, subst (λ (x : Text). piece (number t.0) x) same there, subst (λ (x : Text). IsLongest piece x (b ∷ text)) same m.1, m.2 ∙ ap (λ (x : Text). x ++ c.rest) same, t.2)
+
+-- ---- an open comment
+
+and_left : (a b : Bool) → (a && b) ≡ true → a ≡ true
+and_left true b e = refl
+and_left false b e = absurd cc
+
+and_right : (a b : Bool) → (a && b) ≡ true → b ≡ true
+and_right true b e = e
+and_right false b e = absurd cc
+
+opened : (b : ℕ) (text : Text) → opens (b ∷ text) ≡ true → (more : Text) × (b ∷ text ≡ 47 ∷ 42 ∷ more)
+opened b [] e = absurd cc
+opened b (c ∷ text) e =
+    let first : 47 ≡ b = from_test b 47 (and_left (b == 47) (c == 42) e) in
+    let second : 42 ≡ c = from_test c 42 (and_right (b == 47) (c == 42) e) in
+    (text, cc)
+
+not_closed : (more : Text) → found_of (47 ∷ 42 ∷ more) ≡ Err f.OpenComment → after_close more ≡ None
+unfolding found_of letter slash_found
+not_closed more e = go (after_close more) refl e
+  where
+    go : (o : Option Text) → after_close more ≡ o → closed_found o ≡ Err f.OpenComment → after_close more ≡ None
+    go None is g = is
+    go (Some rest) is g = absurd cc
+
+pub open_comment : (b : ℕ) (text : Text) → found_of (b ∷ text) ≡ Err f.OpenComment → (more : Text) × (b ∷ text ≡ 47 ∷ 42 ∷ more) × (after_close more ≡ None)
+open_comment b text h =
+    let o = opened b text (go (piece_cut (b ∷ text)) refl (sym (front_is b text) ∙ h)) in
+    (o.0, o.1, not_closed o.0 (ap found_of (sym o.1) ∙ h))
+  where
+    is_open : (x : Bool) → (let r : Found = if x then Err f.OpenComment else Err f.BadByte in r) ≡ Err f.OpenComment → x ≡ true
+    is_open true g = refl
+    is_open false g = absurd cc
+
+    go : (o : Option (Cut Piece)) → piece_cut (b ∷ text) ≡ o → judged (b ∷ text) o ≡ Err f.OpenComment → opens (b ∷ text) ≡ true
+    go None is g = is_open (opens (b ∷ text)) g
+    go (Some c) is g = absurd (let j = judge_err c.piece c.rest f.OpenComment g in let e : f.OpenComment ≡ f.NumberTooBig = j.1 in cc)
+
+-- where the first `*/` isn't found there is none
+pub none_closes : (text inner after : Text) → after_close text ≡ None → text ≡ inner ++ (42 ∷ 47 ∷ after) → ⊥
+none_closes text [] after e g = let h : after_close text ≡ Some after = ap after_close g in cc
+none_closes [] (c ∷ inner) after e g = cc
+none_closes (a ∷ []) (c ∷ []) after e g = cc
+none_closes (a ∷ []) (c ∷ d ∷ inner) after e g = cc
+none_closes (a ∷ b ∷ text) (c ∷ inner) after e g = go (a == 42 && b == 47) refl (λ h. none_closes (b ∷ text) inner after h (let tail : b ∷ text ≡ inner ++ (42 ∷ 47 ∷ after) = cc in tail))
+  where
+    go : (x : Bool) → (a == 42 && b == 47) ≡ x → (after_close (b ∷ text) ≡ None → ⊥) → ⊥
+    go true is ih = let h : after_close (a ∷ b ∷ text) ≡ Some text = rw is refl in cc
+    go false is ih = ih (let h : after_close (a ∷ b ∷ text) ≡ after_close (b ∷ text) = rw is refl in sym h ∙ e)
+
+-- where it is found it is there
+pub some_closes : (text rest : Text) → after_close text ≡ Some rest → (inner : Text) × (text ≡ inner ++ (42 ∷ 47 ∷ rest))
+some_closes [] rest e = absurd cc
+some_closes (c ∷ []) rest e = absurd cc
+some_closes (c ∷ d ∷ text) rest e = go (c == 42 && d == 47) refl (λ h. some_closes (d ∷ text) rest h)
+  where
+    go : (x : Bool) → (c == 42 && d == 47) ≡ x → (after_close (d ∷ text) ≡ Some rest → (inner : Text) × (d ∷ text ≡ inner ++ (42 ∷ 47 ∷ rest))) → (inner : Text) × (c ∷ d ∷ text ≡ inner ++ (42 ∷ 47 ∷ rest))
+    go true is ih =
+        let first : 42 ≡ c = from_test c 42 (and_left (c == 42) (d == 47) is) in
+        let second : 47 ≡ d = from_test d 47 (and_right (c == 42) (d == 47) is) in
+        let h : after_close (c ∷ d ∷ text) ≡ Some text = rw is refl in
+        let same : text ≡ rest = cc in
+        ([], cc)
+    go false is ih =
+        let h : after_close (c ∷ d ∷ text) ≡ after_close (d ∷ text) = rw is refl in
+        let m = ih (sym h ∙ e) in
+        (c ∷ m.0, ap (λ (u : Text). c ∷ u) m.1)
+
+unclosed : (more : Text) → ((inner after : Text) → more ≡ inner ++ (42 ∷ 47 ∷ after) → ⊥) → after_close more ≡ None
+unclosed more none = go (after_close more) refl
+  where
+    go : (o : Option Text) → after_close more ≡ o → o ≡ None
+    go None is = refl
+    go (Some rest) is = absurd (let m = some_closes more rest is in none m.0 rest m.1)
+
+-- no piece begins at an open comment
+pub no_piece_opens : (more : Text) → ((inner after : Text) → more ≡ inner ++ (42 ∷ 47 ∷ after) → ⊥) → (p : Piece) (x rest : Text) → piece p x → 47 ∷ 42 ∷ more ≡ x ++ rest → ⊥
+unfolding found_of letter slash_found
+no_piece_opens more none p x rest is e = go (piece_cut (47 ∷ 42 ∷ more)) refl (sym (front_is 47 (42 ∷ more)) ∙ ap closed_found (unclosed more none))
+  where
+    go : (o : Option (Cut Piece)) → piece_cut (47 ∷ 42 ∷ more) ≡ o → judged (47 ∷ 42 ∷ more) o ≡ Err f.OpenComment → ⊥
+    go None was g = piece_cuts.none (47 ∷ 42 ∷ more) was p x rest is e
+    go (Some c) was g = let j = judge_err c.piece c.rest f.OpenComment g in let h : f.OpenComment ≡ f.NumberTooBig = j.1 in cc

@@ -1,0 +1,23 @@
+//! The tokens of a CIF source (CIF 3 language reference, "Lexical syntax"): which text has which tokens, and a reader
+//! that finds them in one pass.
+#![tactic(auto)]
+
+mod comments;
+mod error;
+mod found;
+mod laws;
+mod lexing;
+mod numbers;
+mod pieces;
+mod runs;
+mod signs;
+mod token;
+mod words;
+
+pub use error::LexErr;
+pub use laws::{no_tokens_where_refused, one_token_list, spans_rise};
+pub use lexing::lex;
+pub use token::{Mark, Token, TokenKind, Word};
+
+#[cfg(test)]
+mod tests;

@@ -1,0 +1,10 @@
+//! Systems of automata: their states, choices, steps, runs and scans, as definitions for the crates above, and the laws
+//! that these have.
+#![tactic(auto)]
+
+mod laws;
+
+pub use laws::{
+    choices_are_counted, every_choice_is_listed, exact_scan_is_legal, exact_scan_runs_first_steps,
+    first_step_is_a_step, no_first_step_no_step, step_keeps_states,
+};

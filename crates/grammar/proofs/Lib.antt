@@ -1,0 +1,5 @@
+pub mod Laws
+pub mod Plain
+pub mod Depth
+pub mod Loops
+pub mod Cutting

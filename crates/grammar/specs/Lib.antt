@@ -1,0 +1,5 @@
+pub mod Lang
+pub mod Reader
+pub mod Sets
+pub mod Loops
+pub mod Pieces

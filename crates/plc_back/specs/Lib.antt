@@ -1,0 +1,2 @@
+pub mod HasProgram
+pub mod Texts

@@ -1,0 +1,46 @@
+//! The text of the Structured Text program of a plant automaton, with what is promised of its scans.
+#![tactic(auto)]
+
+ghost use Rattle.std.specs.Prelude.{◌≡◌, ◌+◌, ◌≤◌, ◌<◌, IfOk};
+ghost use Rattle.cif_ast.specs.Meaning.{IsNumbered};
+ghost use Rattle.cif_ast.specs.Named.{IsNameText};
+ghost use Rattle.st_print.specs.Layout.{printed};
+ghost use Rattle.plc_gen.specs.Emitted.{program_of};
+ghost use Rattle.plc_back.specs.Texts.{TheProgram, IsProgramOf, NeverFaults, RunsFirstSteps, ScansLegally, ScansExactly};
+
+use cif_ast::NumberedPlant;
+use cif_base::Memory;
+use plc_gen::Bounds;
+use std::alloc::Global;
+
+/// The text of the program that `emit` makes.
+fn program_text(alloc: Global, plant: &NumberedPlant, bounds: Bounds) -> Result<Vec<u8>, Memory>
+    requires { IsNumbered plant.now }
+    ensures { IfOk result (λ text. text.items ≡ printed (program_of plant.now bounds.unc bounds.con)) }
+{
+    let program = plc_gen::emit(alloc, plant, bounds)?;
+    st_print::print(alloc, &program)
+}
+
+/// The text of a Structured Text program (IEC 61131-3) that makes the scans of a plant automaton, with these most
+/// rounds of each class in a scan.
+pub fn generate_text(
+    alloc: Global,
+    plant: &NumberedPlant,
+    bounds: Bounds,
+) -> Result<Vec<u8>, Memory>
+    requires numbered { IsNumbered plant.now }
+    requires named { IsNameText plant.now.name }
+    requires turns { bounds.unc + bounds.con ≤ 1000000 }
+    ensures program { IfOk result (λ text. TheProgram text.items (IsProgramOf plant.now)) }
+    ensures never_faults { IfOk result (λ text. TheProgram text.items (NeverFaults plant.now)) }
+    ensures runs_first_steps { IfOk result (λ text. TheProgram text.items (RunsFirstSteps plant.now)) }
+    ensures scans_legally { IfOk result (λ text.
+        TheProgram text.items (ScansLegally bounds.unc bounds.con plant.now)) }
+    ensures scans_exactly { IfOk result (λ text.
+        TheProgram text.items (ScansExactly bounds.unc bounds.con plant.now)) }
+{
+    let _places = plant.places;
+    let text = program_text(alloc, plant, bounds)?;
+    Ok(text)
+}

@@ -1,0 +1,5 @@
+pub mod Buckets
+pub mod Emitted
+pub mod Frame
+pub mod Interface
+pub mod Scans

@@ -1,0 +1,108 @@
+-- Worked examples of the definitions, by computation.
+use Rattle.std.proofs.Common.{◌≡◌, pos, negsuc, true, false, List, [], ◌∷◌, Some, None, Ok, Err, refl}
+use Rattle.std.specs.Prelude.{codes}
+use Rattle.grammar.specs.Pieces.{Text}
+use Rattle.st_ast.specs.declared.tree.StVar.{StVar}
+use Rattle.st_ast.specs.declared.tree.StTy.{StTy}
+use Rattle.st_ast.specs.declared.tree.StTy.TheVariants as ty
+use Rattle.st_ast.specs.declared.tree.StLit.{StLit}
+use Rattle.st_ast.specs.declared.tree.StLit.TheVariants as lit
+use Rattle.st_ast.specs.declared.tree.StClass.{StClass}
+use Rattle.st_ast.specs.declared.tree.StClass.TheVariants as class
+use Rattle.st_ast.specs.declared.tree.StOrder.TheVariants as cmp
+use Rattle.st_ast.specs.Tree.{truth, number, named, sum, order, equal, all_of, exprs, no_exprs, terms, no_terms, Stm, assign, loop, stms_of, Program}
+use Rattle.st_ast.specs.Tokens.{sign, blank, opens_comment, kind_of_word, kind_of_number, name, if_word, literal, outside}
+use Rattle.st_ast.specs.Checks.{unknown, duplicate, mismatch, not_assignable, init_range, check_faults}
+use Rattle.st_ast.specs.Values.{overflow, subrange_left, value_of}
+use Rattle.st_ast.specs.Exec.{Ended, Faulted, OutOfTurns, repeated, exec}
+use Rattle.st_ast.specs.Scan.{start_memory, scan_of, store_row}
+
+abbrev variable : Text → StClass → StTy → StVar
+variable x k t = record { name = x; class = k; ty = t; init = None }
+
+abbrev program_with : List StVar → List Stm → Program
+program_with vars body = record { name = codes "p"; vars = vars; body = stms_of body }
+
+-- ---- words and numbers
+
+keywords_ignore_case : kind_of_word (codes "if") ≡ if_word
+keywords_ignore_case = refl
+
+two_underscores_are_no_name : kind_of_word (codes "a__b") ≡ outside
+two_underscores_are_no_name = refl
+
+a_last_underscore_is_no_name : kind_of_word (codes "a_") ≡ outside
+a_last_underscore_is_no_name = refl
+
+a_first_underscore_is_one : kind_of_word (codes "_a") ≡ name
+a_first_underscore_is_one = refl
+
+another_word_is_reserved : kind_of_word (codes "Case") ≡ outside
+another_word_is_reserved = refl
+
+the_greatest_number : kind_of_number (codes "9223372036854775807") ≡ literal
+the_greatest_number = refl
+
+a_greater_number : kind_of_number (codes "9223372036854775808") ≡ outside
+a_greater_number = refl
+
+a_parenthesis_and_a_star : opens_comment (sign (codes "(") ∷ sign (codes "*") ∷ []) ≡ true
+a_parenthesis_and_a_star = refl
+
+a_parenthesis_and_a_blank : opens_comment (sign (codes "(") ∷ blank ∷ sign (codes "*") ∷ []) ≡ false
+a_parenthesis_and_a_blank = refl
+
+-- ---- checks
+
+undeclared_target : check_faults (program_with [] (assign (codes "x") (number (pos 1)) ∷ [])) ≡ unknown 0 ∷ mismatch 0 ∷ []
+undeclared_target = refl
+
+same_name_in_another_case : check_faults (program_with (variable (codes "x") class.Plain ty.Lint ∷ variable (codes "X") class.Plain ty.Bool ∷ []) []) ≡ duplicate 1 ∷ []
+same_name_in_another_case = refl
+
+number_for_a_truth : check_faults (program_with (variable (codes "x") class.Plain ty.Bool ∷ []) (assign (codes "x") (number (pos 1)) ∷ [])) ≡ mismatch 0 ∷ []
+number_for_a_truth = refl
+
+input_as_target : check_faults (program_with (variable (codes "x") class.Input ty.Bool ∷ []) (assign (codes "x") (truth true) ∷ [])) ≡ not_assignable 0 ∷ []
+input_as_target = refl
+
+first_value_out_of_range : check_faults (program_with (record { name = codes "x"; class = class.Plain; ty = ty.Range (pos 0) (pos 3); init = Some (lit.Int (pos 4)) } ∷ []) []) ≡ init_range 0 ∷ []
+first_value_out_of_range = refl
+
+-- a statement inside a loop has a number of its own
+inner_statement_is_numbered : check_faults (program_with [] (loop (truth true) (stms_of (assign (codes "x") (number (pos 1)) ∷ [])) ∷ [])) ≡ unknown 1 ∷ mismatch 1 ∷ []
+inner_statement_is_numbered = refl
+
+-- ---- values and statements
+
+abbrev x_of : StTy → StLit → StVar
+x_of t v = record { name = codes "x"; class = class.Plain; ty = t; init = Some v }
+
+sum_out_of_64_bits : value_of [] (sum (number (pos 9223372036854775807)) (terms false (number (pos 1)) no_terms)) [] ≡ Err overflow
+sum_out_of_64_bits = refl
+
+-- no operand is left out, though the first decides
+all_operands_are_evaluated : value_of [] (all_of (exprs (truth false) (exprs (equal (sum (number (pos 9223372036854775807)) (terms false (number (pos 1)) no_terms)) true (number (pos 0))) no_exprs))) [] ≡ Err overflow
+all_operands_are_evaluated = refl
+
+name_in_another_case : value_of (x_of ty.Lint (lit.Int (pos 7)) ∷ []) (named (codes "X")) (pos 7 ∷ []) ≡ Ok (pos 7)
+name_in_another_case = refl
+
+value_leaves_its_subrange : scan_of (program_with (x_of (ty.Range (pos 0) (pos 3)) (lit.Int (pos 3)) ∷ []) (assign (codes "x") (sum (named (codes "x")) (terms false (number (pos 1)) no_terms)) ∷ [])) (pos 3 ∷ []) [] ≡ Faulted (subrange_left 0 (pos 4))
+value_leaves_its_subrange = refl
+
+-- a loop without an end takes every turn
+endless_loop : exec [] (stms_of (loop (truth true) (stms_of []) ∷ [])) 1000 [] ≡ OutOfTurns
+unfolding repeated
+endless_loop = refl
+
+loop_takes_a_turn_each : exec (x_of ty.Lint (lit.Int (pos 0)) ∷ []) (stms_of (loop (order (named (codes "x")) cmp.Lt (number (pos 3))) (stms_of (assign (codes "x") (sum (named (codes "x")) (terms false (number (pos 1)) no_terms)) ∷ [])) ∷ [])) 10 (pos 0 ∷ []) ≡ Ended 7 (pos 3 ∷ [])
+unfolding repeated
+loop_takes_a_turn_each = refl
+
+first_values : start_memory (program_with (variable (codes "a") class.Plain ty.Bool ∷ variable (codes "b") class.Plain ty.Lint ∷ variable (codes "c") class.Plain (ty.Range (negsuc 2) (pos 5)) ∷ []) []) ≡ pos 0 ∷ pos 0 ∷ negsuc 2 ∷ []
+first_values = refl
+
+-- the inputs alone take over a row
+row_goes_to_inputs : store_row (variable (codes "a") class.Plain ty.Lint ∷ variable (codes "b") class.Input ty.Lint ∷ variable (codes "c") class.Input ty.Lint ∷ []) (pos 7 ∷ pos 8 ∷ []) (pos 1 ∷ pos 2 ∷ pos 3 ∷ []) ≡ pos 1 ∷ pos 7 ∷ pos 8 ∷ []
+row_goes_to_inputs = refl

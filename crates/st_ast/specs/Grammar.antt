@@ -1,0 +1,222 @@
+-- The grammar of the part of Structured Text that is read, a line for each production (IEC 61131-3, "Structured Text").
+--
+--   program = "PROGRAM" ID {block} {stmt} "END_PROGRAM"
+--   block   = ("VAR" | "VAR_OUTPUT") {vardecl} "END_VAR"
+--   vardecl = ID ":" type [":=" literal] ";"
+--   type    = "BOOL" | "LINT" ["(" signed ".." signed ")"]
+--   signed  = ["-"] NUMBER
+--   literal = "TRUE" | "FALSE" | signed
+--   stmt    = ID ":=" e ";"
+--           | "IF" e "THEN" {stmt} {"ELSIF" e "THEN" {stmt}} ["ELSE" {stmt}] "END_IF" ";"
+--           | "WHILE" e "DO" {stmt} "END_WHILE" ";"
+--   e       = a {"OR" a}
+--   a       = q {"AND" q}
+--   q       = o ["=" o]
+--   o       = s ["<" s]
+--   s       = u {"+" u}
+--   u       = "NOT" u | prim
+--   prim    = "TRUE" | "FALSE" | NUMBER | ID | "(" e ")"
+use Rattle.std.specs.Prelude.{ℕ, zero, suc, ℤ, pos, neg_ℤ, true, false, List, [], ◌∷◌, ◌++◌, map, Option, Some, None}
+use Rattle.grammar.specs.Pieces.{Text}
+use Rattle.grammar.specs.Lang.{Lang, one, ◌&◌, ◌∣◌, ◌<$>◌, many, some, optional}
+use Rattle.st_ast.specs.Tokens.{Kind, Token, name, literal, program, end_program, var, var_output, end_var, bool, lint, true_word, false_word, if_word, then_word, elsif_word, else_word, end_if, while_word, do_word, end_while, not_word, and_word, or_word, semicolon, colon, assigns, dots, open_sign, close_sign, comma, plus, dash, equals, less, outside, number_of}
+use Rattle.st_ast.specs.Tree.{Expr, truth, number, named, paren, negation, sum, order, equal, all_of, any_of, exprs_of, Stm, Stms, assign, choice, loop, stms_of, Program}
+use Rattle.st_ast.specs.View.{terms_of, branches_of, other_of}
+use Rattle.st_ast.specs.declared.tree.StOrder.TheVariants as cmp
+use Rattle.st_ast.specs.declared.tree.StVar.{StVar}
+use Rattle.st_ast.specs.declared.tree.StTy.{StTy}
+use Rattle.st_ast.specs.declared.tree.StTy.TheVariants as ty
+use Rattle.st_ast.specs.declared.tree.StLit.{StLit}
+use Rattle.st_ast.specs.declared.tree.StLit.TheVariants as lit
+use Rattle.st_ast.specs.declared.tree.StClass.{StClass}
+use Rattle.st_ast.specs.declared.tree.StClass.TheVariants as class
+
+abbrev pub code : Kind → ℕ
+code name = 0
+code literal = 1
+code program = 2
+code end_program = 3
+code var = 4
+code var_output = 5
+code end_var = 6
+code bool = 7
+code lint = 8
+code true_word = 9
+code false_word = 10
+code if_word = 11
+code then_word = 12
+code elsif_word = 13
+code else_word = 14
+code end_if = 15
+code while_word = 16
+code do_word = 17
+code end_while = 18
+code not_word = 19
+code and_word = 20
+code or_word = 21
+code semicolon = 22
+code colon = 23
+code assigns = 24
+code dots = 25
+code open_sign = 26
+code close_sign = 27
+code comma = 28
+code plus = 29
+code dash = 30
+code equals = 31
+code less = 32
+code outside = 33
+
+abbrev pub sort : Token → ℕ
+sort t = code t.kind
+
+-- a token of this kind
+abbrev pub word : Kind → Lang Token Token
+word kind = one sort (code kind ∷ [])
+
+abbrev pub second : {A B : Type 0} → A × B → B
+second v = v.1
+
+-- a part with a token before it and one after it
+abbrev pub middle : {A : Type 0} → Token × (A × Token) → A
+middle v = v.1.0
+
+abbrev pub text_of : Token → Text
+text_of t = t.text
+
+abbrev pub identifier : Lang Token Text
+identifier = text_of <$> word name
+
+abbrev pub natural : Lang Token ℤ
+natural = (λ t. pos (number_of t.text)) <$> word literal
+
+-- ---- expressions
+
+-- the levels of expressions, from e down to u
+pub data Level : Type 0 where
+  at_or at_and at_equal at_order at_sum at_unary : Level
+
+-- each level over the languages of what stands inside a form
+module _ (inner : Level → Lang Token Expr) where
+  abbrev pub prim : Lang Token Expr
+  prim = (λ (t : Token). truth true) <$> word true_word
+      ∣ (λ (t : Token). truth false) <$> word false_word
+      ∣ number <$> natural
+      ∣ named <$> identifier
+      ∣ (λ (v : Token × (Expr × Token)). paren (middle v)) <$> word open_sign & inner at_or & word close_sign
+
+  abbrev pub unary : Lang Token Expr
+  unary = (λ (v : Token × Expr). negation v.1) <$> word not_word & inner at_unary ∣ prim
+
+  abbrev pub summed : Lang Token Expr
+  summed = unary ∣ (λ (v : Expr × List (Token × Expr)). sum v.0 (terms_of (map (λ t. (false, t.1)) v.1))) <$> inner at_unary & some (word plus & inner at_unary)
+
+  abbrev pub ordered : Lang Token Expr
+  ordered = summed ∣ (λ (v : Expr × (Token × Expr)). order v.0 cmp.Lt v.1.1) <$> inner at_sum & word less & inner at_sum
+
+  abbrev pub equated : Lang Token Expr
+  equated = ordered ∣ (λ (v : Expr × (Token × Expr)). equal v.0 true v.1.1) <$> inner at_order & word equals & inner at_order
+
+  abbrev pub conjunction : Lang Token Expr
+  conjunction = equated ∣ (λ (v : Expr × List (Token × Expr)). all_of (exprs_of (v.0 ∷ map second v.1))) <$> inner at_equal & some (word and_word & inner at_equal)
+
+  abbrev pub disjunction : Lang Token Expr
+  disjunction = conjunction ∣ (λ (v : Expr × List (Token × Expr)). any_of (exprs_of (v.0 ∷ map second v.1))) <$> inner at_and & some (word or_word & inner at_and)
+
+  abbrev pub level : Level → Lang Token Expr
+  level at_or = disjunction
+  level at_and = conjunction
+  level at_equal = equated
+  level at_order = ordered
+  level at_sum = summed
+  level at_unary = unary
+
+-- the deepest expression and the deepest statement that are read
+abbrev pub max_depth : ℕ
+max_depth = 400
+
+-- The expressions of a level whose depth is below the number. A name and a literal have depth 0, and every other form,
+-- parentheses included, one more than its deepest part.
+unfoldable pub below : ℕ → Level → Lang Token Expr
+below zero l e ts = ⊥
+below (suc n) l e ts = level (below n) l e ts
+
+-- the tokens derive the expression, whose depth is at most 400
+unfoldable pub expression : Lang Token Expr
+expression e ts = disjunction (below max_depth) e ts
+
+-- ---- statements
+
+abbrev pub assignment : Lang Token Stm
+assignment = (λ (v : Text × (Token × (Expr × Token))). assign v.0 v.1.1.0) <$> identifier & word assigns & expression & word semicolon
+
+-- what stands after ELSE
+abbrev pub without_word : Option (Token × List Stm) → Option (List Stm)
+without_word None = None
+without_word (Some v) = Some v.1
+
+-- what stands between an opening word and its end
+module _ (body : Lang Token (List Stm)) where
+  -- a condition, its closing word and its statements
+  abbrev pub guarded : Kind → Lang Token (Expr × Stms)
+  guarded kind = (λ (v : Expr × (Token × List Stm)). (v.0, stms_of v.1.1)) <$> expression & word kind & body
+
+  abbrev pub conditional : Lang Token Stm
+  conditional =
+      (λ (v : Token × ((Expr × Stms) × (List (Token × (Expr × Stms)) × (Option (Token × List Stm) × (Token × Token))))).
+      choice (branches_of (v.1.0 ∷ map second v.1.1.0)) (other_of (without_word v.1.1.1.0)))
+      <$> word if_word & guarded then_word & many (word elsif_word & guarded then_word) & optional (word else_word & body) & word end_if & word semicolon
+
+  abbrev pub repetition : Lang Token Stm
+  repetition =
+      (λ (v : Token × ((Expr × Stms) × (Token × Token))). loop v.1.0.0 v.1.0.1)
+      <$> word while_word & guarded do_word & word end_while & word semicolon
+
+-- The statements whose depth is at most the number. An assignment has depth 0, and IF and WHILE one more than their
+-- deepest statement, and 1 where they hold none.
+unfoldable pub statement : ℕ → Lang Token Stm
+statement zero s ts = assignment s ts
+statement (suc n) s ts = (assignment ∣ conditional (many (statement n)) ∣ repetition (many (statement n))) s ts
+
+-- ---- declarations
+
+abbrev pub signed : Lang Token ℤ
+signed = (λ (v : Token × ℤ). neg_ℤ v.1) <$> word dash & natural ∣ natural
+
+abbrev pub first_value : Lang Token StLit
+first_value = (λ (t : Token). lit.Bool true) <$> word true_word ∣ (λ (t : Token). lit.Bool false) <$> word false_word ∣ lit.Int <$> signed
+
+abbrev pub subrange_of : Option (Token × (ℤ × (Token × (ℤ × Token)))) → StTy
+subrange_of None = ty.Lint
+subrange_of (Some v) = ty.Range v.1.0 v.1.1.1.0
+
+abbrev pub type_use : Lang Token StTy
+type_use = (λ (t : Token). ty.Bool) <$> word bool
+    ∣ (λ (v : Token × Option (Token × (ℤ × (Token × (ℤ × Token))))). subrange_of v.1) <$> word lint & optional (word open_sign & signed & word dots & signed & word close_sign)
+
+abbrev pub value_of_init : Option (Token × StLit) → Option StLit
+value_of_init None = None
+value_of_init (Some v) = Some v.1
+
+-- a declaration, of the class of its block
+abbrev pub declaration : StClass → Lang Token StVar
+declaration k =
+    (λ (v : Text × (Token × (StTy × (Option (Token × StLit) × Token)))). record { name = v.0; class = k; ty = v.1.1.0; init = value_of_init v.1.1.1.0 })
+    <$> identifier & word colon & type_use & optional (word assigns & first_value) & word semicolon
+
+abbrev pub block_of : Kind → StClass → Lang Token (List StVar)
+block_of kind k = (λ (v : Token × (List StVar × Token)). middle v) <$> word kind & many (declaration k) & word end_var
+
+abbrev pub block : Lang Token (List StVar)
+block = block_of var class.Plain ∣ block_of var_output class.Output
+
+abbrev pub flat : {A : Type 0} → List (List A) → List A
+flat [] = []
+flat (x ∷ xs) = x ++ flat xs
+
+-- ---- programs
+
+unfoldable pub whole : Lang Token Program
+whole =
+    (λ (v : Token × (Text × (List (List StVar) × (List Stm × Token)))). record { name = v.1.0; vars = flat v.1.1.0; body = stms_of v.1.1.1.0 })
+    <$> word program & identifier & many block & many (statement max_depth) & word end_program

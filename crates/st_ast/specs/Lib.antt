@@ -1,0 +1,10 @@
+pub mod Tree
+pub mod View
+pub mod Names
+pub mod Tokens
+pub mod Grammar
+pub mod Checks
+pub mod ReadsAs
+pub mod Values
+pub mod Exec
+pub mod Scan

@@ -1,0 +1,90 @@
+-- The values of expressions (IEC 61131-3, "Expressions"). A BOOL is 0 or 1. Every operand is evaluated, from left to
+-- right, and the first fault ends the evaluation.
+use Rattle.std.specs.Prelude.{ℕ, zero, suc, ◌^◌, ℤ, pos, negsuc, ◌+ℤ◌, ◌-ℤ◌, int_lt, int_le, nat_lt, nat_eq, Bool, true, false, ◌&&◌, ◌||◌, List, Result, Ok, Err, slice_index_or, if◌then◌else◌}
+use Rattle.st_ast.specs.Names.{place_of}
+use Rattle.st_ast.specs.Tree.{Expr, Exprs, Terms, truth, number, named, paren, negation, sum, order, equal, all_of, any_of, no_exprs, exprs, no_terms, terms}
+use Rattle.st_ast.specs.Checks.{negated}
+use Rattle.st_ast.specs.declared.tree.StVar.{StVar}
+use Rattle.st_ast.specs.declared.tree.StOrder.{StOrder}
+use Rattle.st_ast.specs.declared.tree.StOrder.TheVariants as cmp
+
+-- What ends a scan early: a result outside 64 bits, a divisor 0, or a value outside the subrange of the variable with
+-- that number.
+pub data Fault : Type 0 where
+  overflow zero_divide : Fault
+  subrange_left : (variable : ℕ) (value : ℤ) → Fault
+
+-- the numbers of the variables, in the order of declaration
+abbrev pub Memory : Type 0
+Memory = List ℤ
+
+abbrev pub of_bool : Bool → ℤ
+of_bool false = pos 0
+of_bool true = pos 1
+
+abbrev pub is_true : ℤ → Bool
+is_true (pos zero) = false
+is_true (pos (suc n)) = true
+is_true (negsuc n) = true
+
+-- whether a number has 64 bits
+abbrev pub fits : ℤ → Bool
+fits (pos n) = nat_lt n (2 ^ 63)
+fits (negsuc n) = nat_lt n (2 ^ 63)
+
+abbrev pub checked : ℤ → Result ℤ Fault
+checked z = if fits z then Ok z else Err overflow
+
+abbrev pub same_number : ℤ → ℤ → Bool
+same_number (pos a) (pos b) = nat_eq a b
+same_number (pos a) (negsuc b) = false
+same_number (negsuc a) (pos b) = false
+same_number (negsuc a) (negsuc b) = nat_eq a b
+
+-- goes on with a value
+abbrev pub with_value : {X : Type 0} → Result ℤ Fault → (Fault → X) → (ℤ → X) → X
+with_value (Ok v) fails go = go v
+with_value (Err f) fails go = fails f
+
+-- both operands, from left to right
+abbrev pub both : (ℤ → ℤ → Result ℤ Fault) → Result ℤ Fault → Result ℤ Fault → Result ℤ Fault
+both f a b = with_value a (λ e. Err e) (λ x. with_value b (λ e. Err e) (λ y. f x y))
+
+abbrev pub holds : StOrder → ℤ → ℤ → Bool
+holds cmp.Lt a b = int_lt a b
+holds cmp.Gt a b = int_lt b a
+holds cmp.Le a b = int_le a b
+holds cmp.Ge a b = int_le b a
+
+abbrev pub added : Bool → ℤ → ℤ → ℤ
+added false a b = a +ℤ b
+added true a b = a -ℤ b
+
+-- whether two values are as `=`, or `<>`, says
+abbrev pub are_equal : Bool → ℤ → ℤ → Bool
+are_equal true a b = same_number a b
+are_equal false a b = negated (same_number a b)
+
+abbrev mutual
+  pub value_of : List StVar → Expr → Memory → Result ℤ Fault
+  value_of vars (truth b) m = Ok (of_bool b)
+  value_of vars (number z) m = Ok z
+  value_of vars (named x) m = Ok (slice_index_or m (place_of vars x) (pos 0))
+  value_of vars (paren e) m = value_of vars e m
+  value_of vars (negation e) m = with_value (value_of vars e m) (λ f. Err f) (λ x. Ok (of_bool (negated (is_true x))))
+  value_of vars (sum e rest) m = with_value (value_of vars e m) (λ f. Err f) (λ x. sum_on vars x rest m)
+  value_of vars (order a op b) m = both (λ x y. Ok (of_bool (holds op x y))) (value_of vars a m) (value_of vars b m)
+  value_of vars (equal a same b) m = both (λ x y. Ok (of_bool (are_equal same x y))) (value_of vars a m) (value_of vars b m)
+  value_of vars (all_of es) m = joined vars (λ a b. a && b) true es m
+  value_of vars (any_of es) m = joined vars (λ a b. a || b) false es m
+
+  -- the sum so far and what is added to it; each partial sum has its value, or its fault, before the next operand
+  pub sum_on : List StVar → ℤ → Terms → Memory → Result ℤ Fault
+  sum_on vars z no_terms m = Ok z
+  sum_on vars z (terms minus e ts) m =
+      with_value (value_of vars e m) (λ f. Err f) (λ x. with_value (checked (added minus z x)) (λ f. Err f) (λ y. sum_on vars y ts m))
+
+  -- what the operands so far come to, and the others
+  pub joined : List StVar → (Bool → Bool → Bool) → Bool → Exprs → Memory → Result ℤ Fault
+  joined vars op so_far no_exprs m = Ok (of_bool so_far)
+  joined vars op so_far (exprs e es) m = with_value (value_of vars e m) (λ f. Err f) (λ x. joined vars op (op so_far (is_true x)) es m)

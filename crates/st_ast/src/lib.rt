@@ -1,0 +1,6 @@
+//! The trees of Structured Text programs (IEC 61131-3), and in `specs/` their grammar, their checks and what they mean.
+#![tactic(auto)]
+
+mod tree;
+
+pub use tree::{Program, StBranch, StClass, StExpr, StLit, StOrder, StTerm, StTy, StVar, Stmt};

@@ -1,0 +1,114 @@
+//! The tree of a Structured Text program (IEC 61131-3, "Structured Text").
+
+use cif_base::{Boxed, Items, Text};
+
+/// The block in which a variable is declared: `VAR`, `VAR CONSTANT`, `VAR_INPUT` or `VAR_OUTPUT`.
+#[derive(Clone, Copy, Debug, PartialEq, Eq)]
+pub enum StClass {
+    Plain,
+    Constant,
+    Input,
+    Output,
+}
+
+/// A type: `BOOL`, `LINT`, or the subrange of `LINT` from `lo` to `hi`.
+#[derive(Clone, Copy, Debug, PartialEq, Eq)]
+pub enum StTy {
+    Bool,
+    Lint,
+    Range { lo: i64, hi: i64 },
+}
+
+/// A literal as the first value of a variable.
+#[derive(Clone, Copy, Debug, PartialEq, Eq)]
+pub enum StLit {
+    Bool(bool),
+    Int(i64),
+}
+
+/// The declaration of a variable.
+#[derive(Debug, Drop)]
+pub struct StVar {
+    pub name: Text,
+    pub class: StClass,
+    pub ty: StTy,
+    pub init: Option<StLit>,
+}
+
+/// An order: `<`, `>`, `<=`, `>=`.
+#[derive(Clone, Copy, Debug, PartialEq, Eq)]
+pub enum StOrder {
+    Lt,
+    Gt,
+    Le,
+    Ge,
+}
+
+/// An expression. A list of operands of one level is one form.
+#[cycle(expressions)]
+#[derive(Debug, Drop)]
+pub enum StExpr {
+    Bool(bool),
+    Int(i64),
+    Named(Text),
+    Paren(Boxed<StExpr>),
+    Not(Boxed<StExpr>),
+    Sum {
+        first: Boxed<StExpr>,
+        rest: Items<StTerm>,
+    },
+    Order {
+        left: Boxed<StExpr>,
+        op: StOrder,
+        right: Boxed<StExpr>,
+    },
+    Equal {
+        left: Boxed<StExpr>,
+        equal: bool,
+        right: Boxed<StExpr>,
+    },
+    And(Items<StExpr>),
+    Or(Items<StExpr>),
+}
+
+/// A further operand of a sum, added or, where `minus` is set, subtracted.
+#[cycle(expressions)]
+#[derive(Debug, Drop)]
+pub struct StTerm {
+    pub minus: bool,
+    pub value: StExpr,
+}
+
+/// A statement. `other` is what stands after `ELSE`, if it is there.
+#[cycle(statements)]
+#[derive(Debug, Drop)]
+pub enum Stmt {
+    Assign {
+        target: Text,
+        value: StExpr,
+    },
+    If {
+        branches: Items<StBranch>,
+        other: Option<Items<Stmt>>,
+    },
+    While {
+        cond: StExpr,
+        body: Items<Stmt>,
+    },
+}
+
+/// A condition after `IF` or `ELSIF`, and what stands after its `THEN`.
+#[cycle(statements)]
+#[derive(Debug, Drop)]
+pub struct StBranch {
+    pub cond: StExpr,
+    pub body: Items<Stmt>,
+}
+
+/// A program: its name, its variables in the order of declaration, and its statements.
+#[derive(Debug, Drop)]
+pub struct Program {
+    pub name: Text,
+    pub vars: Items<StVar>,
+    pub body: Items<Stmt>,
+}

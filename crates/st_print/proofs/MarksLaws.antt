@@ -1,0 +1,390 @@
+-- The tokens of a printed text are those of its marks.
+use Rattle.std.proofs.Common.{◌≡◌, ◌==◌, ℕ, zero, suc, ◌*◌, ◌<◌, Bool, true, false, not, ◌&&◌, ◌||◌, List, [], ◌∷◌, ◌++◌, length, Some, refl, sym, ap, subst, ◌∙◌, arith, eqb-true}
+use Rattle.std.specs.Prelude.{if◌then◌else◌, codes, decimal, replicate, filter_map}
+use Rattle.std.specs.List.{list_any, list_all}
+use Rattle.std.proofs.lemmas.Bool.Decides.{nat_tests}
+use Rattle.grammar.specs.Pieces.{Text, Pieces, AllAre, head_is, run_of}
+use Rattle.st_ast.specs.Tokens as tk
+use Rattle.st_ast.specs.Tokens.{Piece, is_blank, is_letter, is_digit, is_wordy, none_of, piece, same, is_sign, opens_comment, token_of, Token, Tokens}
+use Rattle.st_lex.specs.Cutting.{piece_cut}
+use Rattle.st_lex.proofs.CuttingLaws.{piece_cuts}
+use Rattle.st_lex.proofs.Decimals.{decimal_digits, decimal_nonempty}
+use Rattle.st_print.specs.Layout.{Mark, line, word, digits, sign, dash, gap, closes, opens, fresh_after, text_of}
+use Rattle.st_print.specs.Marks.{tokens_of, is_word_text, mark_signs, AreMarks}
+
+-- ---- tests
+
+and_left : (a b : Bool) → (a && b) ≡ true → a ≡ true
+and_left true b e = refl
+and_left false b e = absurd cc
+
+and_right : (a b : Bool) → (a && b) ≡ true → b ≡ true
+and_right true b e = e
+and_right false b e = absurd cc
+
+all_are : (f : ℕ → Bool) (t : Text) → list_all f t ≡ true → AllAre f t
+all_are f [] e = tt
+all_are f (b ∷ t) e = (and_left (f b) (list_all f t) e, all_are f t (and_right (f b) (list_all f t) e))
+
+same_true : (s t : Text) → same s t ≡ true → s ≡ t
+same_true [] [] e = refl
+same_true [] (b ∷ t) e = absurd cc
+same_true (a ∷ s) [] e = absurd cc
+same_true (a ∷ s) (b ∷ t) e =
+    let head : a ≡ b = eqb-true a b (and_left (a == b) (same s t) e) in
+    let tail = same_true s t (and_right (a == b) (same s t) e) in
+    cc
+
+-- ---- what holds of each sign
+
+abbrev EachOf : (Text → Type 0) → List Text → Type 0
+EachOf P [] = Unit {0}
+EachOf P (s ∷ ss) = P s × EachOf P ss
+
+of_each : (P : Text → Type 0) (ss : List Text) (s : Text) → EachOf P ss → list_any (λ t. same s t) ss ≡ true → P s
+of_each P [] s h e = absurd cc
+of_each P (t ∷ ss) s h e = go (same s t) refl e (λ w. of_each P ss s h.1 w)
+  where
+    go : (b : Bool) → same s t ≡ b → (b || list_any (λ u. same s u) ss) ≡ true → (list_any (λ u. same s u) ss ≡ true → P s) → P s
+    go true is w ih = subst P (sym (same_true s t is)) h.0
+    go false is w ih = ih w
+
+-- what may stand after a word, digits and most signs: nothing, a blank, a line break, or `;` `,` `:` `)`
+abbrev ends : ℕ → Bool
+ends b = b == 32 || b == 10 || b == 59 || b == 44 || b == 58 || b == 41
+
+abbrev is_stop : Text → Bool
+is_stop [] = true
+is_stop (b ∷ t) = ends b
+
+abbrev is_star : ℕ → Bool
+is_star b = b == 42
+
+abbrev may_follow : Text → Text → Bool
+may_follow s rest = if opens s then not (head_is is_star rest) else is_stop rest
+
+abbrev IsCutSign : Text → Type 0
+IsCutSign s = (rest : Text) → may_follow s rest ≡ true → piece_cut (s ++ rest) ≡ Some (record { piece = tk.sign s; bytes = s; rest = rest })
+
+colon_cut : IsCutSign (codes ":")
+unfolding piece_cut
+colon_cut [] e = refl
+colon_cut (b ∷ t) e = let other : (61 == b) ≡ false = grind (arith, nat_tests) in rw other refl
+
+less_cut : IsCutSign (codes "<")
+unfolding piece_cut
+less_cut [] e = refl
+less_cut (b ∷ t) e = let other : (61 == b) ≡ false = grind (arith, nat_tests) in let second : (62 == b) ≡ false = grind (arith, nat_tests) in rw (second, other) refl
+
+more_cut : IsCutSign (codes ">")
+unfolding piece_cut
+more_cut [] e = refl
+more_cut (b ∷ t) e = let other : (61 == b) ≡ false = grind (arith, nat_tests) in rw other refl
+
+open_cut : IsCutSign (codes "(")
+unfolding piece_cut
+open_cut [] e = refl
+open_cut (b ∷ t) e = let other : (b == 42) ≡ false = grind (arith, nat_tests) in rw other refl
+
+signs_cut : EachOf IsCutSign mark_signs
+unfolding piece_cut
+signs_cut = (
+  λ rest e. refl,
+  (
+    λ rest e. refl,
+    (
+      λ rest e. refl,
+      (
+        λ rest e. refl,
+        (
+          λ rest e. refl,
+          (
+            λ rest e. refl,
+            (
+              colon_cut,
+              (
+                open_cut,
+                (
+                  λ rest e. refl,
+                  (λ rest e. refl, (λ rest e. refl, (λ rest e. refl, (λ rest e. refl, (less_cut, (more_cut, tt)))))),
+                ),
+              ),
+            ),
+          ),
+        ),
+      ),
+    ),
+  ),
+)
+
+-- ---- runs
+
+run_of-all : (f : ℕ → Bool) (t rest : Text) → AllAre f t → head_is f rest ≡ false → run_of f (t ++ rest) ≡ (t, rest)
+run_of-all f [] [] a e = refl
+run_of-all f [] (b ∷ rest) a e = rw e refl
+run_of-all f (c ∷ t) rest a e = rw (a.0, run_of-all f t rest a.1 e) refl
+
+stop_not_wordy : (rest : Text) → is_stop rest ≡ true → head_is is_wordy rest ≡ false
+stop_not_wordy [] e = refl
+stop_not_wordy (b ∷ rest) e = byte b e
+  where
+    byte : (b : ℕ) → ends b ≡ true → is_wordy b ≡ false
+    byte b e = grind (arith, nat_tests)
+
+stop_not_digit : (rest : Text) → is_stop rest ≡ true → head_is is_digit rest ≡ false
+stop_not_digit [] e = refl
+stop_not_digit (b ∷ rest) e = byte b e
+  where
+    byte : (b : ℕ) → ends b ≡ true → is_digit b ≡ false
+    byte b e = grind (arith, nat_tests)
+
+letter_not_blank : (b : ℕ) → is_letter b ≡ true → is_blank b ≡ false
+letter_not_blank b e = grind (arith, nat_tests)
+
+digit_not_blank : (b : ℕ) → is_digit b ≡ true → is_blank b ≡ false
+digit_not_blank b e = grind (arith, nat_tests)
+
+digit_not_letter : (b : ℕ) → is_digit b ≡ true → is_letter b ≡ false
+digit_not_letter b e = grind (arith, nat_tests)
+
+word_cut : (w rest : Text) → is_word_text w ≡ true → is_stop rest ≡ true → piece_cut (w ++ rest) ≡ Some (record { piece = tk.word w; bytes = w; rest = rest })
+unfolding piece_cut
+word_cut [] rest e s = absurd cc
+word_cut (b ∷ t) rest e s =
+    let letter : is_letter b ≡ true = and_left (is_letter b) (list_all is_wordy t) e in
+    let all = all_are is_wordy t (and_right (is_letter b) (list_all is_wordy t) e) in
+    rw (letter_not_blank b letter, letter, run_of-all is_wordy t rest all (stop_not_wordy rest s)) refl
+
+number_cut : (d rest : Text) → 0 < length d → AllAre is_digit d → is_stop rest ≡ true → piece_cut (d ++ rest) ≡ Some (record { piece = tk.number d; bytes = d; rest = rest })
+unfolding piece_cut
+number_cut [] rest l a s = absurd (omega arith)
+number_cut (b ∷ t) rest l a s =
+    rw (digit_not_blank b a.0, digit_not_letter b a.0, a.0, run_of-all is_digit t rest a.1 (stop_not_digit rest s)) refl
+
+blank_cut : (rest : Text) → piece_cut (32 ∷ rest) ≡ Some (record { piece = tk.blank; bytes = 32 ∷ []; rest = rest })
+unfolding piece_cut
+blank_cut [] = refl
+blank_cut (b ∷ rest) = refl
+
+break_cut : (rest : Text) → piece_cut (10 ∷ rest) ≡ Some (record { piece = tk.blank; bytes = 10 ∷ []; rest = rest })
+unfolding piece_cut
+break_cut [] = refl
+break_cut (b ∷ rest) = refl
+
+dash_cut : (rest : Text) → piece_cut (45 ∷ rest) ≡ Some (record { piece = tk.sign (codes "-"); bytes = codes "-"; rest = rest })
+unfolding piece_cut
+dash_cut rest = refl
+
+-- ---- what stands after a mark
+
+starts_no_star : (s : Text) → list_any (λ t. same s t) mark_signs ≡ true → (rest : Text) → head_is is_star (s ++ rest) ≡ false
+starts_no_star s e = of_each (λ s. (rest : Text) → head_is is_star (s ++ rest) ≡ false) mark_signs s (
+  λ rest. refl,
+  (
+    λ rest. refl,
+    (
+      λ rest. refl,
+      (
+        λ rest. refl,
+        (
+          λ rest. refl,
+          (
+            λ rest. refl,
+            (
+              λ rest. refl,
+              (
+                λ rest. refl,
+                (
+                  λ rest. refl,
+                  (λ rest. refl, (λ rest. refl, (λ rest. refl, (λ rest. refl, (λ rest. refl, (λ rest. refl, tt)))))),
+                ),
+              ),
+            ),
+          ),
+        ),
+      ),
+    ),
+  ),
+) e
+
+close_stops : (s : Text) → list_any (λ t. same s t) mark_signs ≡ true → closes s ≡ true → (rest : Text) → is_stop (s ++ rest) ≡ true
+close_stops s e = of_each (λ s. closes s ≡ true → (rest : Text) → is_stop (s ++ rest) ≡ true) mark_signs s (
+  λ c. absurd cc,
+  (
+    λ c. absurd cc,
+    (
+      λ c. absurd cc,
+      (
+        λ c. absurd cc,
+        (
+          λ c. absurd cc,
+          (
+            λ c rest. refl,
+            (
+              λ c rest. refl,
+              (
+                λ c. absurd cc,
+                (
+                  λ c rest. refl,
+                  (λ c rest. refl, (λ c. absurd cc, (λ c. absurd cc, (λ c. absurd cc, (λ c. absurd cc, (λ c. absurd cc, tt)))))),
+                ),
+              ),
+            ),
+          ),
+        ),
+      ),
+    ),
+  ),
+) e
+
+after_stop : (ms : List Mark) → AreMarks ms → is_stop (text_of false ms) ≡ true
+after_stop [] a = refl
+after_stop (line n ∷ ms) a = refl
+after_stop (word w ∷ ms) a = refl
+after_stop (digits n ∷ ms) a = refl
+after_stop (dash ∷ ms) a = refl
+after_stop (sign s ∷ ms) a = go (closes s) refl
+  where
+    go : (b : Bool) → closes s ≡ b → is_stop ((gap b ++ s) ++ text_of (opens s) ms) ≡ true
+    go true is = close_stops s a.0 is (text_of (opens s) ms)
+    go false is = refl
+
+wordy_not_star : (w rest : Text) → is_word_text w ≡ true → head_is is_star (w ++ rest) ≡ false
+wordy_not_star [] rest e = absurd cc
+wordy_not_star (b ∷ t) rest e = byte b (and_left (is_letter b) (list_all is_wordy t) e)
+  where
+    byte : (b : ℕ) → is_letter b ≡ true → is_star b ≡ false
+    byte b e = grind (arith, nat_tests)
+
+digits_not_star : (d rest : Text) → 0 < length d → AllAre is_digit d → head_is is_star (d ++ rest) ≡ false
+digits_not_star [] rest l a = absurd (omega arith)
+digits_not_star (b ∷ t) rest l a = byte b a.0
+  where
+    byte : (b : ℕ) → is_digit b ≡ true → is_star b ≡ false
+    byte b e = grind (arith, nat_tests)
+
+after_open : (ms : List Mark) → AreMarks ms → head_is is_star (text_of true ms) ≡ false
+after_open [] a = refl
+after_open (line n ∷ ms) a = refl
+after_open (word w ∷ ms) a = wordy_not_star w (text_of false ms) a.0
+after_open (digits n ∷ ms) a = digits_not_star (decimal n) (text_of false ms) (decimal_nonempty n) (decimal_digits n)
+after_open (dash ∷ ms) a = refl
+after_open (sign s ∷ ms) a = starts_no_star s a.0 (text_of (opens s) ms)
+
+after_sign : (s : Text) (ms : List Mark) → AreMarks ms → may_follow s (text_of (opens s) ms) ≡ true
+after_sign s ms a = go (opens s)
+  where
+    go : (b : Bool) → (if b then not (head_is is_star (text_of b ms)) else is_stop (text_of b ms)) ≡ true
+    go true = rw (after_open ms a) refl
+    go false = after_stop ms a
+
+-- ---- the pieces of the text of marks
+
+abbrev gap_pieces : Bool → List Piece
+gap_pieces true = []
+gap_pieces false = tk.blank ∷ []
+
+abbrev mark_pieces : Bool → Mark → List Piece
+mark_pieces fresh (line n) = tk.blank ∷ replicate (2 * n) tk.blank
+mark_pieces fresh (word w) = gap_pieces fresh ++ (tk.word w ∷ [])
+mark_pieces fresh (digits n) = gap_pieces fresh ++ (tk.number (decimal n) ∷ [])
+mark_pieces fresh (sign s) = gap_pieces (fresh || closes s) ++ (tk.sign s ∷ [])
+mark_pieces fresh dash = gap_pieces fresh ++ (tk.sign (codes "-") ∷ [])
+
+abbrev pieces_of : Bool → List Mark → List Piece
+pieces_of fresh [] = []
+pieces_of fresh (m ∷ ms) = mark_pieces fresh m ++ pieces_of (fresh_after m) ms
+
+one_piece : (p : Piece) (x rest : Text) (ps : List Piece) → piece_cut (x ++ rest) ≡ Some (record { piece = p; bytes = x; rest = rest }) → Pieces piece ps rest → Pieces piece (p ∷ ps) (x ++ rest)
+one_piece p x rest ps e more =
+    let m = piece_cuts.found (x ++ rest) (record { piece = p; bytes = x; rest = rest }) e in
+    (x, rest, m.0, m.1, m.2, more)
+
+blank_pieces : (k : ℕ) (rest : Text) (ps : List Piece) → Pieces piece ps rest → Pieces piece (replicate k tk.blank ++ ps) (replicate k 32 ++ rest)
+blank_pieces zero rest ps more = more
+blank_pieces (suc k) rest ps more = one_piece tk.blank (32 ∷ []) (replicate k 32 ++ rest) (replicate k tk.blank ++ ps) (blank_cut (replicate k 32 ++ rest)) (blank_pieces k rest ps more)
+
+gap_and_piece : (fresh : Bool) (p : Piece) (x rest : Text) (ps : List Piece) → piece_cut (x ++ rest) ≡ Some (record { piece = p; bytes = x; rest = rest }) → Pieces piece ps rest
+    → Pieces piece ((gap_pieces fresh ++ (p ∷ [])) ++ ps) ((gap fresh ++ x) ++ rest)
+gap_and_piece true p x rest ps e more = one_piece p x rest ps e more
+gap_and_piece false p x rest ps e more = one_piece tk.blank (32 ∷ []) (x ++ rest) (p ∷ ps) (blank_cut (x ++ rest)) (one_piece p x rest ps e more)
+
+pieces_of-cut : (fresh : Bool) (ms : List Mark) → AreMarks ms → Pieces piece (pieces_of fresh ms) (text_of fresh ms)
+pieces_of-cut fresh [] a = refl
+pieces_of-cut fresh (line n ∷ ms) a =
+    one_piece tk.blank (10 ∷ []) (replicate (2 * n) 32 ++ text_of true ms) (replicate (2 * n) tk.blank ++ pieces_of true ms) (break_cut (replicate (2 * n) 32 ++ text_of true ms))
+    (blank_pieces (2 * n) (text_of true ms) (pieces_of true ms) (pieces_of-cut true ms a.1))
+pieces_of-cut fresh (word w ∷ ms) a =
+    gap_and_piece fresh (tk.word w) w (text_of false ms) (pieces_of false ms) (word_cut w (text_of false ms) a.0 (after_stop ms a.1)) (pieces_of-cut false ms a.1)
+pieces_of-cut fresh (digits n ∷ ms) a =
+    gap_and_piece fresh (tk.number (decimal n)) (decimal n) (text_of false ms) (pieces_of false ms)
+    (number_cut (decimal n) (text_of false ms) (decimal_nonempty n) (decimal_digits n) (after_stop ms a.1)) (pieces_of-cut false ms a.1)
+pieces_of-cut fresh (sign s ∷ ms) a =
+    gap_and_piece (fresh || closes s) (tk.sign s) s (text_of (opens s) ms) (pieces_of (opens s) ms)
+    (of_each IsCutSign mark_signs s signs_cut a.0 (text_of (opens s) ms) (after_sign s ms a.1)) (pieces_of-cut (opens s) ms a.1)
+pieces_of-cut fresh (dash ∷ ms) a =
+    gap_and_piece fresh (tk.sign (codes "-")) (codes "-") (text_of true ms) (pieces_of true ms) (dash_cut (text_of true ms)) (pieces_of-cut true ms a.1)
+
+-- ---- no two signs that would be a comment
+
+abbrev NoStars : List Piece → Type 0
+NoStars [] = Unit {0}
+NoStars (p ∷ ps) = (is_sign (codes "*") p ≡ false) × NoStars ps
+
+opens_none : (ps : List Piece) → NoStars ps → opens_comment ps ≡ false
+opens_none [] h = refl
+opens_none (p ∷ []) h = refl
+opens_none (p ∷ q ∷ ps) h = go (is_sign (codes "(") p) (opens_none (q ∷ ps) h.1)
+  where
+    go : (b : Bool) → opens_comment (q ∷ ps) ≡ false → (b && is_sign (codes "*") q || opens_comment (q ∷ ps)) ≡ false
+    go true e = rw (h.1.0, e) refl
+    go false e = e
+
+no_stars-blanks : (k : ℕ) (ps : List Piece) → NoStars ps → NoStars (replicate k tk.blank ++ ps)
+no_stars-blanks zero ps h = h
+no_stars-blanks (suc k) ps h = (refl, no_stars-blanks k ps h)
+
+no_stars-gap : (fresh : Bool) (p : Piece) (ps : List Piece) → is_sign (codes "*") p ≡ false → NoStars ps → NoStars ((gap_pieces fresh ++ (p ∷ [])) ++ ps)
+no_stars-gap true p ps e h = (e, h)
+no_stars-gap false p ps e h = (refl, (e, h))
+
+sign_no_star : (s : Text) → list_any (λ t. same s t) mark_signs ≡ true → same (codes "*") s ≡ false
+sign_no_star s e = of_each (λ s. same (codes "*") s ≡ false) mark_signs s (refl, (refl, (refl, (refl, (refl, (refl, (refl, (refl, (refl, (refl, (refl, (refl, (refl, (refl, (refl, tt))))))))))))))) e
+
+pieces_of-no_stars : (fresh : Bool) (ms : List Mark) → AreMarks ms → NoStars (pieces_of fresh ms)
+pieces_of-no_stars fresh [] a = tt
+pieces_of-no_stars fresh (line n ∷ ms) a = (refl, no_stars-blanks (2 * n) (pieces_of true ms) (pieces_of-no_stars true ms a.1))
+pieces_of-no_stars fresh (word w ∷ ms) a = no_stars-gap fresh (tk.word w) (pieces_of false ms) refl (pieces_of-no_stars false ms a.1)
+pieces_of-no_stars fresh (digits n ∷ ms) a = no_stars-gap fresh (tk.number (decimal n)) (pieces_of false ms) refl (pieces_of-no_stars false ms a.1)
+pieces_of-no_stars fresh (sign s ∷ ms) a = no_stars-gap (fresh || closes s) (tk.sign s) (pieces_of (opens s) ms) (sign_no_star s a.0) (pieces_of-no_stars (opens s) ms a.1)
+pieces_of-no_stars fresh (dash ∷ ms) a = no_stars-gap fresh (tk.sign (codes "-")) (pieces_of true ms) refl (pieces_of-no_stars true ms a.1)
+
+-- ---- the tokens of the pieces
+
+blanks-no_tokens : (k : ℕ) (ps : List Piece) → filter_map token_of (replicate k tk.blank ++ ps) ≡ filter_map token_of ps
+blanks-no_tokens zero ps = refl
+blanks-no_tokens (suc k) ps = blanks-no_tokens k ps
+
+gap-no_token : (fresh : Bool) (p : Piece) (ps : List Piece) → filter_map token_of ((gap_pieces fresh ++ (p ∷ [])) ++ ps) ≡ filter_map token_of (p ∷ ps)
+gap-no_token true p ps = refl
+gap-no_token false p ps = refl
+
+pieces_of-tokens : (fresh : Bool) (ms : List Mark) → tokens_of ms ≡ filter_map token_of (pieces_of fresh ms)
+pieces_of-tokens fresh [] = refl
+pieces_of-tokens fresh (line n ∷ ms) = pieces_of-tokens true ms ∙ sym (blanks-no_tokens (2 * n) (pieces_of true ms))
+pieces_of-tokens fresh (word w ∷ ms) = ap (λ ts. record { kind = tk.kind_of_word w; text = w } ∷ ts) (pieces_of-tokens false ms) ∙ sym (gap-no_token fresh (tk.word w) (pieces_of false ms))
+pieces_of-tokens fresh (digits n ∷ ms) = ap (λ ts. record { kind = tk.kind_of_number (decimal n); text = decimal n } ∷ ts) (pieces_of-tokens false ms) ∙ sym (gap-no_token fresh (tk.number (decimal n)) (pieces_of false ms))
+pieces_of-tokens fresh (sign s ∷ ms) = ap (λ ts. record { kind = tk.kind_of_sign s; text = s } ∷ ts) (pieces_of-tokens (opens s) ms) ∙ sym (gap-no_token (fresh || closes s) (tk.sign s) (pieces_of (opens s) ms))
+pieces_of-tokens fresh (dash ∷ ms) = ap (λ ts. record { kind = tk.kind_of_sign (codes "-"); text = codes "-" } ∷ ts) (pieces_of-tokens true ms) ∙ sym (gap-no_token fresh (tk.sign (codes "-")) (pieces_of true ms))
+
+-- the same, whether or not a blank is due before the first mark
+pub marks-tokens_from : (fresh : Bool) (ms : List Mark) → AreMarks ms → Tokens (text_of fresh ms) (tokens_of ms)
+marks-tokens_from fresh ms a = record {
+  pieces = pieces_of fresh ms;
+  cut = pieces_of-cut fresh ms a;
+  closed = opens_none (pieces_of fresh ms) (pieces_of-no_stars fresh ms a);
+  are = pieces_of-tokens fresh ms;
+}
+
+pub marks-tokens : (ms : List Mark) → AreMarks ms → Tokens (text_of true ms) (tokens_of ms)
+marks-tokens ms a = marks-tokens_from true ms a

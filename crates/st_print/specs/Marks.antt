@@ -1,0 +1,42 @@
+-- The tokens of what is printed, mark by mark, and the marks that are printed so that these are the tokens of the text.
+use Rattle.std.specs.Prelude.{◌≡◌, Bool, true, false, ◌&&◌, List, [], ◌∷◌, codes, decimal, Option, Some, None, filter_map}
+use Rattle.std.specs.List.{list_any, list_all}
+use Rattle.grammar.specs.Pieces.{Text}
+use Rattle.st_ast.specs.Tokens.{Token, is_letter, is_wordy, same, kind_of_word, kind_of_number, kind_of_sign}
+use Rattle.st_print.specs.Layout.{Mark, line, word, digits, sign, dash}
+
+-- a line break gives none
+abbrev pub token_of_mark : Mark → Option Token
+token_of_mark (line n) = None
+token_of_mark (word w) = Some (record { kind = kind_of_word w; text = w })
+token_of_mark (digits n) = Some (record { kind = kind_of_number (decimal n); text = decimal n })
+token_of_mark (sign s) = Some (record { kind = kind_of_sign s; text = s })
+token_of_mark dash = Some (record { kind = kind_of_sign (codes "-"); text = codes "-" })
+
+abbrev pub tokens_of : List Mark → List Token
+tokens_of ms = filter_map token_of_mark ms
+
+-- a letter or an underscore, and then letters, digits and underscores
+abbrev pub is_word_text : Text → Bool
+is_word_text [] = false
+is_word_text (b ∷ t) = is_letter b && list_all is_wordy t
+
+-- The signs that are printed. There is no `*`, which would begin a comment after `(`.
+abbrev pub mark_signs : List Text
+mark_signs = codes ":=" ∷ codes ".." ∷ codes "<>" ∷ codes "<=" ∷ codes ">=" ∷ codes ";" ∷ codes ":" ∷ codes "(" ∷ codes ")"
+    ∷ codes "," ∷ codes "+" ∷ codes "-" ∷ codes "=" ∷ codes "<" ∷ codes ">" ∷ []
+
+abbrev pub is_mark : Mark → Bool
+is_mark (line n) = true
+is_mark (word w) = is_word_text w
+is_mark (digits n) = true
+is_mark (sign s) = list_any (λ t. same s t) mark_signs
+is_mark dash = true
+
+-- each word is spelled as one, and each sign is one that is printed
+abbrev pub IsMark : Mark → Type 0
+IsMark m = is_mark m ≡ true
+
+abbrev pub AreMarks : List Mark → Type 0
+AreMarks [] = Unit {0}
+AreMarks (m ∷ ms) = IsMark m × AreMarks ms

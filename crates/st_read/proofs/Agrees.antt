@@ -1,0 +1,285 @@
+-- What is read is what the grammar derives.
+use Rattle.std.proofs.Common.{◌≡◌, ℕ, zero, suc, ◌+◌, ◌≤◌, ◌<◌, true, false, List, [], ◌∷◌, ◌++◌, map, Option, refl, ap, ◌∙◌, arith}
+use Rattle.grammar.specs.Lang.{Lang, ◌&◌, ◌<$>◌, many, optional}
+use Rattle.grammar.specs.Reader.{Reader, Deep, inside, many_at, both_at, deep_both}
+use Rattle.grammar.specs.Sets.{apart}
+use Rattle.grammar.proofs.Laws.{Takes}
+use Rattle.grammar.proofs.Plain.{one_takes, map_takes, both_takes, either_takes, optional_takes, many_takes, wider, same}
+use Rattle.grammar.proofs.Depth.{Nests, IsBelow, flat_nests, deep_map_nests, deep_both_nests, deep_either_nests, inside_nests, none_nests, chain_nests, suffix_nests, whole_takes}
+use Rattle.st_ast.specs.Tokens.{Kind, Token, name, literal, program, end_program, var, var_output, end_var, bool, lint, true_word, false_word, if_word, then_word, elsif_word, else_word, end_if, while_word, do_word, end_while, not_word, and_word, or_word, semicolon, colon, assigns, dots, open_sign, close_sign, plus, dash, equals, less}
+use Rattle.st_ast.specs.Tree.{Expr, number, named, Stm, Stms, choice, stms_of, Program}
+use Rattle.st_ast.specs.View.{branches_of, other_of}
+use Rattle.st_ast.specs.Grammar.{sort, second, text_of, word, identifier, natural, Level, at_or, at_and, at_equal, at_order, at_sum, at_unary, prim, unary, summed, ordered, equated, conjunction, disjunction, level, max_depth, below, expression, without_word, assignment, guarded, conditional, repetition, statement, signed, first_value, type_use, value_of_init, declaration, block_of, block, flat, whole}
+use Rattle.st_ast.specs.declared.tree.StVar.{StVar}
+use Rattle.st_ast.specs.declared.tree.StLit.{StLit}
+use Rattle.st_ast.specs.declared.tree.StLit.TheVariants as lit
+use Rattle.st_ast.specs.declared.tree.StClass.{StClass}
+use Rattle.st_ast.specs.declared.tree.StClass.TheVariants as class
+use Rattle.st_read.specs.Reading.{codes_of, first, word_at, flat_word, identifier_at, natural_of, natural_at, truth_of, paren_of, negation_of, term_of, sum_of, order_of, equal_of, all_from, any_from, paren_at, prim_at, unary_from, term_at, sum_from, ordered_at, order_from, equated_at, equal_from, and_next_at, and_from, or_next_at, or_from, unary_at, expression_at, assign_of, assignment_at, guarded_of, choice_of, loop_of, guarded_at, elsif_at, elsifs_at, branches_at, else_at, conditional_at, repetition_at, statement_first, statement_at, statements_at, opposite_of, signed_at, bool_of, first_value_at, bool_type, number_type, subrange_at, type_at, variable_of, init_at, declaration_at, variables_of, block_of_at, block_at, block_first, variables_at, made_of, program_at}
+use Rattle.st_read.proofs.Flat.{flat_after_none}
+use Rattle.st_read.proofs.Mapped.{reads_same, deep_reads_same, many_mapped, joined_first, chain_mapped, suffix_mapped}
+
+-- ---- what each level begins with, and what makes it go on
+
+abbrev prim_first : List ℕ
+prim_first = codes_of (true_word ∷ false_word ∷ literal ∷ name ∷ open_sign ∷ [])
+
+-- what begins an expression
+abbrev pub unary_first : List ℕ
+unary_first = codes_of (not_word ∷ []) ++ prim_first
+
+abbrev sum_goes : List ℕ
+sum_goes = first plus
+
+abbrev order_goes : List ℕ
+order_goes = first less ++ sum_goes
+
+abbrev equal_goes : List ℕ
+equal_goes = first equals ++ order_goes
+
+abbrev and_goes : List ℕ
+and_goes = first and_word ++ equal_goes
+
+-- what makes an expression go on
+abbrev pub or_goes : List ℕ
+or_goes = first or_word ++ and_goes
+
+-- ---- names and numbers
+
+pub identifier_takes : Takes sort false (first name) [] identifier identifier_at
+unfolding identifier_at
+identifier_takes = map_takes text_of (one_takes sort (first name))
+
+pub natural_takes : Takes sort false (first literal) [] natural natural_at
+unfolding natural_at
+natural_takes = map_takes natural_of (one_takes sort (first literal))
+
+-- ---- what stands alone or in parentheses
+
+module _ (bound : ℕ) where
+  abbrev pub Level_law : List ℕ → (ℕ → Lang Token Expr) → Deep Token Expr → Type 0
+  Level_law goes_on p r = Nests sort max_depth bound false unary_first goes_on p r
+
+  word_nests : (kind : Kind) → Nests sort max_depth bound false (first kind) [] (λ n. word kind) (flat_word kind)
+  word_nests kind = flat_nests (one_takes sort (first kind))
+
+  module _ (within : Deep Token Expr) (w : Level_law or_goes (λ n. below n at_or) within) where
+    paren_nests : Nests sort max_depth bound false (first open_sign) [] (λ n. paren_of <$> word open_sign & below n at_or & word close_sign) (paren_at within)
+    unfolding paren_at
+    paren_nests = deep_map_nests paren_of (deep_both_nests (word_nests open_sign) refl (deep_both_nests w refl (word_nests close_sign)))
+
+    prim_nests : Nests sort max_depth bound false prim_first [] (λ n. prim (below n)) (prim_at within)
+    unfolding prim_at
+    prim_nests = deep_either_nests (deep_map_nests (truth_of true) (word_nests true_word)) refl
+        (deep_either_nests (deep_map_nests (truth_of false) (word_nests false_word)) refl
+        (deep_either_nests (deep_map_nests number (flat_nests natural_takes)) refl
+        (deep_either_nests (deep_map_nests named (flat_nests identifier_takes)) refl
+        paren_nests)))
+
+    pub unary_nests : (operand : Deep Token Expr) → Level_law [] (λ n. below n at_unary) operand → Level_law [] (λ n. unary (below n)) (unary_from within operand)
+    unfolding unary_from
+    unary_nests operand u = deep_either_nests (deep_map_nests negation_of (deep_both_nests (word_nests not_word) refl u)) refl prim_nests
+
+-- ---- the levels of operators
+
+-- what stands inside a form of a level is the level itself, at less depth
+below_is : (l : Level) → IsBelow (λ n. level (below n) l) (λ n. below n l)
+unfolding below
+below_is l = record { nothing = λ a x d. d; opens = λ m a x d. d; closes = λ m a x d. d }
+
+module _ (bound : ℕ) (c : bound ≤ max_depth + 1) where
+  deeper : (l : Level) (goes_on : List ℕ) (r : Deep Token Expr) → Level_law bound goes_on (λ n. level (below n) l) r → Level_law bound goes_on (λ n. below n l) (inside max_depth r)
+  deeper l goes_on r h = inside_nests bound (λ n. below n l) (below_is l) (omega arith) c h
+
+  module _ (u : Deep Token Expr) (h : Level_law bound [] (λ n. unary (below n)) u) where
+    sum_nests : Level_law bound sum_goes (λ n. summed (below n)) (sum_from u)
+    unfolding sum_from term_at
+    sum_nests = deep_reads_same (chain_mapped sort (first plus) max_depth term_of u (deep_both (flat_word plus) (inside max_depth u)) sum_of)
+        (chain_nests (λ e more. sum_of e (map term_of more)) (λ n. below n at_unary) sum_goes (below_is at_unary) c h refl refl
+        (deep_both_nests (word_nests bound plus) refl (deeper at_unary [] u h)) refl refl)
+
+    order_nests : Level_law bound order_goes (λ n. ordered (below n)) (order_from u)
+    unfolding order_from ordered_at
+    order_nests = deep_reads_same (suffix_mapped sort (first less) max_depth second (sum_from u) (deep_both (flat_word less) (inside max_depth (sum_from u))) order_of)
+        (suffix_nests (λ e v. order_of e (second v)) (λ n. below n at_sum) order_goes (below_is at_sum) c sum_nests refl
+        (deep_both_nests (word_nests bound less) refl (deeper at_sum sum_goes (sum_from u) sum_nests)) refl refl)
+
+    equal_nests : Level_law bound equal_goes (λ n. equated (below n)) (equal_from u)
+    unfolding equal_from equated_at
+    equal_nests = deep_reads_same (suffix_mapped sort (first equals) max_depth second (order_from u) (deep_both (flat_word equals) (inside max_depth (order_from u))) equal_of)
+        (suffix_nests (λ e v. equal_of e (second v)) (λ n. below n at_order) equal_goes (below_is at_order) c order_nests refl
+        (deep_both_nests (word_nests bound equals) refl (deeper at_order order_goes (order_from u) order_nests)) refl refl)
+
+    and_nests : Level_law bound and_goes (λ n. conjunction (below n)) (and_from u)
+    unfolding and_from and_next_at
+    and_nests = deep_reads_same (chain_mapped sort (first and_word) max_depth second (equal_from u) (deep_both (flat_word and_word) (inside max_depth (equal_from u))) all_from)
+        (chain_nests (λ e more. all_from e (map second more)) (λ n. below n at_equal) and_goes (below_is at_equal) c equal_nests refl refl
+        (deep_both_nests (word_nests bound and_word) refl (deeper at_equal equal_goes (equal_from u) equal_nests)) refl refl)
+
+    pub or_nests : Level_law bound or_goes (λ n. disjunction (below n)) (or_from u)
+    unfolding or_from or_next_at
+    or_nests = deep_reads_same (chain_mapped sort (first or_word) max_depth second (and_from u) (deep_both (flat_word or_word) (inside max_depth (and_from u))) any_from)
+        (chain_nests (λ e more. any_from e (map second more)) (λ n. below n at_and) or_goes (below_is at_and) c and_nests refl refl
+        (deep_both_nests (word_nests bound or_word) refl (deeper at_and and_goes (and_from u) and_nests)) refl refl)
+
+pub unary_at_nests : (bound : ℕ) → bound ≤ max_depth + 1 → Level_law bound [] (λ n. unary (below n)) (unary_at bound)
+unfolding unary_at
+unary_at_nests zero c = none_nests (λ n. unary (below n))
+unary_at_nests (suc n) c =
+    let less_fuel : n ≤ max_depth + 1 = omega arith in
+    let h = unary_at_nests n less_fuel in
+    unary_nests (suc n) (inside max_depth (or_from (unary_at n))) (inside_nests (suc n) (λ m. below m at_or) (below_is at_or) (omega arith) c (or_nests n less_fuel (unary_at n) h))
+    (inside max_depth (unary_at n)) (inside_nests (suc n) (λ m. below m at_unary) (below_is at_unary) (omega arith) c h)
+
+or_law : Nests sort max_depth 401 false unary_first or_goes (λ n. disjunction (below n)) (or_from (unary_at 401))
+or_law = let c : 401 ≤ max_depth + 1 = omega arith in or_nests 401 c (unary_at 401) (unary_at_nests 401 c)
+
+pub expression_takes : Takes sort false unary_first or_goes expression expression_at
+unfolding expression expression_at
+expression_takes = let c : max_depth < 401 = omega arith in whole_takes c or_law
+
+-- ---- statements
+
+pub assignment_takes : Takes sort false (first name) [] assignment assignment_at
+unfolding assignment_at
+assignment_takes = map_takes assign_of (both_takes identifier_takes refl (both_takes (one_takes sort (first assigns)) refl
+    (both_takes expression_takes refl (one_takes sort (first semicolon)))))
+
+module _ (body : Lang Token (List Stm)) (body_at : Reader Token (List Stm)) (b : Takes sort true statement_first statement_first body body_at) where
+  guarded_takes : (kind : Kind) → apart (first kind) or_goes ≡ true → Takes sort false unary_first statement_first (guarded body kind) (guarded_at body_at kind)
+  unfolding guarded_at
+  guarded_takes kind e = map_takes guarded_of (both_takes expression_takes e (both_takes (one_takes sort (first kind)) refl b))
+
+  elsifs_takes : Takes sort true (first elsif_word) (first elsif_word ++ statement_first) (map second <$> many (word elsif_word & guarded body then_word)) (elsifs_at body_at)
+  unfolding elsif_at
+  elsifs_takes = reads_same (many_mapped sort (first elsif_word) second (both_at (word_at elsif_word) (guarded_at body_at then_word)))
+      (map_takes (map second) (many_takes refl (both_takes (one_takes sort (first elsif_word)) refl (guarded_takes then_word refl))))
+
+  else_takes : Takes sort true (first else_word) (first else_word ++ statement_first) (without_word <$> optional (word else_word & body)) (else_at body_at)
+  unfolding else_at
+  else_takes = map_takes without_word (optional_takes (both_takes (one_takes sort (first else_word)) refl b))
+
+  abbrev chosen : Token × ((Expr × Stms) × (List (Expr × Stms) × (Option (List Stm) × (Token × Token)))) → Stm
+  chosen v = choice_of (v.0, (v.1.0 ∷ v.1.1.0, v.1.1.1))
+
+  -- with the words before the parts dropped
+  abbrev stripped : Lang Token Stm
+  stripped = chosen <$> word if_word & guarded body then_word & (map second <$> many (word elsif_word & guarded body then_word)) & (without_word <$> optional (word else_word & body)) & word end_if & word semicolon
+
+  conditional-stripped : (s : Stm) (x : List Token) → conditional body s x → stripped s x
+  conditional-stripped s x ((v0, (v1, (v2, (v3, v4)))), (a, b, d, (a1, b1, d1, (a2, b2, d2, (a3, b3, d3, d4, e3), e2), e1), e), is) =
+      ((v0, (v1, (map second v2, (without_word v3, v4)))), (a, b, d, (a1, b1, d1, (a2, b2, (v2, d2, refl), (a3, b3, (v3, d3, refl), d4, e3), e2), e1), e), is)
+
+  stripped-conditional : (s : Stm) (x : List Token) → stripped s x → conditional body s x
+  stripped-conditional s x ((v0, (v1, (v2, (v3, v4)))), (a, b, d, (a1, b1, d1, (a2, b2, (w2, d2, is2), (a3, b3, (w3, d3, is3), d4, e3), e2), e1), e), is) = (
+    (v0, (v1, (w2, (w3, v4)))),
+    (a, b, d, (a1, b1, d1, (a2, b2, d2, (a3, b3, d3, d4, e3), e2), e1), e),
+    is ∙ ap (λ (bs : List (Expr × Stms)). choice (branches_of (v1 ∷ bs)) (other_of v3)) is2
+        ∙ ap (λ (o : Option (List Stm)). choice (branches_of (v1 ∷ map second w2)) (other_of o)) is3,
+  )
+
+  conditional_takes : Takes sort false (first if_word) [] (conditional body) (conditional_at body_at)
+  unfolding conditional_at branches_at
+  conditional_takes = reads_same (joined_first (word_at if_word) (guarded_at body_at then_word) (elsifs_at body_at) (both_at (else_at body_at) (both_at (word_at end_if) (word_at semicolon))) (λ p. p.0 ∷ p.1) choice_of)
+      (same conditional-stripped stripped-conditional
+      (map_takes chosen (both_takes (one_takes sort (first if_word)) refl (both_takes (guarded_takes then_word refl) refl
+      (both_takes elsifs_takes refl (both_takes else_takes refl
+      (both_takes (one_takes sort (first end_if)) refl (one_takes sort (first semicolon)))))))))
+
+  repetition_takes : Takes sort false (first while_word) [] (repetition body) (repetition_at body_at)
+  unfolding repetition_at
+  repetition_takes = map_takes loop_of (both_takes (one_takes sort (first while_word)) refl (both_takes (guarded_takes do_word refl) refl
+      (both_takes (one_takes sort (first end_while)) refl (one_takes sort (first semicolon)))))
+
+pub statement_takes : (n : ℕ) → Takes sort false statement_first [] (statement n) (statement_at n)
+unfolding statement statement_at
+statement_takes zero = wider statement_first [] refl refl assignment_takes
+statement_takes (suc n) = either_takes assignment_takes refl
+    (either_takes (conditional_takes (many (statement n)) (many_at sort statement_first (statement_at n)) (many_takes refl (statement_takes n))) refl
+    (repetition_takes (many (statement n)) (many_at sort statement_first (statement_at n)) (many_takes refl (statement_takes n))))
+
+-- any number of statements
+pub statements_takes : (n : ℕ) → Takes sort true statement_first statement_first (many (statement n)) (statements_at n)
+statements_takes n = many_takes refl (statement_takes n)
+
+-- ---- declarations
+
+signed_takes : Takes sort false (codes_of (dash ∷ literal ∷ [])) [] signed signed_at
+unfolding signed_at
+signed_takes = either_takes (map_takes opposite_of (both_takes (one_takes sort (first dash)) refl natural_takes)) refl natural_takes
+
+first_value_takes : Takes sort false (codes_of (true_word ∷ false_word ∷ dash ∷ literal ∷ [])) [] first_value first_value_at
+unfolding first_value_at
+first_value_takes = either_takes (map_takes (bool_of true) (one_takes sort (first true_word))) refl
+    (either_takes (map_takes (bool_of false) (one_takes sort (first false_word))) refl
+    (map_takes lit.Int signed_takes))
+
+subrange_takes : Takes sort true (first open_sign) (first open_sign) (optional (word open_sign & signed & word dots & signed & word close_sign)) subrange_at
+unfolding subrange_at
+subrange_takes = optional_takes (both_takes (one_takes sort (first open_sign)) refl (both_takes signed_takes refl
+    (both_takes (one_takes sort (first dots)) refl (both_takes signed_takes refl (one_takes sort (first close_sign))))))
+
+type_takes : Takes sort false (codes_of (bool ∷ lint ∷ [])) (first open_sign) type_use type_at
+unfolding type_at
+type_takes = either_takes (map_takes bool_type (one_takes sort (first bool))) refl
+    (map_takes number_type (both_takes (one_takes sort (first lint)) refl subrange_takes))
+
+init_takes : Takes sort true (first assigns) (first assigns) (value_of_init <$> optional (word assigns & first_value)) init_at
+unfolding init_at
+init_takes = map_takes value_of_init (optional_takes (both_takes (one_takes sort (first assigns)) refl first_value_takes))
+
+-- with the sign before the first value dropped
+abbrev valued : StClass → Lang Token StVar
+valued k = variable_of k <$> identifier & word colon & type_use & (value_of_init <$> optional (word assigns & first_value)) & word semicolon
+
+declaration-valued : (k : StClass) (v : StVar) (x : List Token) → declaration k v x → valued k v x
+declaration-valued k v x ((v0, (v1, (v2, (v3, v4)))), (a, b, d, (a1, b1, d1, (a2, b2, d2, (a3, b3, d3, d4, e3), e2), e1), e), is) =
+    ((v0, (v1, (v2, (value_of_init v3, v4)))), (a, b, d, (a1, b1, d1, (a2, b2, d2, (a3, b3, (v3, d3, refl), d4, e3), e2), e1), e), is)
+
+valued-declaration : (k : StClass) (v : StVar) (x : List Token) → valued k v x → declaration k v x
+valued-declaration k v x ((v0, (v1, (v2, (v3, v4)))), (a, b, d, (a1, b1, d1, (a2, b2, d2, (a3, b3, (w3, d3, is3), d4, e3), e2), e1), e), is) = (
+  (v0, (v1, (v2, (w3, v4)))),
+  (a, b, d, (a1, b1, d1, (a2, b2, d2, (a3, b3, d3, d4, e3), e2), e1), e),
+  is ∙ ap (λ (o : Option StLit). record { name = v0; class = k; ty = v2; init = o }) is3,
+)
+
+pub declaration_takes : (k : StClass) → Takes sort false (first name) [] (declaration k) (declaration_at k)
+unfolding declaration_at
+declaration_takes k = same (declaration-valued k) (valued-declaration k) (map_takes (variable_of k) (both_takes identifier_takes refl (both_takes (one_takes sort (first colon)) refl
+    (both_takes type_takes refl (both_takes init_takes refl (one_takes sort (first semicolon)))))))
+
+block_of_takes : (kind : Kind) (k : StClass) → Takes sort false (first kind) [] (block_of kind k) (block_of_at kind k)
+unfolding block_of_at
+block_of_takes kind k = map_takes variables_of (both_takes (one_takes sort (first kind)) refl (both_takes (many_takes refl (declaration_takes k)) refl (one_takes sort (first end_var))))
+
+pub block_takes : Takes sort false block_first [] block block_at
+unfolding block_at
+block_takes = either_takes (block_of_takes var class.Plain) refl (block_of_takes var_output class.Output)
+
+-- ---- programs
+
+variables_takes : Takes sort true block_first block_first (flat <$> many block) variables_at
+unfolding variables_at
+variables_takes = reads_same (λ ts. flat_after_none (many_at sort block_first block_at ts)) (map_takes flat (many_takes refl block_takes))
+
+-- with the declarations of all blocks as one list
+abbrev flattened : Lang Token Program
+flattened = made_of <$> word program & identifier & (flat <$> many block) & many (statement max_depth) & word end_program
+
+whole-flattened : (p : Program) (x : List Token) → whole p x → flattened p x
+unfolding whole
+whole-flattened p x ((v0, (v1, (v2, (v3, v4)))), (a, b, d, (a1, b1, d1, (a2, b2, d2, (a3, b3, d3, d4, e3), e2), e1), e), is) =
+    ((v0, (v1, (flat v2, (v3, v4)))), (a, b, d, (a1, b1, d1, (a2, b2, (v2, d2, refl), (a3, b3, d3, d4, e3), e2), e1), e), is)
+
+flattened-whole : (p : Program) (x : List Token) → flattened p x → whole p x
+unfolding whole
+flattened-whole p x ((v0, (v1, (v2, (v3, v4)))), (a, b, d, (a1, b1, d1, (a2, b2, (w2, d2, is2), (a3, b3, d3, d4, e3), e2), e1), e), is) = (
+  (v0, (v1, (w2, (v3, v4)))),
+  (a, b, d, (a1, b1, d1, (a2, b2, d2, (a3, b3, d3, d4, e3), e2), e1), e),
+  is ∙ ap (λ (vars : List StVar). record { name = v1; vars = vars; body = stms_of v3 }) is2,
+)
+
+pub program_takes : Takes sort false (first program) [] whole program_at
+unfolding program_at
+program_takes = same whole-flattened flattened-whole (map_takes made_of (both_takes (one_takes sort (first program)) refl (both_takes identifier_takes refl (both_takes variables_takes refl
+    (both_takes (statements_takes max_depth) refl (one_takes sort (first end_program)))))))

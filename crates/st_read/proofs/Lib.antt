@@ -1,0 +1,12 @@
+pub mod Mapped
+pub mod Flat
+pub mod Agrees
+pub mod Whole
+pub mod Literals
+pub mod SeenLoops
+pub mod Fronts
+pub mod LexSteps
+pub mod Numbers
+pub mod Runs
+pub mod Sameness
+pub mod Told

@@ -1,0 +1,9 @@
+pub mod Flat
+pub mod Reading
+pub mod Kinds
+pub mod Gives
+pub mod ReadsUnary
+pub mod ReadsStatement
+pub mod Lexing
+pub mod Told
+pub mod Derives

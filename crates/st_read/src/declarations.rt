@@ -1,0 +1,174 @@
+//! Declarations of variables.
+
+ghost use Rattle.std.specs.Prelude.{◌≡◌, map};
+ghost use Rattle.st_ast.specs.Grammar as grammar;
+ghost use Rattle.st_ast.specs.Tokens as k;
+ghost use Rattle.grammar.specs.Loops.{after};
+ghost use Rattle.grammar.specs.Reader as reader;
+ghost use Rattle.st_read.specs.Gives.{Gives};
+ghost use Rattle.st_read.specs.Kinds.{seen};
+ghost use Rattle.st_read.specs.Reading as reading;
+
+use crate::names::{identifier, natural};
+use crate::tokens::{Kind, Read, Token, starts, word};
+use cif_base::Items;
+use st_ast::{StClass, StLit, StTy, StVar};
+use std::alloc::Global;
+
+/// A number, perhaps with a sign before it.
+#[tactic(auto, unfolding(crate::specs::Reading::signed_at))]
+fn signed(tokens: &[Token]) -> Read<'_, i64>
+    ensures { Gives (λ x. (x.0, x.1.now)) result (reading.signed_at tokens.now) }
+{
+    if starts(tokens, &[Kind::Dash]) {
+        let (_dash, rest) = word(tokens, Kind::Dash)?;
+        let (value, rest) = natural(rest)?;
+        Ok((-(value as i64), rest))
+    } else {
+        let (value, rest) = natural(tokens)?;
+        Ok((value as i64, rest))
+    }
+}
+
+#[tactic(auto, unfolding(crate::specs::Reading::first_value_at))]
+fn first_value(tokens: &[Token]) -> Read<'_, StLit>
+    ensures { Gives (λ x. (x.0, x.1.now)) result (reading.first_value_at tokens.now) }
+{
+    if starts(tokens, &[Kind::True]) {
+        let (_true, rest) = word(tokens, Kind::True)?;
+        Ok((StLit::Bool(true), rest))
+    } else if starts(tokens, &[Kind::False]) {
+        let (_false, rest) = word(tokens, Kind::False)?;
+        Ok((StLit::Bool(false), rest))
+    } else {
+        let (value, rest) = signed(tokens)?;
+        Ok((StLit::Int(value), rest))
+    }
+}
+
+/// `LINT`, perhaps with the bounds of a subrange.
+#[tactic(auto, unfolding(crate::specs::Reading::subrange_at))]
+fn integer_type(tokens: &[Token]) -> Read<'_, StTy>
+    ensures { Gives (λ x. (x.0, x.1.now)) result (reader.map_at reading.number_type (reader.both_at (reading.word_at k.lint) reading.subrange_at) tokens.now) }
+{
+    let (_lint, rest) = word(tokens, Kind::Lint)?;
+    if !starts(rest, &[Kind::Open]) {
+        return Ok((StTy::Lint, rest));
+    }
+    let (_open, rest) = word(rest, Kind::Open)?;
+    let (lo, rest) = signed(rest)?;
+    let (_dots, rest) = word(rest, Kind::Dots)?;
+    let (hi, rest) = signed(rest)?;
+    let (_close, rest) = word(rest, Kind::Close)?;
+    Ok((StTy::Range { lo, hi }, rest))
+}
+
+#[tactic(auto, unfolding(crate::specs::Reading::type_at))]
+fn type_use(tokens: &[Token]) -> Read<'_, StTy>
+    ensures { Gives (λ x. (x.0, x.1.now)) result (reading.type_at tokens.now) }
+{
+    if starts(tokens, &[Kind::Bool]) {
+        let (_bool, rest) = word(tokens, Kind::Bool)?;
+        Ok((StTy::Bool, rest))
+    } else {
+        integer_type(tokens)
+    }
+}
+
+/// The sign `:=` and the first value, where they come.
+#[tactic(auto, unfolding(crate::specs::Reading::init_at))]
+fn init(tokens: &[Token]) -> Read<'_, Option<StLit>>
+    ensures { Gives (λ x. (x.0, x.1.now)) result (reading.init_at tokens.now) }
+{
+    if !starts(tokens, &[Kind::Assigns]) {
+        return Ok((None, tokens));
+    }
+    let (_assigns, rest) = word(tokens, Kind::Assigns)?;
+    let (value, rest) = first_value(rest)?;
+    Ok((Some(value), rest))
+}
+
+/// A declaration in a block of that class.
+#[tactic(auto, unfolding(crate::specs::Reading::declaration_at))]
+fn declaration(alloc: Global, tokens: &[Token], class: StClass) -> Read<'_, StVar>
+    ensures { Gives (λ x. (x.0, x.1.now)) result (reading.declaration_at class tokens.now) }
+{
+    let (name, rest) = identifier(alloc, tokens)?;
+    let (_colon, rest) = word(rest, Kind::Colon)?;
+    let (ty, rest) = type_use(rest)?;
+    let (init, rest) = init(rest)?;
+    let (_semicolon, rest) = word(rest, Kind::Semicolon)?;
+    let variable = StVar {
+        name,
+        class,
+        ty,
+        init,
+    };
+    Ok((variable, rest))
+}
+
+#[tactic(auto, using(grammar::proofs::Loops::after_step, grammar::proofs::Loops::after_stop, grammar::proofs::Loops::after_fail, grammar::proofs::Loops::after_end))]
+fn declarations(
+    alloc: Global,
+    tokens: &[Token],
+    class: StClass,
+    mut found: Items<StVar>,
+) -> Read<'_, Items<StVar>>
+    ensures { Gives (λ x. (x.0, x.1.now)) result (after found (reader.many_at grammar.sort (reading.first k.name) (reading.declaration_at class) tokens.now)) }
+{
+    let mut rest = tokens;
+    for _turn in 0..tokens.len() {
+        if !starts(rest, &[Kind::Name]) {
+            return Ok((found, rest));
+        }
+        let (item, left) = declaration(alloc, rest, class)?;
+        found.push(item)?;
+        rest = left;
+    }
+    Ok((found, rest))
+}
+
+/// A block that begins with that word, and its class.
+#[tactic(auto, using(crate::proofs::Flat::after_none), unfolding(crate::specs::Reading::block_of_at))]
+fn block_of(
+    alloc: Global,
+    tokens: &[Token],
+    opening: Kind,
+    class: StClass,
+) -> Read<'_, Items<StVar>>
+    ensures { Gives (λ x. (x.0, x.1.now)) result (reading.block_of_at (seen opening) class tokens.now) }
+{
+    let (_opening, rest) = word(tokens, opening)?;
+    let (found, rest) = declarations(alloc, rest, class, Items::new(alloc))?;
+    let (_end, rest) = word(rest, Kind::EndVar)?;
+    Ok((found, rest))
+}
+
+#[tactic(auto, unfolding(crate::specs::Reading::block_at))]
+fn block(alloc: Global, tokens: &[Token]) -> Read<'_, Items<StVar>>
+    ensures { Gives (λ x. (x.0, x.1.now)) result (reading.block_at tokens.now) }
+{
+    if starts(tokens, &[Kind::Var]) {
+        block_of(alloc, tokens, Kind::Var, StClass::Plain)
+    } else {
+        block_of(alloc, tokens, Kind::VarOutput, StClass::Output)
+    }
+}
+
+/// The declarations of all blocks as one list.
+#[tactic(auto, using(crate::proofs::Flat::flat_step, crate::proofs::Flat::flat_stop, crate::proofs::Flat::flat_fail, crate::proofs::Flat::flat_end), unfolding(crate::specs::Reading::variables_at))]
+pub fn variables(alloc: Global, tokens: &[Token]) -> Read<'_, Items<StVar>>
+    ensures { Gives (λ x. (x.0, x.1.now)) result (reading.variables_at tokens.now) }
+{
+    let mut found = Items::new(alloc);
+    let mut rest = tokens;
+    for _turn in 0..tokens.len() {
+        if !starts(rest, &[Kind::Var, Kind::VarOutput]) {
+            return Ok((found, rest));
+        }
+        let (more, left) = block(alloc, rest)?;
+        found.append(more)?;
+        rest = left;
+    }
+    Ok((found, rest))
+}

@@ -1,0 +1,259 @@
+//! A text as its tokens.
+
+ghost use Rattle.std.specs.Prelude.{◌≡◌, ◌≤◌, Some, not, map, position, unwrap_or, length, option_map, All, IfOk};
+ghost use Rattle.std.specs.Option.{option_copied};
+ghost use Rattle.grammar.specs.Pieces.{run_of, strip};
+ghost use Rattle.st_ast.specs.Tokens as k;
+ghost use Rattle.st_read.specs.Gives.{Gives};
+ghost use Rattle.st_read.specs.Kinds.{seen};
+ghost use Rattle.st_read.specs.Lexing as lexing;
+
+use crate::error::Stop;
+use crate::tokens::{Kind, Token};
+use crate::words::{is_blank, is_digit, is_letter, is_wordy, kind_of_word, value_of};
+use cif_base::{Items, Text};
+use std::alloc::Global;
+
+/// The signs, the longer ones first.
+static SIGNS: [&[u8]; 18] = [
+    b":=", b"..", b"<>", b"<=", b">=", b";", b":", b"(", b")", b",", b"+", b"-", b"*", b"/", b"=",
+    b"<", b">", b"&",
+];
+
+/// The signs that the part of the language that is read has.
+static SIGN_KINDS: [(&[u8], Kind); 11] = [
+    (b";", Kind::Semicolon),
+    (b":", Kind::Colon),
+    (b":=", Kind::Assigns),
+    (b"..", Kind::Dots),
+    (b"(", Kind::Open),
+    (b")", Kind::Close),
+    (b",", Kind::Comma),
+    (b"+", Kind::Plus),
+    (b"-", Kind::Dash),
+    (b"=", Kind::Equals),
+    (b"<", Kind::Less),
+];
+
+/// The tokens of a text, and the byte at which each begins.
+#[derive(Drop)]
+pub struct Lexed {
+    pub tokens: Items<Token>,
+    pub starts: Vec<u32>,
+}
+
+/// A token, or none for a blank or a comment, and the text after it.
+type Front<'a> = (Option<Token>, &'a [u8]);
+
+/// The place of the first byte that no word has.
+fn first_unwordy(text: &[u8]) -> Option<usize>
+    ensures { result ≡ position (λ b. not (lexing.wordy b)) text.now }
+{
+    text.iter().position(|byte| !is_wordy(*byte))
+}
+
+/// The place of the first byte that is no digit.
+fn first_undigit(text: &[u8]) -> Option<usize>
+    ensures { result ≡ position (λ b. not (lexing.digit b)) text.now }
+{
+    text.iter().position(|byte| !is_digit(*byte))
+}
+
+#[tactic(auto, using(crate::proofs::Runs::first_within))]
+fn wordy_len(text: &[u8]) -> usize
+    ensures count { result ≡ unwrap_or (position (λ b. not (lexing.wordy b)) text.now) (length text.now) }
+    ensures within { result ≤ length text.now }
+{
+    first_unwordy(text).unwrap_or(text.len())
+}
+
+#[tactic(auto, using(crate::proofs::Runs::first_within))]
+fn digits_len(text: &[u8]) -> usize
+    ensures count { result ≡ unwrap_or (position (λ b. not (lexing.digit b)) text.now) (length text.now) }
+    ensures within { result ≤ length text.now }
+{
+    first_undigit(text).unwrap_or(text.len())
+}
+
+/// The letters and digits at the front, and the bytes after them.
+#[tactic(auto, using(crate::proofs::Runs::run_is))]
+fn split_word(text: &[u8]) -> (&[u8], &[u8])
+    ensures { run_of lexing.wordy text.now ≡ (result.0.now, result.1.now) }
+{
+    text.split_at(wordy_len(text))
+}
+
+/// The digits at the front, and the bytes after them.
+#[tactic(auto, using(crate::proofs::Runs::run_is))]
+fn split_number(text: &[u8]) -> (&[u8], &[u8])
+    ensures { run_of lexing.digit text.now ≡ (result.0.now, result.1.now) }
+{
+    text.split_at(digits_len(text))
+}
+
+/// The word at the front.
+#[tactic(auto, using(crate::proofs::Numbers::word_apart))]
+fn word(alloc: Global, text: &[u8]) -> Result<Front<'_>, Stop>
+    ensures { Gives (λ x. (x.0, x.1.now)) result (Some (lexing.worded (run_of lexing.wordy text.now))) }
+{
+    let (word, rest) = split_word(text);
+    let kind = kind_of_word(word);
+    let text = Text::from_slice(alloc, word)?;
+    Ok((Some(Token::plain(kind, text)), rest))
+}
+
+/// The digits at the front.
+#[tactic(auto, unfolding(crate::specs::Lexing::number_kind, crate::specs::Lexing::value_in))]
+fn number(alloc: Global, text: &[u8]) -> Result<Front<'_>, Stop>
+    ensures { Gives (λ x. (x.0, x.1.now)) result (Some (lexing.numbered (run_of lexing.digit text.now))) }
+{
+    let (digits, rest) = split_number(text);
+    let text = Text::from_slice(alloc, digits)?;
+    let token = match value_of(digits) {
+        Some(value) => Token::literal(text, value),
+        None => Token::plain(Kind::Outside, text),
+    };
+    Ok((Some(token), rest))
+}
+
+/// What follows the first `*)`.
+#[tactic(auto, unfolding(crate::specs::Lexing::after_close))]
+fn after_close(text: &[u8]) -> Option<&[u8]>
+    ensures { option_copied result ≡ lexing.after_close text.now }
+{
+    let mut rest = text;
+    loop {
+        match rest {
+            [] => return None,
+            [one, left @ ..] => match left {
+                [] => return None,
+                [two, more @ ..] => {
+                    if *one == b'*' && *two == b')' {
+                        return Some(more);
+                    }
+                    rest = left;
+                }
+            },
+        }
+    }
+}
+
+/// What follows a sign in a text that begins with it.
+fn stripped<'a>(sign: &[u8], text: &'a [u8]) -> Option<&'a [u8]>
+    ensures { option_copied result ≡ strip sign.now text.now }
+{
+    let mut left = sign;
+    let mut right = text;
+    loop {
+        match left {
+            [] => return Some(right),
+            [a, more @ ..] => match right {
+                [] => return None,
+                [b, others @ ..] => {
+                    if *a != *b {
+                        return None;
+                    }
+                    left = more;
+                    right = others;
+                }
+            },
+        }
+    }
+}
+
+/// The first of the signs that stands at the front, and what is left.
+fn first_sign<'a>(text: &'a [u8], signs: &[&'a [u8]]) -> Option<(&'a [u8], &'a [u8])>
+    ensures { option_map (λ w. (w.0.now, w.1.now)) result ≡ lexing.sign_in (map (λ s. s.now) signs.now) text.now }
+{
+    for sign in signs {
+        if let Some(rest) = stripped(*sign, text) {
+            return Some((*sign, rest));
+        }
+    }
+    None
+}
+
+#[tactic(auto, using(crate::proofs::Sameness::same_is))]
+fn same(word: &[u8], other: &[u8]) -> bool
+    ensures { result ≡ k.same word.now other.now }
+{
+    word == other
+}
+
+/// The kind that a table has for a sign.
+fn sign_in_table(table: &[(&[u8], Kind)], sign: &[u8]) -> Kind
+    ensures { seen result ≡ k.kind_of_sign_in (map (λ p. (p.0.now, seen p.1)) table.now) sign.now }
+{
+    for (text, kind) in table {
+        if same(text, sign) {
+            return *kind;
+        }
+    }
+    Kind::Outside
+}
+
+#[tactic(auto, unfolding(crate::specs::Lexing::sign_kind))]
+fn kind_of_sign(sign: &[u8]) -> Kind
+    ensures { seen result ≡ lexing.sign_kind sign.now }
+{
+    sign_in_table(&SIGN_KINDS, sign)
+}
+
+/// The sign at the front.
+#[tactic(auto, using(crate::proofs::Numbers::sign_apart), unfolding(crate::specs::Lexing::sign_of))]
+fn sign(alloc: Global, text: &[u8]) -> Result<Front<'_>, Stop>
+    ensures { Gives (λ x. (x.0, x.1.now)) result (lexing.signed (lexing.sign_of text.now)) }
+{
+    let Some((sign, rest)) = first_sign(text, &SIGNS) else {
+        return Err(Stop::NotTaken(text.len()));
+    };
+    let kind = kind_of_sign(sign);
+    let text = Text::from_slice(alloc, sign)?;
+    Ok((Some(Token::plain(kind, text)), rest))
+}
+
+/// A comment, of which the first two bytes are read.
+fn comment(text: &[u8]) -> Result<Front<'_>, Stop>
+    ensures { Gives (λ x. (x.0, x.1.now)) result (lexing.commented (lexing.after_close text.now)) }
+{
+    match after_close(text) {
+        Some(rest) => Ok((None, rest)),
+        None => Err(Stop::NotTaken(text.len() + 2)),
+    }
+}
+
+/// What stands at the front. Where nothing does, the error tells how many bytes are left.
+#[tactic(auto, unfolding(crate::specs::Lexing::front_of))]
+fn front(alloc: Global, text: &[u8]) -> Result<Front<'_>, Stop>
+    ensures { Gives (λ x. (x.0, x.1.now)) result (lexing.front_of text.now) }
+{
+    match text {
+        [] => Err(Stop::NotTaken(0)),
+        [byte, rest @ ..] if is_blank(*byte) => Ok((None, rest)),
+        [byte, ..] if is_letter(*byte) => word(alloc, text),
+        [byte, ..] if is_digit(*byte) => number(alloc, text),
+        [one, two, rest @ ..] if *one == b'(' && *two == b'*' => comment(rest),
+        _ => sign(alloc, text),
+    }
+}
+
+/// The tokens of a text. Where it has none, the error tells how many bytes are left.
+#[tactic(auto, using(crate::proofs::LexSteps::lex_token, crate::proofs::LexSteps::lex_blank, crate::proofs::LexSteps::lex_fail, crate::proofs::LexSteps::lex_end, crate::proofs::LexSteps::lex_start, crate::proofs::Fronts::front_shorter))]
+pub fn lex(alloc: Global, text: &[u8]) -> Result<Lexed, Stop>
+    requires { length text.now ≤ 16777216 }
+    ensures tokens { Gives (λ x. x.tokens) result (lexing.lexed text.now) }
+    ensures starts { IfOk result (λ x. All (λ at. at ≤ length text.now) x.starts.items) }
+{
+    let mut tokens = Items::new(alloc);
+    let mut starts = Vec::new(alloc);
+    let mut rest = text;
+    while !rest.is_empty() {
+        let (token, left) = front(alloc, rest)?;
+        if let Some(token) = token {
+            tokens.push(token)?;
+            starts.push((text.len() - rest.len()) as u32)?;
+        }
+        rest = left;
+    }
+    Ok(Lexed { tokens, starts })
+}

@@ -1,0 +1,204 @@
+//! Statements. The reader of a statement one level down is a parameter, so that each rule is proved by itself.
+
+ghost use Rattle.std.specs.Prelude.{◌≡◌, map, option_map};
+ghost use Rattle.st_ast.specs.Grammar as grammar;
+ghost use Rattle.st_ast.specs.Tokens as k;
+ghost use Rattle.st_ast.specs.View.{view_stmt, view_branch};
+ghost use Rattle.grammar.specs.Reader as reader;
+ghost use Rattle.grammar.specs.Loops.{after};
+ghost use Rattle.st_read.specs.Gives.{Gives};
+ghost use Rattle.st_read.specs.Kinds.{seen};
+ghost use Rattle.st_read.specs.Reading as reading;
+ghost use Rattle.st_read.specs.ReadsStatement.{ReadsStatement};
+
+use crate::error::Stop;
+use crate::levels::MAX_DEPTH;
+use crate::names::identifier;
+use crate::operands::expression;
+use crate::tokens::{Kind, Read, Token, starts, word};
+use cif_base::Items;
+use st_ast::{StBranch, Stmt};
+use std::alloc::Global;
+
+/// A reader of what stands between an opening word and its end.
+#[derive(Clone, Copy)]
+pub struct Bodies<F> {
+    alloc: Global,
+    /// How deep the statements there may still nest.
+    depth: u16,
+    statement: F,
+}
+
+#[tactic(auto, unfolding(crate::specs::Reading::assignment_at))]
+pub fn assignment(alloc: Global, tokens: &[Token]) -> Read<'_, Stmt>
+    ensures { Gives (λ x. (view_stmt x.0, x.1.now)) result (reading.assignment_at tokens.now) }
+{
+    let (target, rest) = identifier(alloc, tokens)?;
+    let (_assigns, rest) = word(rest, Kind::Assigns)?;
+    let (value, rest) = expression(alloc, rest)?;
+    let (_semicolon, rest) = word(rest, Kind::Semicolon)?;
+    Ok((Stmt::Assign { target, value }, rest))
+}
+
+impl<F: Fn(Global, &[Token], u16) -> Result<(Stmt, &[Token]), Stop>> Bodies<F> {
+    fn one<'a>(&self, tokens: &'a [Token]) -> Read<'a, Stmt>
+        requires { ReadsStatement self.now.depth (F.pre self.now.statement) (F.post self.now.statement) }
+        ensures { Gives (λ x. (view_stmt x.0, x.1.now)) result (reading.statement_at self.now.depth tokens.now) }
+    {
+        (self.statement)(self.alloc, tokens, self.depth)
+    }
+
+    #[tactic(auto, using(crate::proofs::SeenLoops::seen_step, grammar::proofs::Loops::after_stop, grammar::proofs::Loops::after_fail, grammar::proofs::Loops::after_end, crate::proofs::Flat::after_none))]
+    fn all<'a>(&self, tokens: &'a [Token]) -> Read<'a, Items<Stmt>>
+        requires { ReadsStatement self.now.depth (F.pre self.now.statement) (F.post self.now.statement) }
+        ensures { Gives (λ x. (map view_stmt x.0, x.1.now)) result (reading.statements_at self.now.depth tokens.now) }
+    {
+        let mut found = Items::new(self.alloc);
+        let mut rest = tokens;
+        for _turn in 0..tokens.len() {
+            if !starts(rest, &[Kind::Name, Kind::If, Kind::While]) {
+                return Ok((found, rest));
+            }
+            let (item, left) = self.one(rest)?;
+            found.push(item)?;
+            rest = left;
+        }
+        Ok((found, rest))
+    }
+
+    /// A condition, the word after it and its statements.
+    #[tactic(auto, unfolding(crate::specs::Reading::guarded_at))]
+    fn guarded<'a>(&self, tokens: &'a [Token], closing: Kind) -> Read<'a, StBranch>
+        requires { ReadsStatement self.now.depth (F.pre self.now.statement) (F.post self.now.statement) }
+        ensures { Gives (λ x. (view_branch x.0, x.1.now)) result (reading.guarded_at (reading.statements_at self.now.depth) (seen closing) tokens.now) }
+    {
+        let (cond, rest) = expression(self.alloc, tokens)?;
+        let (_closing, rest) = word(rest, closing)?;
+        let (body, rest) = self.all(rest)?;
+        Ok((StBranch { cond, body }, rest))
+    }
+
+    #[tactic(auto, unfolding(crate::specs::Reading::elsif_at))]
+    fn elsif<'a>(&self, tokens: &'a [Token]) -> Read<'a, StBranch>
+        requires { ReadsStatement self.now.depth (F.pre self.now.statement) (F.post self.now.statement) }
+        ensures { Gives (λ x. (view_branch x.0, x.1.now)) result (reading.elsif_at (reading.statements_at self.now.depth) tokens.now) }
+    {
+        let (_elsif, rest) = word(tokens, Kind::Elsif)?;
+        self.guarded(rest, Kind::Then)
+    }
+
+    #[tactic(auto, using(crate::proofs::SeenLoops::seen_step, grammar::proofs::Loops::after_stop, grammar::proofs::Loops::after_fail, grammar::proofs::Loops::after_end))]
+    fn elsifs<'a>(
+        &self,
+        tokens: &'a [Token],
+        mut found: Items<StBranch>,
+    ) -> Read<'a, Items<StBranch>>
+        requires { ReadsStatement self.now.depth (F.pre self.now.statement) (F.post self.now.statement) }
+        ensures { Gives (λ x. (map view_branch x.0, x.1.now)) result (after (map view_branch found) (reading.elsifs_at (reading.statements_at self.now.depth) tokens.now)) }
+    {
+        let mut rest = tokens;
+        for _turn in 0..tokens.len() {
+            if !starts(rest, &[Kind::Elsif]) {
+                return Ok((found, rest));
+            }
+            let (item, left) = self.elsif(rest)?;
+            found.push(item)?;
+            rest = left;
+        }
+        Ok((found, rest))
+    }
+
+    /// The branches after `IF`.
+    #[tactic(auto, using(grammar::proofs::Loops::list_after), unfolding(crate::specs::Reading::branches_at))]
+    fn branches<'a>(&self, tokens: &'a [Token]) -> Read<'a, Items<StBranch>>
+        requires { ReadsStatement self.now.depth (F.pre self.now.statement) (F.post self.now.statement) }
+        ensures { Gives (λ x. (map view_branch x.0, x.1.now)) result (reading.branches_at (reading.statements_at self.now.depth) tokens.now) }
+    {
+        let (first, rest) = self.guarded(tokens, Kind::Then)?;
+        let mut found = Items::new(self.alloc);
+        found.push(first)?;
+        self.elsifs(rest, found)
+    }
+
+    /// `ELSE` and its statements, where they come.
+    #[tactic(auto, unfolding(crate::specs::Reading::else_at))]
+    fn otherwise<'a>(&self, tokens: &'a [Token]) -> Read<'a, Option<Items<Stmt>>>
+        requires { ReadsStatement self.now.depth (F.pre self.now.statement) (F.post self.now.statement) }
+        ensures { Gives (λ x. (option_map (map view_stmt) x.0, x.1.now)) result (reading.else_at (reading.statements_at self.now.depth) tokens.now) }
+    {
+        if !starts(tokens, &[Kind::Else]) {
+            return Ok((None, tokens));
+        }
+        let (_else, rest) = word(tokens, Kind::Else)?;
+        let (body, rest) = self.all(rest)?;
+        Ok((Some(body), rest))
+    }
+
+    #[tactic(auto, unfolding(crate::specs::Reading::conditional_at))]
+    fn conditional<'a>(&self, tokens: &'a [Token]) -> Read<'a, Stmt>
+        requires { ReadsStatement self.now.depth (F.pre self.now.statement) (F.post self.now.statement) }
+        ensures { Gives (λ x. (view_stmt x.0, x.1.now)) result (reading.conditional_at (reading.statements_at self.now.depth) tokens.now) }
+    {
+        let (_if, rest) = word(tokens, Kind::If)?;
+        let (branches, rest) = self.branches(rest)?;
+        let (other, rest) = self.otherwise(rest)?;
+        let (_end, rest) = word(rest, Kind::EndIf)?;
+        let (_semicolon, rest) = word(rest, Kind::Semicolon)?;
+        Ok((Stmt::If { branches, other }, rest))
+    }
+
+    #[tactic(auto, unfolding(crate::specs::Reading::repetition_at))]
+    fn repetition<'a>(&self, tokens: &'a [Token]) -> Read<'a, Stmt>
+        requires { ReadsStatement self.now.depth (F.pre self.now.statement) (F.post self.now.statement) }
+        ensures { Gives (λ x. (view_stmt x.0, x.1.now)) result (reading.repetition_at (reading.statements_at self.now.depth) tokens.now) }
+    {
+        let (_while, rest) = word(tokens, Kind::While)?;
+        let (StBranch { cond, body }, rest) = self.guarded(rest, Kind::Do)?;
+        let (_end, rest) = word(rest, Kind::EndWhile)?;
+        let (_semicolon, rest) = word(rest, Kind::Semicolon)?;
+        Ok((Stmt::While { cond, body }, rest))
+    }
+
+    fn step<'a>(&self, tokens: &'a [Token]) -> Read<'a, Stmt>
+        requires { ReadsStatement self.now.depth (F.pre self.now.statement) (F.post self.now.statement) }
+        ensures { Gives (λ x. (view_stmt x.0, x.1.now)) result (reading.statement_from (reading.statements_at self.now.depth) tokens.now) }
+    {
+        if starts(tokens, &[Kind::Name]) {
+            assignment(self.alloc, tokens)
+        } else if starts(tokens, &[Kind::If]) {
+            self.conditional(tokens)
+        } else {
+            self.repetition(tokens)
+        }
+    }
+}
+
+/// A statement, in which so many may nest.
+#[tactic(auto, unfolding(crate::specs::Reading::statement_at))]
+fn statement(alloc: Global, tokens: &[Token], depth: u16) -> Result<(Stmt, &[Token]), Stop>
+    ensures { Gives (λ x. (view_stmt x.0, x.1.now)) result (reading.statement_at depth tokens.now) }
+{
+    if depth == 0 {
+        return assignment(alloc, tokens);
+    }
+    let depth = depth - 1;
+    Bodies {
+        alloc,
+        depth,
+        statement,
+    }
+    .step(tokens)
+}
+
+/// The statements of a program.
+pub fn statements(alloc: Global, tokens: &[Token]) -> Read<'_, Items<Stmt>>
+    ensures { Gives (λ x. (map view_stmt x.0, x.1.now)) result (reading.statements_at 400 tokens.now) }
+{
+    let depth = MAX_DEPTH;
+    Bodies {
+        alloc,
+        depth,
+        statement,
+    }
+    .all(tokens)
+}

@@ -1,0 +1,137 @@
+-- A loop, turn by turn: what it does from a test of its condition on.
+use Rattle.std.proofs.Common.{◌≡◌, ℕ, zero, suc, ◌≤◌, ◌<◌, ◌-◌, ℤ, Bool, true, false, List, refl, ap, sym, ◌∙◌, arith}
+use Rattle.std.specs.Prelude.{Result, Ok, Err, slice_set, if◌then◌else◌}
+use Rattle.st_ast.specs.declared.tree.StVar.{StVar}
+use Rattle.st_ast.specs.Names.{place_of}
+use Rattle.st_ast.specs.Tree.{Stm, Stms, Branches, Other, assign, choice, loop, no_stms, stms, no_branches, branches, no_other, other}
+use Rattle.st_ast.specs.Values.{Fault, subrange_left, Memory, is_true, with_value, value_of}
+use Rattle.st_ast.specs.Exec.{Outcome, Ended, Faulted, OutOfTurns, Act, and_then, is_within, type_at, store, take_turn, repeated, exec, exec_one, exec_other, exec_choice}
+use Rattle.st_scan.specs.declared.error.ScanErr.{ScanErr}
+use Rattle.st_scan.specs.declared.error.ScanErr.TheVariants.{Overflow, ZeroDivide, SubrangeLeft, Budget}
+use Rattle.st_scan.specs.Endings.{stopped, outcome_of}
+
+-- an outcome that leaves at most so many turns
+abbrev pub IsWithin : ℕ → Outcome → Type 0
+IsWithin n (Ended l m) = l ≤ n
+IsWithin n (Faulted f) = Unit {0}
+IsWithin n OutOfTurns = Unit {0}
+
+-- an act gives no turns back
+abbrev pub Shrinks : Act → Type 0
+Shrinks act = (n : ℕ) (m : Memory) → IsWithin n (act n m)
+
+within-more : (o : Outcome) (n k : ℕ) → n ≤ k → IsWithin n o → IsWithin k o
+within-more (Ended l m) n k h w = omega arith
+within-more (Faulted f) n k h w = tt
+within-more OutOfTurns n k h w = tt
+
+within-and_then : (o : Outcome) (f : Act) (n : ℕ) → IsWithin n o → Shrinks f → IsWithin n (and_then o f)
+within-and_then (Ended l m) f n h s = within-more (f l m) l n h (s l m)
+within-and_then (Faulted e) f n h s = tt
+within-and_then OutOfTurns f n h s = tt
+
+within-with_value : (r : Result ℤ Fault) (go : ℤ → Outcome) (n : ℕ) → ((v : ℤ) → IsWithin n (go v)) → IsWithin n (with_value r Faulted go)
+within-with_value (Ok v) go n h = h v
+within-with_value (Err f) go n h = tt
+
+within-if : (b : Bool) (x y : Outcome) (n : ℕ) → IsWithin n x → IsWithin n y → IsWithin n (if b then x else y)
+within-if true x y n h k = h
+within-if false x y n h k = k
+
+take_turn-shrinks : (body again : Act) → Shrinks body → Shrinks again → Shrinks (take_turn body again)
+take_turn-shrinks body again s t zero m = tt
+take_turn-shrinks body again s t (suc n) m = within-more _ n (suc n) (omega arith) (within-and_then (body n m) again n (s n m) t)
+
+repeated-shrinks : (tests : ℕ) (cond : Memory → Result ℤ Fault) (body : Act) → Shrinks body → Shrinks (repeated tests cond body)
+unfolding repeated
+repeated-shrinks zero cond body s n m = tt
+repeated-shrinks (suc tests) cond body s n m =
+    within-with_value (cond m) _ n
+    (λ v. within-if (is_true v) (take_turn body (repeated tests cond body) n m) (Ended n m) n (take_turn-shrinks body (repeated tests cond body) s (repeated-shrinks tests cond body s) n m) (omega arith))
+
+store-shrinks : (vars : List StVar) (k : ℕ) (v : ℤ) → Shrinks (store vars k v)
+store-shrinks vars k v n m = within-if (is_within (type_at vars k) v) (Ended n (slice_set m k v)) (Faulted (subrange_left k v)) n (omega arith) tt
+
+mutual
+  pub exec-shrinks : (vars : List StVar) (ss : Stms) → Shrinks (λ n m. exec vars ss n m)
+  exec-shrinks vars no_stms n m = omega arith
+  exec-shrinks vars (stms s ss) n m = within-and_then (exec_one vars s n m) _ n (exec_one-shrinks vars s n m) (exec-shrinks vars ss)
+
+  exec_one-shrinks : (vars : List StVar) (s : Stm) → Shrinks (λ n m. exec_one vars s n m)
+  exec_one-shrinks vars (assign x e) n m = within-with_value (value_of vars e m) _ n (λ v. store-shrinks vars (place_of vars x) v n m)
+  exec_one-shrinks vars (choice bs o) n m = exec_choice-shrinks vars bs _ (exec_other-shrinks vars o) n m
+  exec_one-shrinks vars (loop c ss) n m = repeated-shrinks (suc n) _ _ (exec-shrinks vars ss) n m
+
+  exec_other-shrinks : (vars : List StVar) (o : Other) → Shrinks (λ n m. exec_other vars o n m)
+  exec_other-shrinks vars no_other n m = omega arith
+  exec_other-shrinks vars (other ss) n m = exec-shrinks vars ss n m
+
+  exec_choice-shrinks : (vars : List StVar) (bs : Branches) (last : Act) → Shrinks last → Shrinks (λ n m. exec_choice vars bs last n m)
+  exec_choice-shrinks vars no_branches last s n m = s n m
+  exec_choice-shrinks vars (branches c ss bs) last s n m =
+      within-with_value (value_of vars c m) _ n
+      (λ v. within-if (is_true v) (exec vars ss n m) (exec_choice vars bs last n m) n (exec-shrinks vars ss n m) (exec_choice-shrinks vars bs last s n m))
+
+-- where at most n turns are left, only those matter to what follows
+and_then-same : (o : Outcome) (n : ℕ) (f g : Act) → IsWithin n o → ((k : ℕ) (m : Memory) → k ≤ n → f k m ≡ g k m) → and_then o f ≡ and_then o g
+and_then-same (Ended k m) n f g w same = same k m w
+and_then-same (Faulted e) n f g w same = refl
+and_then-same OutOfTurns n f g w same = refl
+
+-- more tests than turns change nothing
+repeated-enough : (a b : ℕ) (cond : Memory → Result ℤ Fault) (body : Act) → Shrinks body → (n : ℕ) (m : Memory) → n < a → n < b → repeated a cond body n m ≡ repeated b cond body n m
+unfolding repeated
+repeated-enough zero b cond body s n m p q = absurd (omega arith)
+repeated-enough (suc a) zero cond body s n m p q = absurd (omega arith)
+repeated-enough (suc a) (suc b) cond body s zero m p q = refl
+repeated-enough (suc a) (suc b) cond body s (suc n) m p q =
+    ap (λ (o : Outcome). with_value (cond m) Faulted (λ v. if is_true v then o else Ended (suc n) m))
+    (and_then-same (body n m) n (repeated a cond body) (repeated b cond body) (s n m) (λ k x h. repeated-enough a b cond body s k x (omega arith) (omega arith)))
+
+stays-stopped : (e : ScanErr) (f : Act) → and_then (stopped e) f ≡ stopped e
+stays-stopped Overflow f = refl
+stays-stopped ZeroDivide f = refl
+stays-stopped (SubrangeLeft k v) f = refl
+stays-stopped Budget f = refl
+
+-- The equations of a loop.
+pub loop-fault : (cond : Memory → Result ℤ Fault) (body : Act) (n : ℕ) (m : Memory) (f : Fault) → cond m ≡ Err f → repeated (suc n) cond body n m ≡ Faulted f
+unfolding repeated
+loop-fault cond body n m f is = ap (λ r. with_value r Faulted (λ w. if is_true w then take_turn body (repeated n cond body) n m else Ended n m)) is
+
+pub loop-idle : (cond : Memory → Result ℤ Fault) (body : Act) (n : ℕ) (m : Memory) (v : ℤ) → cond m ≡ Ok v → is_true v ≡ false → repeated (suc n) cond body n m ≡ Ended n m
+unfolding repeated
+loop-idle cond body n m v is false_is =
+    ap (λ r. with_value r Faulted (λ w. if is_true w then take_turn body (repeated n cond body) n m else Ended n m)) is
+    ∙ ap (λ b. if b then take_turn body (repeated n cond body) n m else Ended n m) false_is
+
+loop-busy : (cond : Memory → Result ℤ Fault) (body : Act) (n : ℕ) (m : Memory) (v : ℤ) → cond m ≡ Ok v → is_true v ≡ true → repeated (suc n) cond body n m ≡ take_turn body (repeated n cond body) n m
+unfolding repeated
+loop-busy cond body n m v is true_is =
+    ap (λ r. with_value r Faulted (λ w. if is_true w then take_turn body (repeated n cond body) n m else Ended n m)) is
+    ∙ ap (λ b. if b then take_turn body (repeated n cond body) n m else Ended n m) true_is
+
+pub loop-out : (cond : Memory → Result ℤ Fault) (body : Act) (n : ℕ) (m : Memory) (v : ℤ) → cond m ≡ Ok v → is_true v ≡ true → n ≡ 0 → repeated (suc n) cond body n m ≡ OutOfTurns
+loop-out cond body zero m v is true_is e = loop-busy cond body zero m v is true_is
+loop-out cond body (suc n) m v is true_is e = absurd (omega arith)
+
+-- one more turn of a body of statements, and the loop as from its beginning
+pub loop-turn : (cond : Memory → Result ℤ Fault) (vars : List StVar) (ss : Stms) (n : ℕ) (m : Memory) (v : ℤ) → cond m ≡ Ok v → is_true v ≡ true → 0 < n
+    → repeated (suc n) cond (λ l k. exec vars ss l k) n m ≡ and_then (exec vars ss (n - 1) m) (λ l k. repeated (suc l) cond (λ i j. exec vars ss i j) l k)
+loop-turn cond vars ss zero m v is true_is some = absurd (omega arith)
+loop-turn cond vars ss (suc n) m v is true_is some =
+    let less : suc n - 1 ≡ n = omega arith in
+    loop-busy cond (λ l k. exec vars ss l k) (suc n) m v is true_is
+    ∙ and_then-same (exec vars ss n m) n _ (λ l k. repeated (suc l) cond (λ i j. exec vars ss i j) l k) (exec-shrinks vars ss n m)
+    (λ k x h. repeated-enough (suc n) (suc k) cond (λ i j. exec vars ss i j) (exec-shrinks vars ss) k x (omega arith) (omega arith))
+    ∙ ap (λ j. and_then (exec vars ss j m) (λ l k. repeated (suc l) cond (λ i j. exec vars ss i j) l k)) (sym less)
+
+-- a body that is stopped stops its loop
+pub loop-stopped : (cond : Memory → Result ℤ Fault) (vars : List StVar) (ss : Stms) (n : ℕ) (m k : Memory) (v : ℤ) (e : ScanErr) → cond m ≡ Ok v → is_true v ≡ true → 0 < n
+    → exec vars ss (n - 1) m ≡ outcome_of (Err e) k → repeated (suc n) cond (λ i j. exec vars ss i j) n m ≡ outcome_of (Err e) k
+loop-stopped cond vars ss n m k v e is true_is some stops =
+    loop-turn cond vars ss n m v is true_is some
+    ∙ ap (λ o. and_then o (λ i j. repeated (suc i) cond (λ x y. exec vars ss x y) i j)) stops
+    ∙ stays-stopped e _
+
+pub ruleset loops = (loop-fault, loop-idle, loop-out, loop-turn)

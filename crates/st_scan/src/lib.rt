@@ -1,0 +1,13 @@
+//! A machine that executes Structured Text programs scan by scan (IEC 61131-3).
+#![tactic(auto)]
+
+mod error;
+mod machine;
+mod names;
+mod statements;
+#[cfg(test)]
+mod tests;
+mod values;
+
+pub use error::ScanErr;
+pub use machine::Machine;
