@@ -10,8 +10,11 @@ mod text;
 mod types;
 
 pub use boxed::Boxed;
-pub use decimal::put_int;
+pub use decimal::{put_int, read_int};
 pub use items::Items;
 pub use memory::Memory;
 pub use text::Text;
 pub use types::{Span, Ty};
+
+#[cfg(test)]
+mod tests;

@@ -1,163 +1,231 @@
 -- What the clauses of the tool say, from a run that came to a status, where the answer is that status or want of memory.
-use Rattle.std.proofs.Common.{◌≡◌, ℕ, ◌<◌, ◌≤◌, ◌⊎◌, length, Option, Some, refl, sym, ap, subst, ◌∙◌, inl, inr, arith, take_all}
-use Rattle.std.specs.Prelude.{MatchOption, take}
+use Rattle.std.proofs.Common.{◌≡◌, ℕ, ◌≤◌, ◌⊎◌, ◌++◌, length, Option, Some, sym, ap, subst, ◌∙◌, inl, inr, arith, take_all}
+use Rattle.std.specs.Prelude.{take}
 use Rattle.grammar.specs.Pieces.{Text}
 use Rattle.cif_io.specs.Faults.{Rose}
 use Rattle.cif_io.specs.Written.{grown}
 use Rattle.cif_ast.specs.declared.plant.Plant.{Plant}
-use Rattle.cif_ast.specs.Plant.{ReadsAsPlant}
+use Rattle.st_ast.specs.Exec.{OutOfTurns}
+use Rattle.st_scan.specs.Endings.{stopped}
+use Rattle.st_scan.specs.declared.error.ScanErr.{ScanErr}
+use Rattle.st_scan.specs.declared.error.ScanErr.TheVariants as scan
+use Rattle.plc_rows.specs.declared.error.RowErr.{RowErr}
 use Rattle.cif_cli.specs.declared.status.Status.{Status}
 use Rattle.cif_cli.specs.declared.status.Status.TheVariants as status
 use Rattle.cif_cli.specs.declared.status.Refusal.{Refusal}
-use Rattle.cif_cli.specs.declared.status.Refusal.TheVariants as refusal
-use Rattle.cif_cli.specs.Command.{Command, IsCommand}
-use Rattle.cif_cli.proofs.CommandLemmas.{one_command}
-use Rattle.cif_cli.specs.Answers.{limit, Names, IsRefused, IsUnlessMemory, Generated, GrewByPart, Output, IsTextOf, IsTextFor, Call, Part, Ran}
+use Rattle.cif_cli.specs.declared.status.StRefusal.{StRefusal}
+use Rattle.cif_cli.specs.Command.{Generate, Replay, Asked, generate, replay, IsAsked, IsReplay}
+use Rattle.cif_cli.specs.Limits.{source_limit, st_limit}
+use Rattle.cif_cli.specs.Replaying.{IsStRefused, IsRowRefused, StopsAt, IsTableFor}
+use Rattle.cif_cli.proofs.CommandLemmas.{one_asked}
+use Rattle.cif_cli.specs.Answers.{Names, NamesBoth, IsRefused, IsUnlessMemory, Generated, GrewByPart, Output, IsTextOf, IsAnswer, OfBoth, Unread, Overlong, Call, Stops, Wrote, Ran, not_asked, stops, wrote}
 
 take_whole : (t : Text) → take (length t) t ≡ t
 take_whole t = take_all (length t) t (omega arith)
 
--- a text that reads as a plant is not refused
-impossible : (why : Refusal) (bytes : Text) (p : Plant) → IsRefused bytes why → ReadsAsPlant bytes p → ⊥
-impossible (refusal.NotRead at) bytes p h reads = h.1 p reads
+-- a part of one text is a part of an equal one
+pub part_of : (old new : Option Text) (slice text : Text) → slice ≡ text → (n : ℕ) × (n ≤ length slice) × (new ≡ grown old (take n slice))
+    → (n : ℕ) × (n ≤ length text) × (new ≡ grown old (take n text))
+part_of old new slice text e h = subst (λ t. (n : ℕ) × (n ≤ length t) × (new ≡ grown old (take n t))) e h
+
+-- nothing was written
+unchanged : (c : Call) (t : Status) → c.new ≡ c.old → Output c.words c.content c.old c.new t
+unchanged c status.Done e = tt
+unchanged c status.Usage e = e
+unchanged c (status.ReadFault k) e = e
+unchanged c status.WriteFault e = inl e
+unchanged c status.Memory e = inl e
+unchanged c (status.TooBig k) e = e
+unchanged c (status.Refused why) e = e
+unchanged c (status.StRefused why) e = e
+unchanged c (status.RowRefused why) e = e
+unchanged c (status.ScanFault k f) e = e
+unchanged c (status.Budget k) e = e
+
+module _ (c : Call) (a : Asked) (is : IsAsked c.words a) (text : Text) (answer : IsAnswer c.content a text) where
+  part : (n : ℕ) → n ≤ length text → c.new ≡ grown c.old (take n text) → GrewByPart c.words c.content c.old c.new
+  part n h e = inr (a, is, text, answer, n, h, e)
+
+  -- whatever became of the text, a part of it was written
+  wrote_part : (t : Status) → Wrote c text t → GrewByPart c.words c.content c.old c.new
+  wrote_part status.Done w = part (length text) (omega arith) (w ∙ ap (grown c.old) (sym (take_whole text)))
+  wrote_part status.WriteFault w = part w.1.0 w.1.1 w.1.2
+  wrote_part status.Memory w = part w.0 w.1 w.2
+  wrote_part status.Usage w = absurd w
+  wrote_part (status.ReadFault k) w = absurd w
+  wrote_part (status.TooBig k) w = absurd w
+  wrote_part (status.Refused why) w = absurd w
+  wrote_part (status.StRefused why) w = absurd w
+  wrote_part (status.RowRefused why) w = absurd w
+  wrote_part (status.ScanFault k f) w = absurd w
+  wrote_part (status.Budget k) w = absurd w
+
+  wrote_output : (t : Status) → Wrote c text t → Output c.words c.content c.old c.new t
+  wrote_output status.Done w = tt
+  wrote_output status.WriteFault w = wrote_part status.WriteFault w
+  wrote_output status.Memory w = wrote_part status.Memory w
+  wrote_output status.Usage w = absurd w
+  wrote_output (status.ReadFault k) w = absurd w
+  wrote_output (status.TooBig k) w = absurd w
+  wrote_output (status.Refused why) w = absurd w
+  wrote_output (status.StRefused why) w = absurd w
+  wrote_output (status.RowRefused why) w = absurd w
+  wrote_output (status.ScanFault k f) w = absurd w
+  wrote_output (status.Budget k) w = absurd w
 
 module _ (c : Call) (s r : Status) (ran : Ran c s) (same : IsUnlessMemory r s) where
   -- an answer other than want of memory is the status
-  came_to : (t : Status) → (t ≡ status.Memory → ⊥) → r ≡ t → Ran c t
-  came_to t other e = elim same [ inl q ↦ subst (Ran c) (sym q ∙ e) ran | inr q ↦ absurd (other (sym e ∙ q)) ]
+  came_to : (t : Status) → (t ≡ status.Memory → ⊥) → r ≡ t → s ≡ t
+  came_to t other e = elim same [ inl q ↦ sym q ∙ e | inr q ↦ absurd (other (sym e ∙ q)) ]
 
   -- where the run came to t, so is the answer, want of memory aside
-  answers : (t : Status) → s ≡ t → IsUnlessMemory r t
+  pub answers : (t : Status) → s ≡ t → IsUnlessMemory r t
   answers t e = elim same [ inl q ↦ inl (q ∙ e) | inr q ↦ inr q ]
 
-  pub usage : r ≡ status.Usage → (m : Command) → IsCommand c.words m → ⊥
-  usage e = (came_to status.Usage (λ q. cc) e).0
+  pub want : s ≡ status.Memory → r ≡ status.Memory
+  want is = elim same [ inl q ↦ q ∙ is | inr q ↦ q ]
 
-  pub read_fault : (k : ℕ) → r ≡ status.ReadFault k → (m : Command) × IsCommand c.words m × (k ≡ 1) × Rose (c.faults m.file) (c.faults_after m.file)
-  read_fault k e = let h = came_to (status.ReadFault k) (λ q. cc) e in (h.0, h.1, h.2, h.3)
+  abbrev Stopped : Asked → Status → Type 0
+  Stopped a t = Stops c.content c.faults c.faults_after c.most_after a t
+
+  -- a status to which only a command without a text comes
+  stopped_at : (t : Status) → (t ≡ status.Memory → ⊥) → (t ≡ status.Usage → ⊥) → ((text : Text) → Wrote c text t → ⊥) → r ≡ t
+      → (a : Asked) × IsAsked c.words a × Stopped a t
+  stopped_at t other usage none e = go ran
+    where
+      is : s ≡ t
+      is = came_to t other e
+
+      go : Ran c s → (a : Asked) × IsAsked c.words a × Stopped a t
+      go (not_asked nothing q w) = absurd (usage (sym is ∙ q))
+      go (stops a h why w) = (a, h, subst (Stopped a) is why)
+      go (wrote a h text answer w) = absurd (none text (subst (Wrote c text) is w))
+
+  pub usage : r ≡ status.Usage → (a : Asked) → IsAsked c.words a → ⊥
+  usage e = go ran
+    where
+      is : s ≡ status.Usage
+      is = came_to status.Usage (λ q. cc) e
+
+      go : Ran c s → (a : Asked) → IsAsked c.words a → ⊥
+      go (not_asked nothing q w) a h = nothing a h
+      go (stops b f why w) a h = subst (Stopped b) is why
+      go (wrote b f text answer w) a h = subst (Wrote c text) is w
+
+  pub read_fault : (k : ℕ) → r ≡ status.ReadFault k → (a : Asked) × IsAsked c.words a × Unread c.content c.faults c.faults_after a k
+  read_fault k e = stopped_at (status.ReadFault k) (λ q. cc) (λ q. cc) (λ t w. w) e
+
+  pub too_big : (k : ℕ) → r ≡ status.TooBig k → (a : Asked) × IsAsked c.words a × Overlong c.content c.most_after a k
+  too_big k e = stopped_at (status.TooBig k) (λ q. cc) (λ q. cc) (λ t w. w) e
 
   pub write_fault : r ≡ status.WriteFault → Rose c.out_faults c.out_faults_after
-  write_fault e = (came_to status.WriteFault (λ q. cc) e).2
-
-  pub too_big : (k : ℕ) → r ≡ status.TooBig k → (m : Command) × IsCommand c.words m × (k ≡ 1) × MatchOption (c.content m.file) (limit < c.most_after m.file) (λ b. limit < length b)
-  too_big k e = let h = came_to (status.TooBig k) (λ q. cc) e in (h.0, h.1, h.2, h.3)
-
-  same_file : (a b : Command) → IsCommand c.words a → IsCommand c.words b → c.content a.file ≡ c.content b.file
-  same_file a b e f = ap (λ (m : Command). c.content m.file) (one_command c.words a b e f)
-
-  pub refused : (why : Refusal) → r ≡ status.Refused why → (m : Command) (bytes : Text) → Names c.words c.content m bytes → (length bytes ≤ limit) × IsRefused bytes why
-  refused why e m bytes h = let q = came_to (status.Refused why) (λ z. cc) e in q.2 bytes (same_file q.0 m q.1 h.0 ∙ h.1)
-
-  -- the text of a run is one for the command of its words
-  text_for : (m a : Command) (bytes text : Text) → IsCommand c.words m → IsCommand c.words a → IsTextFor m.unc m.con bytes text → IsTextFor a.unc a.con bytes text
-  text_for m a bytes text e f h = subst (λ (x : Command). IsTextFor x.unc x.con bytes text) (one_command c.words m a e f) h
-
-  pub generated : (P : Command → Plant → Text → Type 0) → ((m : Command) (p : Plant) (text : Text) → IsTextOf m.unc m.con p text → P m p text)
-      → Generated r c.words c.content c.old c.new P
-  generated P from e m bytes h =
-      let q = came_to status.Done (λ z. cc) e in
-      let t = text_for q.0 m bytes q.2 q.1 h.0 (q.4 bytes (same_file q.0 m q.1 h.0 ∙ h.1)).1 in
-      (t.0, t.1, λ before w. (q.2, q.3 ∙ ap (λ o. grown o q.2) w, from m t.0 q.2 t.2))
-
-  -- ---- by the cases of the status
-
-  part-grew : Part c → GrewByPart c.words c.content c.old c.new
-  part-grew (inl e) = inl e
-  part-grew (inr p) = inr (p.0, p.1, p.2, p.3, λ m bytes h. let t = p.4 m bytes h in (t.0, t.1, t.2.program))
-
-  memory : r ≡ status.Memory → Output c.words c.content c.old c.new r
-  memory e = subst (Output c.words c.content c.old c.new) (sym e) (go s ran)
+  write_fault e = go ran
     where
-      go : (t : Status) → Ran c t → GrewByPart c.words c.content c.old c.new
-      go status.Done h = inr (
-        h.2,
-        length h.2,
-        omega arith,
-        h.3 ∙ ap (grown c.old) (sym (take_whole h.2)),
-        λ m bytes q. let t = (h.4 bytes (same_file h.0 m h.1 q.0 ∙ q.1)).1 in (t.0, t.1, t.2.program),
-      )
-      go status.Usage h = inl h.1
-      go (status.ReadFault k) h = inl h.4
-      go status.WriteFault h = part-grew h.3
-      go status.Memory h = part-grew h
-      go (status.TooBig k) h = inl h.4
-      go (status.Refused why) h = inl h.3
+      is : s ≡ status.WriteFault
+      is = came_to status.WriteFault (λ q. cc) e
+
+      go : Ran c s → Rose c.out_faults c.out_faults_after
+      go (not_asked nothing q w) = absurd (let z : status.Usage ≡ status.WriteFault = sym q ∙ is in cc)
+      go (stops a h why w) = absurd (subst (Stopped a) is why)
+      go (wrote a h text answer w) = (subst (Wrote c text) is w).0
+
+  -- ---- generate
+
+  pub refused : (why : Refusal) → r ≡ status.Refused why → (g : Generate) (bytes : Text) → Names c.words c.content g bytes
+      → (length bytes ≤ source_limit) × IsRefused bytes why
+  refused why e g bytes h =
+      let q = stopped_at (status.Refused why) (λ z. cc) (λ z. cc) (λ t w. w) e in
+      let one = one_asked c.words q.0 (generate g) q.1 h.0 in
+      (subst (λ a. Stopped a (status.Refused why)) one q.2) bytes h.1
+
+  pub generated : (P : Generate → Plant → Text → Type 0) → ((g : Generate) (p : Plant) (text : Text) → IsTextOf g.unc g.con p text → P g p text)
+      → Generated r c.words c.content c.old c.new P
+  generated P from e g bytes h = go ran
+    where
+      is : s ≡ status.Done
+      is = came_to status.Done (λ q. cc) e
+
+      go : Ran c s → (p : Plant) × Rattle.cif_ast.specs.Plant.ReadsAsPlant bytes p
+          × ((before : Text) → c.old ≡ Some before → (text : Text) × (c.new ≡ Some (before ++ text)) × P g p text)
+      go (not_asked nothing q w) = absurd (nothing (generate g) h.0)
+      go (stops a f why w) = absurd (subst (Stopped a) is why)
+      go (wrote a f text answer w) =
+          let t = (subst (λ b. IsAnswer c.content b text) (one_asked c.words a (generate g) f h.0) answer bytes h.1).1 in
+          (t.0, t.1, λ before z. (text, subst (Wrote c text) is w ∙ ap (λ o. grown o text) z, from g t.0 text t.2))
+
+  -- ---- replay
+
+  replays : (t : Status) → (a : Asked) × IsAsked c.words a × Stopped a t → ((g : Generate) → Stopped (generate g) t → ⊥)
+      → (r : Replay) × IsReplay c.words r × Stopped (replay r) t
+  replays t q none = go q.0 q.1 q.2
+    where
+      go : (a : Asked) → IsAsked c.words a → Stopped a t → (r : Replay) × IsReplay c.words r × Stopped (replay r) t
+      go (generate g) h w = absurd (none g w)
+      go (replay x) h w = (x, h, w)
+
+  pub program_refused : (why : StRefusal) → r ≡ status.StRefused why → (x : Replay) × IsReplay c.words x
+      × ((st : Text) → c.content x.st ≡ Some st → (length st ≤ st_limit) × IsStRefused st why)
+  program_refused why e = replays (status.StRefused why) (stopped_at (status.StRefused why) (λ z. cc) (λ z. cc) (λ t w. w) e) (λ g w. w)
+
+  pub rows_refused : (why : RowErr) → r ≡ status.RowRefused why → (x : Replay) × IsReplay c.words x
+      × OfBoth c.content x (λ st rows. IsRowRefused rows why)
+  rows_refused why e = replays (status.RowRefused why) (stopped_at (status.RowRefused why) (λ z. cc) (λ z. cc) (λ t w. w) e) (λ g w. w)
+
+  pub scan_fault : (k : ℕ) (f : ScanErr) → r ≡ status.ScanFault k f → (x : Replay) × IsReplay c.words x
+      × (f ≡ scan.Budget → ⊥) × OfBoth c.content x (λ st rows. StopsAt st rows k (stopped f))
+  scan_fault k f e =
+      let q = replays (status.ScanFault k f) (stopped_at (status.ScanFault k f) (λ z. cc) (λ z. cc) (λ t w. w) e) (λ g w. w) in
+      (q.0, q.1, q.2.0, q.2.1)
+
+  pub budget : (k : ℕ) → r ≡ status.Budget k → (x : Replay) × IsReplay c.words x
+      × OfBoth c.content x (λ st rows. StopsAt st rows k OutOfTurns)
+  budget k e = replays (status.Budget k) (stopped_at (status.Budget k) (λ z. cc) (λ z. cc) (λ t w. w) e) (λ g w. w)
+
+  pub replayed : r ≡ status.Done → (x : Replay) (st rows : Text) → NamesBoth c.words c.content x st rows
+      → (text : Text) × IsTableFor st rows text × ((before : Text) → c.old ≡ Some before → c.new ≡ Some (before ++ text))
+  replayed e x st rows h = go ran
+    where
+      is : s ≡ status.Done
+      is = came_to status.Done (λ q. cc) e
+
+      go : Ran c s → (text : Text) × IsTableFor st rows text × ((before : Text) → c.old ≡ Some before → c.new ≡ Some (before ++ text))
+      go (not_asked nothing q w) = absurd (nothing (replay x) h.0)
+      go (stops a f why w) = absurd (subst (Stopped a) is why)
+      go (wrote a f text answer w) =
+          let t = subst (λ b. IsAnswer c.content b text) (one_asked c.words a (replay x) f h.0) answer in
+          (text, (t.1 st rows h.1 h.2).1, λ before z. subst (Wrote c text) is w ∙ ap (λ o. grown o text) z)
+
+  -- ---- what was written
+
+  memory : GrewByPart c.words c.content c.old c.new
+  memory = go ran
+    where
+      go : Ran c s → GrewByPart c.words c.content c.old c.new
+      go (not_asked nothing q w) = inl w
+      go (stops a h why w) = inl w
+      go (wrote a h text answer w) = wrote_part c a h text answer s w
 
   pub output : Output c.words c.content c.old c.new r
-  output = elim same [ inl e ↦ subst (Output c.words c.content c.old c.new) (sym e) (go s ran) | inr e ↦ memory e ]
+  output = elim same [ inl e ↦ subst (Output c.words c.content c.old c.new) (sym e) (go ran) | inr e ↦ subst (Output c.words c.content c.old c.new) (sym e) memory ]
     where
-      go : (t : Status) → Ran c t → Output c.words c.content c.old c.new t
-      go status.Done h = tt
-      go status.Usage h = h.1
-      go (status.ReadFault k) h = h.4
-      go status.WriteFault h = part-grew h.3
-      go status.Memory h = part-grew h
-      go (status.TooBig k) h = h.4
-      go (status.Refused why) h = h.3
+      go : Ran c s → Output c.words c.content c.old c.new s
+      go (not_asked nothing q w) = unchanged c s w
+      go (stops a h why w) = unchanged c s w
+      go (wrote a h text answer w) = wrote_output c a h text answer s w
 
-  pub no_command : ((m : Command) → IsCommand c.words m → ⊥) → IsUnlessMemory r status.Usage
-  no_command e = go s refl ran
+  pub no_command : ((a : Asked) → IsAsked c.words a → ⊥) → IsUnlessMemory r status.Usage
+  no_command none = go ran
     where
-      none : (m : Command) → IsCommand c.words m → IsUnlessMemory r status.Usage
-      none m f = absurd (e m f)
+      go : Ran c s → IsUnlessMemory r status.Usage
+      go (not_asked nothing q w) = answers status.Usage q
+      go (stops a h why w) = absurd (none a h)
+      go (wrote a h text answer w) = absurd (none a h)
 
-      go : (t : Status) → s ≡ t → Ran c t → IsUnlessMemory r status.Usage
-      go status.Done is h = none h.0 h.1
-      go status.Usage is h = answers status.Usage is
-      go (status.ReadFault k) is h = none h.0 h.1
-      go status.WriteFault is h = none h.0 h.1
-      go status.Memory is h = inr (elim same [ inl q ↦ q ∙ is | inr q ↦ q ])
-      go (status.TooBig k) is h = none h.0 h.1
-      go (status.Refused why) is h = none h.0 h.1
-
-  module _ (m : Command) (bytes : Text) (names : Names c.words c.content m bytes) (sure : Rose (c.faults m.file) (c.faults_after m.file) → ⊥) where
-    not_usage : ((a : Command) → IsCommand c.words a → ⊥) → ⊥
-    not_usage e = e m names.0
-
-    told : (a : Command) → IsCommand c.words a → c.content a.file ≡ Some bytes
-    told a f = same_file a m f names.0 ∙ names.1
-
-    faulty : (a : Command) → IsCommand c.words a → Rose (c.faults a.file) (c.faults_after a.file) → ⊥
-    faulty a f rose = sure (subst (λ (x : Command). Rose (c.faults x.file) (c.faults_after x.file)) (one_command c.words a m f names.0) rose)
-
-    long : (a : Command) → IsCommand c.words a → MatchOption (c.content a.file) (limit < c.most_after a.file) (λ b. limit < length b) → limit < length bytes
-    long a f q = subst (λ (o : Option Text). MatchOption o (limit < c.most_after a.file) (λ b. limit < length b)) (told a f) q
-
-    want : s ≡ status.Memory → r ≡ status.Memory
-    want is = elim same [ inl q ↦ q ∙ is | inr q ↦ q ]
-
-    pub longer_is_too_big : limit < length bytes → IsUnlessMemory r (status.TooBig 1)
-    longer_is_too_big more = go s refl ran
-      where
-        go : (t : Status) → s ≡ t → Ran c t → IsUnlessMemory r (status.TooBig 1)
-        go status.Done is h = let q = (h.4 bytes (told h.0 h.1)).0 in absurd (omega arith)
-        go status.Usage is h = absurd (not_usage h.0)
-        go (status.ReadFault k) is h = absurd (faulty h.0 h.1 h.3)
-        go status.WriteFault is h = let q = h.4 bytes (told h.0 h.1) in absurd (omega arith)
-        go status.Memory is h = inr (want is)
-        go (status.TooBig k) is h = answers (status.TooBig 1) (is ∙ ap (λ j. status.TooBig j) h.2)
-        go (status.Refused why) is h = let q = (h.2 bytes (told h.0 h.1)).0 in absurd (omega arith)
-
-    pub other_text_is_refused : length bytes ≤ limit → (Rose c.out_faults c.out_faults_after → ⊥) → ((p : Plant) → ReadsAsPlant bytes p → ⊥) → ((why : Refusal) × (r ≡ status.Refused why)) ⊎ (r ≡ status.Memory)
-    other_text_is_refused fits quiet none = go s refl ran
-      where
-        go : (t : Status) → s ≡ t → Ran c t → ((why : Refusal) × (r ≡ status.Refused why)) ⊎ (r ≡ status.Memory)
-        go status.Done is h = let q = (h.4 bytes (told h.0 h.1)).1 in absurd (none q.0 q.1)
-        go status.Usage is h = absurd (not_usage h.0)
-        go (status.ReadFault k) is h = absurd (faulty h.0 h.1 h.3)
-        go status.WriteFault is h = absurd (quiet h.2)
-        go status.Memory is h = inr (want is)
-        go (status.TooBig k) is h = let q = long h.0 h.1 h.3 in absurd (omega arith)
-        go (status.Refused why) is h = elim (answers (status.Refused why) is) [ inl q ↦ inl (why, q) | inr q ↦ inr q ]
-
-    pub plant_is_done : length bytes ≤ limit → (Rose c.out_faults c.out_faults_after → ⊥) → (p : Plant) → ReadsAsPlant bytes p → IsUnlessMemory r status.Done
-    plant_is_done fits quiet p reads = go s refl ran
-      where
-        go : (t : Status) → s ≡ t → Ran c t → IsUnlessMemory r status.Done
-        go status.Done is h = answers status.Done is
-        go status.Usage is h = absurd (not_usage h.0)
-        go (status.ReadFault k) is h = absurd (faulty h.0 h.1 h.3)
-        go status.WriteFault is h = absurd (quiet h.2)
-        go status.Memory is h = inr (want is)
-        go (status.TooBig k) is h = let q = long h.0 h.1 h.3 in absurd (omega arith)
-        go (status.Refused why) is h = absurd (impossible why bytes p (h.2 bytes (told h.0 h.1)).1 reads)
+  -- what became of a command
+  pub of_asked : (a : Asked) → IsAsked c.words a → Stopped a s ⊎ ((text : Text) × IsAnswer c.content a text × Wrote c text s)
+  of_asked a h = go ran
+    where
+      go : Ran c s → Stopped a s ⊎ ((text : Text) × IsAnswer c.content a text × Wrote c text s)
+      go (not_asked nothing q w) = absurd (nothing a h)
+      go (stops b f why w) = inl (subst (λ x. Stopped x s) (one_asked c.words b a f h) why)
+      go (wrote b f text answer w) = inr (text, subst (λ x. IsAnswer c.content x text) (one_asked c.words b a f h) answer, w)

@@ -1,12 +1,22 @@
 -- The command line.
-use Rattle.std.specs.Prelude.{◌≡◌, ◌≤◌, ◌⊎◌, ℕ, List, [], ◌∷◌, codes, decimal}
+use Rattle.std.specs.Prelude.{◌≡◌, ◌≤◌, ◌+◌, ◌⊎◌, ℕ, List, [], ◌∷◌, codes, decimal}
 use Rattle.grammar.specs.Pieces.{Text}
 
--- what is asked for: the file, and the most rounds of uncontrollable and of controllable events in a scan
-pub record Command : Type 0 where
+-- what `generate` is asked for: the file, and the most rounds of uncontrollable and of controllable events in a scan
+pub record Generate : Type 0 where
   pub file : Text
   pub unc : ℕ
   pub con : ℕ
+
+-- what `replay` is asked for: the files of the program and of the rows
+pub record Replay : Type 0 where
+  pub st : Text
+  pub rows : Text
+
+-- what words ask for
+pub data Asked : Type 0 where
+  generate : Generate → Asked
+  replay : Replay → Asked
 
 -- the rounds of a class that no option names
 abbrev pub default_rounds : ℕ
@@ -27,8 +37,26 @@ AreOptions (o ∷ v ∷ p ∷ w ∷ []) unc con = ((o ≡ codes "--unc") × IsRo
     ⊎ ((o ≡ codes "--con") × IsRounds v con × (p ≡ codes "--unc") × IsRounds w unc)
 AreOptions (o ∷ v ∷ p ∷ w ∷ x ∷ ws) unc con = ⊥
 
--- `generate FILE [--unc N] [--con N]`. FILE is any word that isn't empty. Other words are no command line.
-abbrev pub IsCommand : List Text → Command → Type 0
-IsCommand [] c = ⊥
-IsCommand (w ∷ []) c = ⊥
-IsCommand (w ∷ f ∷ ws) c = (w ≡ codes "generate") × (f ≡ [] → ⊥) × (c.file ≡ f) × AreOptions ws c.unc c.con
+-- `generate FILE [--unc N] [--con N]`. FILE is any word that isn't empty.
+abbrev pub IsGenerate : List Text → Generate → Type 0
+IsGenerate [] g = ⊥
+IsGenerate (w ∷ []) g = ⊥
+IsGenerate (w ∷ f ∷ ws) g = (w ≡ codes "generate") × (f ≡ [] → ⊥) × (g.file ≡ f) × AreOptions ws g.unc g.con
+
+-- `replay ST ROWS`. ST and ROWS are any words that aren't empty.
+abbrev pub IsReplay : List Text → Replay → Type 0
+IsReplay [] r = ⊥
+IsReplay (w ∷ []) r = ⊥
+IsReplay (w ∷ s ∷ []) r = ⊥
+IsReplay (w ∷ s ∷ t ∷ []) r = (w ≡ codes "replay") × (s ≡ [] → ⊥) × (t ≡ [] → ⊥) × (r.st ≡ s) × (r.rows ≡ t)
+IsReplay (w ∷ s ∷ t ∷ x ∷ ws) r = ⊥
+
+-- the command lines; other words are none
+abbrev pub IsAsked : List Text → Asked → Type 0
+IsAsked words (generate g) = IsGenerate words g
+IsAsked words (replay r) = IsReplay words r
+
+-- both classes have at most 20,000 rounds, fewer than a scan has loop turns
+abbrev pub IsBounded : Asked → Type 0
+IsBounded (generate g) = g.unc + g.con ≤ 20000
+IsBounded (replay r) = Unit {0}

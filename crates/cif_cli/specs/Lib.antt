@@ -1,6 +1,10 @@
 pub mod Command
 pub mod Asked
 pub mod Codes
+pub mod Limits
 pub mod Lines
+pub mod Replaying
 pub mod Answers
 pub mod Refusals
+pub mod Ends
+pub mod Scanning

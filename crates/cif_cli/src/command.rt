@@ -1,17 +1,18 @@
 //! The command line, which is read by hand.
 
 ghost use Rattle.std.specs.Prelude.{◌≡◌, ◌∷◌, [], ℕ, IfSome, None, map, string_bytes};
-ghost use Rattle.cif_cli.specs.Command.{AreOptions, Command, IsCommand, IsRounds};
-ghost use Rattle.cif_cli.specs.Asked.{command};
+ghost use Rattle.cif_cli.specs.Command as spec;
+ghost use Rattle.cif_cli.specs.Command.{AreOptions, IsAsked, IsBounded, IsGenerate, IsReplay, IsRounds};
+ghost use Rattle.cif_cli.specs.Asked.{asked, generate_of, replay_of};
 
-use itoa::Buffer;
+use cif_base::read_int;
 use plc_gen::Bounds;
 
 /// The rounds of a class that no option names.
 const ROUNDS: u32 = 100;
 
 /// The most rounds that an option gives.
-const MOST_ROUNDS: u32 = 10_000;
+const MOST_ROUNDS: i64 = 10_000;
 
 /// What `generate` is asked for.
 #[derive(Drop)]
@@ -20,21 +21,33 @@ pub struct Generate<'a> {
     pub bounds: Bounds,
 }
 
+/// What `replay` is asked for.
+#[derive(Drop)]
+pub struct Replay<'a> {
+    pub st: &'a str,
+    pub rows: &'a str,
+}
+
+/// What words ask for.
+#[derive(Drop)]
+pub enum Command<'a> {
+    Generate(Generate<'a>),
+    Replay(Replay<'a>),
+}
+
 /// A number of rounds in canonical decimal.
 fn rounds_of(word: &str) -> Option<u32>
     ensures some { IfSome result (λ n. IsRounds word.now n) }
     ensures none { result ≡ None → (n : ℕ) → IsRounds word.now n → ⊥ }
 {
-    let rounds = word.parse::<u32>().ok()?;
-    if rounds == 0 || rounds > MOST_ROUNDS {
+    let rounds = read_int(word.as_bytes())?;
+    if rounds < 1 {
         return None;
     }
-    let mut buffer = Buffer::new();
-    if buffer.format(rounds) == word {
-        Some(rounds)
-    } else {
-        None
+    if rounds > MOST_ROUNDS {
+        return None;
     }
+    Some(rounds as u32)
 }
 
 /// The bounds of one option and its number.
@@ -103,10 +116,10 @@ fn bounds_of(words: &[String]) -> Option<Bounds>
     }
 }
 
-/// What the words ask for, by `generate FILE [--unc N] [--con N]`; `None` where they are no command line.
-pub fn read_words(words: &[String]) -> Option<Generate<'_>>
-    ensures some { IfSome result (λ c. IsCommand (map string_bytes words.now) (command c)) }
-    ensures none { result ≡ None → (c : Command) → IsCommand (map string_bytes words.now) c → ⊥ }
+/// What `generate FILE [--unc N] [--con N]` asks for.
+fn read_generate(words: &[String]) -> Option<Generate<'_>>
+    ensures some { IfSome result (λ g. IsGenerate (map string_bytes words.now) (generate_of g)) }
+    ensures none { result ≡ None → (g : spec.Generate) → IsGenerate (map string_bytes words.now) g → ⊥ }
 {
     match words {
         [] | [_] => None,
@@ -120,5 +133,37 @@ pub fn read_words(words: &[String]) -> Option<Generate<'_>>
                 bounds,
             })
         }
+    }
+}
+
+/// What `replay ST ROWS` asks for.
+fn read_replay(words: &[String]) -> Option<Replay<'_>>
+    ensures some { IfSome result (λ r. IsReplay (map string_bytes words.now) (replay_of r)) }
+    ensures none { result ≡ None → (r : spec.Replay) → IsReplay (map string_bytes words.now) r → ⊥ }
+{
+    match words {
+        [command, st, rows] => {
+            if command.as_str() != "replay" || st.as_str().is_empty() || rows.as_str().is_empty() {
+                return None;
+            }
+            Some(Replay {
+                st: st.as_str(),
+                rows: rows.as_str(),
+            })
+        }
+        [] | [_] | [_, _] | [_, _, _, _, ..] => None,
+    }
+}
+
+/// What the words ask for; `None` where they are no command line.
+#[tactic(auto, using(crate::proofs::CommandLemmas::bounded))]
+pub fn read_words(words: &[String]) -> Option<Command<'_>>
+    ensures some { IfSome result (λ c. IsAsked (map string_bytes words.now) (asked c)) }
+    ensures bounded { IfSome result (λ c. IsBounded (asked c)) }
+    ensures none { result ≡ None → (a : spec.Asked) → IsAsked (map string_bytes words.now) a → ⊥ }
+{
+    match read_generate(words) {
+        Some(asked) => Some(Command::Generate(asked)),
+        None => Some(Command::Replay(read_replay(words)?)),
     }
 }

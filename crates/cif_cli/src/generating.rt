@@ -1,14 +1,23 @@
 //! From the bytes of a source to the text of its program.
 
 ghost use Rattle.std.specs.Prelude.{◌≡◌, ◌≤◌, ◌+◌, IfOk, IfErr, length};
-ghost use Rattle.cif_cli.specs.Answers.{IsTextFor, TextEnds};
+ghost use Rattle.cif_cli.specs.Answers.{IsAnswer, IsTextFor, Stops};
+ghost use Rattle.cif_cli.specs.Asked.{generate_of};
+ghost use Rattle.cif_cli.specs.Command as spec;
+ghost use Rattle.cif_cli.specs.Ends.{TextEnds};
 ghost use Rattle.cif_cli.specs.Refusals.{status_of};
 
+use crate::command::Generate;
+use crate::reading::read_file;
 use crate::status::{Refusal, Status};
 use cif_form::{ReadError, number_plant, read_plant};
+use cif_io::Files;
 use plc_back::generate_text;
 use plc_gen::Bounds;
 use std::alloc::Global;
+
+/// The most bytes of a source.
+const LIMIT: u64 = 4_194_304;
 
 /// How a call ends whose source is not read.
 fn status_of(error: ReadError) -> Status
@@ -23,7 +32,7 @@ fn status_of(error: ReadError) -> Status
 }
 
 /// The text of the program of the plant that a source reads as, with these most rounds of each class in a scan.
-pub fn program_text(alloc: Global, source: &[u8], bounds: Bounds) -> Result<Vec<u8>, Status>
+fn program_text(alloc: Global, source: &[u8], bounds: Bounds) -> Result<Vec<u8>, Status>
     requires size { length source.now ≤ 4194304 }
     requires turns { bounds.unc + bounds.con ≤ 1000000 }
     ensures text { IfOk result (λ text. IsTextFor bounds.unc bounds.con source.now text.items) }
@@ -41,4 +50,18 @@ pub fn program_text(alloc: Global, source: &[u8], bounds: Bounds) -> Result<Vec<
         Ok(text) => Ok(text),
         Err(_) => Err(Status::Memory),
     }
+}
+
+/// The text of the program of the file that is asked for.
+pub fn generated_text<F: Files>(
+    alloc: Global,
+    asked: &Generate<'_>,
+    files: &mut F,
+) -> Result<Vec<u8>, Status>
+    requires { asked.now.bounds.unc + asked.now.bounds.con ≤ 20000 }
+    ensures answer { IfOk result (λ text. IsAnswer (F.content files.old) (spec.generate (generate_of asked.now)) text.items) }
+    ensures stops { IfErr result (Stops (F.content files.old) (F.faults files.old) (F.faults files.new) (F.most files.new) (spec.generate (generate_of asked.now))) }
+{
+    let source = read_file(alloc, 1, asked.file, LIMIT, files)?;
+    program_text(alloc, source.as_slice(), asked.bounds)
 }

@@ -1,10 +1,14 @@
-//! The command-line tool `cif`: Structured Text programs (IEC 61131-3) from CIF sources, with what is proved of their
-//! scans as the contract of `tool`.
+//! The command-line tool `cif`: Structured Text programs (IEC 61131-3) from CIF sources, and their scans over rows, with
+//! what is proved of both as the contract of `tool`.
 #![tactic(auto)]
 
 mod command;
+mod ended;
 mod generating;
+mod reading;
+mod replaying;
 mod running;
+mod scanning;
 mod status;
 mod telling;
 #[cfg(test)]
@@ -12,7 +16,7 @@ mod tests;
 
 use cif_io::{HostFiles, HostSink};
 pub use running::tool;
-pub use status::{Refusal, Status, code};
+pub use status::{Refusal, StRefusal, Status, code};
 use std::process::ExitCode;
 use std::{env, io};
 

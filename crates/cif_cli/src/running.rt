@@ -1,53 +1,56 @@
 //! The top call: from the words of a command line to a status, through files and sinks.
 
-ghost use Rattle.std.specs.Prelude.{◌≡◌, ◌<◌, ◌≤◌, ◌⊎◌, ℕ, List, None, Some, map, string_bytes, length, IfOk, IfErr, IfSome, MatchOption};
+ghost use Rattle.std.specs.Prelude.{◌≡◌, ◌<◌, ◌≤◌, ◌⊎◌, ◌++◌, ℕ, ℤ, List, None, Some, map, string_bytes, length, IfOk, IfErr};
 ghost use Rattle.cif_io.specs.Faults.{Rose};
 ghost use Rattle.cif_ast.specs.declared.plant.Plant.{Plant};
 ghost use Rattle.cif_ast.specs.Plant.{ReadsAsPlant};
 ghost use Rattle.cif_ast.specs.Numbers.{numbered};
+ghost use Rattle.st_ast.specs.ReadsAs.{ReadsAsProgram};
+ghost use Rattle.st_ast.specs.Scan.{start_memory};
+ghost use Rattle.st_ast.specs.Tree.{Program};
+ghost use Rattle.st_ast.specs.Exec.{OutOfTurns};
+ghost use Rattle.st_scan.specs.Endings.{stopped};
+ghost use Rattle.st_scan.specs.declared.error.ScanErr.{ScanErr};
+ghost use Rattle.plc_rows.specs.Rows.{RowsOf};
+ghost use Rattle.plc_rows.specs.declared.error.RowErr.{RowErr};
 ghost use Rattle.plc_back.specs.Texts.{TheProgram, IsProgramOf, NeverFaults, RunsFirstSteps, ScansLegally, ScansExactly};
 ghost use Rattle.cif_cli.specs.declared.status.Refusal.{Refusal};
-ghost use Rattle.cif_cli.specs.Command.{Command, IsCommand};
-ghost use Rattle.cif_cli.specs.Answers.{Generated, IsRefused, IsUnlessMemory, Names, Output, Ran, ReadEnds, Told, limit};
-ghost use Rattle.cif_cli.specs.Refusals.{read_status_of};
+ghost use Rattle.cif_cli.specs.declared.status.StRefusal.{StRefusal};
+ghost use Rattle.cif_cli.specs.Asked.{asked};
+ghost use Rattle.cif_cli.specs.Command.{Asked, Generate, Replay, IsAsked, IsBounded, IsReplay};
+ghost use Rattle.cif_cli.specs.Answers.{Generated, IsAnswer, IsNameIn, IsRefused, IsUnlessMemory, Names, NamesBoth, OfBoth, Output, Overlong, Quiet, Ran, Stops, Told, Unread, status_of_scan};
+ghost use Rattle.cif_cli.specs.Ends.{IsNameFor};
+ghost use Rattle.cif_cli.specs.Limits.{source_limit, st_limit, rows_limit};
+ghost use Rattle.cif_cli.specs.Replaying.{AllEnd, ComesTo, IsRowRefused, IsStRefused, IsTableFor, Reads, StopsAt};
 
-use crate::command::read_words;
-use crate::generating::program_text;
+use crate::command::{Command, read_words};
+use crate::ended::Ended;
+use crate::generating::generated_text;
+use crate::replaying::replayed_text;
 use crate::status::Status;
 use crate::telling::report;
-use cif_io::{FileErr, Files, Sink, SinkErr, put_all};
+use cif_io::{Files, Sink, SinkErr, put_all};
 use std::alloc::Global;
 
-/// The most bytes of a source.
-const LIMIT: u64 = 4_194_304;
-
-/// How a call ends that did not read the file of its word 1.
-fn read_status(error: FileErr) -> Status
-    ensures { result ≡ read_status_of error }
+/// The text of what is asked for.
+fn text_of<F: Files>(alloc: Global, command: &Command<'_>, files: &mut F) -> Result<Vec<u8>, Ended>
+    requires { IsBounded (asked command.now) }
+    ensures answer { IfOk result (λ text. IsAnswer (F.content files.old) (asked command.now) text.items) }
+    ensures stops { IfErr result (λ e. Stops (F.content files.old) (F.faults files.old) (F.faults files.new) (F.most files.new) (asked command.now) e.status) }
+    ensures named { IfErr result (λ e. IsNameFor (F.content files.old) (asked command.now) e.status e.variable) }
 {
-    match error {
-        FileErr::Failed => Status::ReadFault { word: 1 },
-        FileErr::TooBig { .. } => Status::TooBig { word: 1 },
-        FileErr::Memory => Status::Memory,
-    }
-}
-
-/// Reads the file of word 1.
-fn read_source<F: Files>(alloc: Global, name: &str, files: &mut F) -> Result<Vec<u8>, Status>
-    ensures whole { IfOk result (λ source. IfSome (F.content files.old name.now) (λ b. source.items ≡ b)) }
-    ensures within { IfOk result (λ source. length source.items ≤ 4194304) }
-    ensures ends { IfErr result (ReadEnds (F.content files.old name.now) (F.faults files.old name.now) (F.faults files.new name.now) (F.most files.new name.now)) }
-{
-    let mut source = Vec::new(alloc);
-    match files.read(name, LIMIT, &mut source) {
-        Ok(()) => Ok(source),
-        Err(error) => Err(read_status(error)),
+    match command {
+        Command::Generate(asked) => match generated_text(alloc, asked, files) {
+            Ok(text) => Ok(text),
+            Err(status) => Err(Ended::plain(alloc, status)),
+        },
+        Command::Replay(asked) => replayed_text(alloc, asked, files),
     }
 }
 
 /// Runs a command, up to what is told on the standard error.
-fn run<F: Files, O: Sink>(alloc: Global, words: &[String], files: &mut F, out: &mut O) -> Status
-    ensures { Ran (record {
+fn run<F: Files, O: Sink>(alloc: Global, words: &[String], files: &mut F, out: &mut O) -> Ended
+    ensures ran { Ran (record {
       words = map string_bytes words.now;
       content = F.content files.old;
       faults = F.faults files.old;
@@ -57,24 +60,22 @@ fn run<F: Files, O: Sink>(alloc: Global, words: &[String], files: &mut F, out: &
       new = O.written out.new;
       out_faults = O.faults out.old;
       out_faults_after = O.faults out.new;
-    }) result }
+    }) result.status }
+    ensures named { IsNameIn (map string_bytes words.now) (F.content files.old) result.status result.variable }
 {
-    let Some(asked) = read_words(words) else {
-        return Status::Usage;
+    let Some(command) = read_words(words) else {
+        return Ended::plain(alloc, Status::Usage);
     };
-    let source = match read_source(alloc, asked.file, files) {
-        Ok(source) => source,
-        Err(status) => return status,
-    };
-    let text = match program_text(alloc, source.as_slice(), asked.bounds) {
+    let text = match text_of(alloc, &command, files) {
         Ok(text) => text,
-        Err(status) => return status,
+        Err(ended) => return ended,
     };
-    match put_all(out, text.as_slice()) {
+    let status = match put_all(out, text.as_slice()) {
         Ok(()) => Status::Done,
         Err(SinkErr::Failed) => Status::WriteFault,
         Err(SinkErr::Memory) => Status::Memory,
-    }
+    };
+    Ended::plain(alloc, status)
 }
 
 /// Runs the command of the words after the program's name. Nothing goes to `out` before the whole text is built.
@@ -82,6 +83,9 @@ fn run<F: Files, O: Sink>(alloc: Global, words: &[String], files: &mut F, out: &
 /// `generate FILE [--unc N] [--con N]` reads a source with one plant automaton (CIF 3 language reference) and writes a
 /// Structured Text program (IEC 61131-3) that makes its scans, with at most N rounds of uncontrollable and of controllable
 /// events in a scan: 1 to 10,000, and 100 where the option is left out.
+///
+/// `replay ST ROWS` reads a Structured Text program and a file of rows, makes a scan for each row, and writes the table of the
+/// program's outputs after each.
 pub fn tool<F: Files, O: Sink, E: Sink>(
     alloc: Global,
     words: &[String],
@@ -90,61 +94,112 @@ pub fn tool<F: Files, O: Sink, E: Sink>(
     err: &mut E,
 ) -> Status
     // The words.
-    ensures usage { result ≡ Status.Usage → (c : Command) → IsCommand (map string_bytes words.now) c → ⊥ }
-    ensures no_command_is_usage { ((c : Command) → IsCommand (map string_bytes words.now) c → ⊥) →
+    ensures usage { result ≡ Status.Usage → (a : Asked) → IsAsked (map string_bytes words.now) a → ⊥ }
+    ensures no_command_is_usage { ((a : Asked) → IsAsked (map string_bytes words.now) a → ⊥) →
         IsUnlessMemory result Status.Usage }
 
-    // The file and the output.
-    ensures read_fault { (k : ℕ) → result ≡ Status.ReadFault k → (c : Command)
-        × IsCommand (map string_bytes words.now) c × (k ≡ 1)
-        × Rose (F.faults files.old c.file) (F.faults files.new c.file) }
+    // The files and the output.
+    ensures read_fault { (k : ℕ) → result ≡ Status.ReadFault k → (a : Asked) × IsAsked (map string_bytes words.now) a
+        × Unread (F.content files.old) (F.faults files.old) (F.faults files.new) a k }
     ensures write_fault { result ≡ Status.WriteFault → Rose (O.faults out.old) (O.faults out.new) }
-    ensures too_big { (k : ℕ) → result ≡ Status.TooBig k → (c : Command)
-        × IsCommand (map string_bytes words.now) c × (k ≡ 1)
-        × MatchOption (F.content files.old c.file) (limit < F.most files.new c.file) (λ b. limit < length b) }
-    ensures longer_is_too_big { (c : Command) (bytes : List ℕ) →
-        Names (map string_bytes words.now) (F.content files.old) c bytes →
-        (Rose (F.faults files.old c.file) (F.faults files.new c.file) → ⊥) →
-        limit < length bytes → IsUnlessMemory result (Status.TooBig 1) }
+    ensures too_big { (k : ℕ) → result ≡ Status.TooBig k → (a : Asked) × IsAsked (map string_bytes words.now) a
+        × Overlong (F.content files.old) (F.most files.new) a k }
+    ensures longer_is_too_big { (g : Generate) (bytes : List ℕ) →
+        Names (map string_bytes words.now) (F.content files.old) g bytes →
+        (Rose (F.faults files.old g.file) (F.faults files.new g.file) → ⊥) →
+        source_limit < length bytes → IsUnlessMemory result (Status.TooBig 1) }
+    ensures longer_program_is_too_big { (r : Replay) (st : List ℕ) →
+        IsReplay (map string_bytes words.now) r → F.content files.old r.st ≡ Some st →
+        (Rose (F.faults files.old r.st) (F.faults files.new r.st) → ⊥) →
+        st_limit < length st → IsUnlessMemory result (Status.TooBig 1) }
+    ensures longer_rows_are_too_big { (r : Replay) (st rows : List ℕ) →
+        NamesBoth (map string_bytes words.now) (F.content files.old) r st rows →
+        Quiet r (F.faults files.old) (F.faults files.new) → length st ≤ st_limit → Reads st →
+        rows_limit < length rows → IsUnlessMemory result (Status.TooBig 2) }
 
-    // The source: it is refused exactly where it reads as no plant, and else its program is written.
-    ensures refused { (why : Refusal) → result ≡ Status.Refused why → (c : Command) (bytes : List ℕ) →
-        Names (map string_bytes words.now) (F.content files.old) c bytes →
-        (length bytes ≤ limit) × IsRefused bytes why }
-    ensures other_text_is_refused { (c : Command) (bytes : List ℕ) →
-        Names (map string_bytes words.now) (F.content files.old) c bytes →
-        (Rose (F.faults files.old c.file) (F.faults files.new c.file) → ⊥) → length bytes ≤ limit →
-        (Rose (O.faults out.old) (O.faults out.new) → ⊥) → ((p : Plant) → ReadsAsPlant bytes p → ⊥) →
+    // The source of `generate`: it is refused exactly where it reads as no plant, and else its program is written.
+    ensures refused { (why : Refusal) → result ≡ Status.Refused why → (g : Generate) (bytes : List ℕ) →
+        Names (map string_bytes words.now) (F.content files.old) g bytes →
+        (length bytes ≤ source_limit) × IsRefused bytes why }
+    ensures other_text_is_refused { (g : Generate) (bytes : List ℕ) →
+        Names (map string_bytes words.now) (F.content files.old) g bytes →
+        (Rose (F.faults files.old g.file) (F.faults files.new g.file) → ⊥) → length bytes ≤ source_limit →
+        ((p : Plant) → ReadsAsPlant bytes p → ⊥) →
         ((why : Refusal) × (result ≡ Status.Refused why)) ⊎ (result ≡ Status.Memory) }
-    ensures plant_is_done { (c : Command) (bytes : List ℕ) →
-        Names (map string_bytes words.now) (F.content files.old) c bytes →
-        (Rose (F.faults files.old c.file) (F.faults files.new c.file) → ⊥) → length bytes ≤ limit →
+    ensures plant_is_done { (g : Generate) (bytes : List ℕ) →
+        Names (map string_bytes words.now) (F.content files.old) g bytes →
+        (Rose (F.faults files.old g.file) (F.faults files.new g.file) → ⊥) → length bytes ≤ source_limit →
         (Rose (O.faults out.old) (O.faults out.new) → ⊥) → (p : Plant) → ReadsAsPlant bytes p →
         IsUnlessMemory result Status.Done }
+
+    // The program of `replay`: it is refused exactly where it reads as none.
+    ensures program_refused { (why : StRefusal) → result ≡ Status.StRefused why → (r : Replay)
+        × IsReplay (map string_bytes words.now) r
+        × ((st : List ℕ) → F.content files.old r.st ≡ Some st → (length st ≤ st_limit) × IsStRefused st why) }
+    ensures other_program_is_refused { (r : Replay) (st : List ℕ) →
+        IsReplay (map string_bytes words.now) r → F.content files.old r.st ≡ Some st →
+        (Rose (F.faults files.old r.st) (F.faults files.new r.st) → ⊥) → length st ≤ st_limit →
+        ((p : Program) → ReadsAsProgram st p → ⊥) →
+        ((why : StRefusal) × (result ≡ Status.StRefused why)) ⊎ (result ≡ Status.Memory) }
+
+    // The rows of `replay`: the first rule that they break is told.
+    ensures rows_refused { (why : RowErr) → result ≡ Status.RowRefused why → (r : Replay)
+        × IsReplay (map string_bytes words.now) r
+        × OfBoth (F.content files.old) r (λ st rows. IsRowRefused rows why) }
+    ensures other_rows_are_refused { (r : Replay) (st rows : List ℕ) →
+        NamesBoth (map string_bytes words.now) (F.content files.old) r st rows →
+        Quiet r (F.faults files.old) (F.faults files.new) → length st ≤ st_limit → length rows ≤ rows_limit →
+        (p : Program) → ReadsAsProgram st p → (why : RowErr) → IsRowRefused rows why →
+        IsUnlessMemory result (Status.RowRefused why) }
+
+    // The scans of `replay`: the first that ends in a fault, or out of turns, is told, and else their table is written.
+    ensures scan_fault { (k : ℕ) (e : ScanErr) → result ≡ Status.ScanFault k e → (r : Replay)
+        × IsReplay (map string_bytes words.now) r
+        × (e ≡ ScanErr.Budget → ⊥) × OfBoth (F.content files.old) r (λ st rows. StopsAt st rows k (stopped e)) }
+    ensures budget { (k : ℕ) → result ≡ Status.Budget k → (r : Replay)
+        × IsReplay (map string_bytes words.now) r
+        × OfBoth (F.content files.old) r (λ st rows. StopsAt st rows k OutOfTurns) }
+    ensures stopped_scan_is_told { (r : Replay) (st rows : List ℕ) →
+        NamesBoth (map string_bytes words.now) (F.content files.old) r st rows →
+        Quiet r (F.faults files.old) (F.faults files.new) → length st ≤ st_limit → length rows ≤ rows_limit →
+        (p : Program) → ReadsAsProgram st p → (rs : List (List ℤ)) → RowsOf rows rs →
+        (k : ℕ) (e : ScanErr) → ComesTo p (start_memory p) rs k (stopped e) →
+        IsUnlessMemory result (status_of_scan k e) }
+    ensures replay_is_done { (r : Replay) (st rows : List ℕ) →
+        NamesBoth (map string_bytes words.now) (F.content files.old) r st rows →
+        Quiet r (F.faults files.old) (F.faults files.new) → length st ≤ st_limit → length rows ≤ rows_limit →
+        (Rose (O.faults out.old) (O.faults out.new) → ⊥) →
+        (p : Program) → ReadsAsProgram st p → (rs : List (List ℤ)) → RowsOf rows rs → AllEnd p rs →
+        IsUnlessMemory result Status.Done }
+    ensures replayed { result ≡ Status.Done → (r : Replay) (st rows : List ℕ) →
+        NamesBoth (map string_bytes words.now) (F.content files.old) r st rows →
+        (text : List ℕ) × IsTableFor st rows text
+        × ((before : List ℕ) → O.written out.old ≡ Some before → O.written out.new ≡ Some (before ++ text)) }
 
     // What is written.
     ensures output { Output (map string_bytes words.now) (F.content files.old)
         (O.written out.old) (O.written out.new) result }
-    ensures told { Told (map string_bytes words.now) (E.written err.old) (E.written err.new)
+    ensures told { Told (map string_bytes words.now) (F.content files.old) (E.written err.old) (E.written err.new)
         (Rose (E.faults err.old) (E.faults err.new)) result }
 
-    // After Done: what was written is a program of the plant, and every list of its scans is one of the plant's scans.
+    // After Done of `generate`: what was written is a program of the plant, and every list of its scans is one of the plant's
+    // scans.
     ensures program { Generated result (map string_bytes words.now) (F.content files.old)
         (O.written out.old) (O.written out.new)
-        (λ c p text. TheProgram text (IsProgramOf (numbered p))) }
+        (λ g p text. TheProgram text (IsProgramOf (numbered p))) }
     ensures never_faults { Generated result (map string_bytes words.now) (F.content files.old)
         (O.written out.old) (O.written out.new)
-        (λ c p text. TheProgram text (NeverFaults (numbered p))) }
+        (λ g p text. TheProgram text (NeverFaults (numbered p))) }
     ensures runs_first_steps { Generated result (map string_bytes words.now) (F.content files.old)
         (O.written out.old) (O.written out.new)
-        (λ c p text. TheProgram text (RunsFirstSteps (numbered p))) }
+        (λ g p text. TheProgram text (RunsFirstSteps (numbered p))) }
     ensures scans_legally { Generated result (map string_bytes words.now) (F.content files.old)
         (O.written out.old) (O.written out.new)
-        (λ c p text. TheProgram text (ScansLegally c.unc c.con (numbered p))) }
+        (λ g p text. TheProgram text (ScansLegally g.unc g.con (numbered p))) }
     ensures scans_exactly { Generated result (map string_bytes words.now) (F.content files.old)
         (O.written out.old) (O.written out.new)
-        (λ c p text. TheProgram text (ScansExactly c.unc c.con (numbered p))) }
+        (λ g p text. TheProgram text (ScansExactly g.unc g.con (numbered p))) }
 {
-    let status = run(alloc, words, files, out);
-    report(alloc, words, status, err)
+    let ended = run(alloc, words, files, out);
+    report(alloc, words, ended, err)
 }

@@ -1,13 +1,27 @@
 //! How a call of the tool ends.
 
 ghost use Rattle.std.specs.Prelude.{◌≡◌, ◌↔◌, IsTrue};
-ghost use Rattle.cif_cli.specs.Codes.{code_of, place_of};
+ghost use Rattle.cif_cli.specs.Codes.{code_of};
+
+use plc_rows::RowErr;
+use st_check::StCheckErr;
+use st_read::StErr;
+use st_scan::ScanErr;
 
 /// Why a source is refused, with the byte place in it, counted from 0.
 #[derive(Clone, Copy, Debug, PartialEq, Eq)]
 pub enum Refusal {
     /// The text is no source that the tool reads.
     NotRead { at: u32 },
+}
+
+/// Why a text is refused that should be a program of Structured Text.
+#[derive(Clone, Copy, Debug, PartialEq, Eq)]
+pub enum StRefusal {
+    /// It is not read.
+    Text(StErr),
+    /// It breaks a check.
+    Check(StCheckErr),
 }
 
 /// How a call of the tool ends. `word` is the number of a word of the command line, counted from 0.
@@ -27,17 +41,14 @@ pub enum Status {
     TooBig { word: u32 },
     /// The source is refused.
     Refused { why: Refusal },
-}
-
-impl Refusal {
-    /// The byte place in the source.
-    pub fn at(&self) -> u32
-        ensures { result ≡ place_of self.now }
-    {
-        match self {
-            Refusal::NotRead { at } => *at,
-        }
-    }
+    /// The text is refused as a program of Structured Text.
+    StRefused { why: StRefusal },
+    /// The rows are refused.
+    RowRefused { why: RowErr },
+    /// The scan of that row, counted from 1, ends in a fault.
+    ScanFault { row: u32, fault: ScanErr },
+    /// The scan of that row, counted from 1, takes more loop turns than a scan has.
+    Budget { row: u32 },
 }
 
 impl Status {
@@ -63,5 +74,9 @@ pub fn code(status: &Status) -> u8
         Status::Memory => 5,
         Status::TooBig { .. } => 6,
         Status::Refused { .. } => 7,
+        Status::StRefused { .. } => 9,
+        Status::RowRefused { .. } => 10,
+        Status::ScanFault { .. } => 11,
+        Status::Budget { .. } => 12,
     }
 }

@@ -1,10 +1,12 @@
 //! The worked examples, through the top call.
 
-use crate::{Refusal, Status, tool};
+use crate::{Refusal, StRefusal, Status, tool};
 use cif_base::Text;
 use cif_io::{MemFile, MemFiles, MemSink};
-use st_read::read;
-use st_scan::Machine;
+use plc_rows::RowErr;
+use st_check::StCheckErr;
+use st_read::StErr;
+use st_scan::ScanErr;
 use std::test::Fail;
 
 const SOURCE: &[u8] =
@@ -51,12 +53,12 @@ struct Outcome {
     err: MemSink,
 }
 
-/// Calls the tool on the words, separated by blanks, with one file `a.cif`. The numbered reads and writes fail, and a
-/// write takes at most so many bytes.
-fn call(
+/// Calls the tool on the words, separated by blanks, with these files. The numbered reads and writes fail, and a write
+/// takes at most so many bytes.
+fn call_with(
     rt: &HostRuntime,
     words: &str,
-    source: &[u8],
+    sources: &[(&str, &[u8])],
     failing_read: Option<u32>,
     failing_write: Option<u32>,
     at_most: usize,
@@ -66,9 +68,12 @@ fn call(
     for word in words.split_whitespace() {
         list.push(String::from_str(alloc, word)?)?;
     }
-    let name = Text::from_slice(alloc, b"a.cif")?;
-    let bytes = Text::from_slice(alloc, source)?;
-    let held = vec![in alloc; MemFile { name, bytes }]?;
+    let mut held = Vec::new(alloc);
+    for (name, source) in sources {
+        let name = Text::from_slice(alloc, name.as_bytes())?;
+        let bytes = Text::from_slice(alloc, source)?;
+        held.push(MemFile { name, bytes })?;
+    }
     let mut failing_reads = Vec::new(alloc);
     if let Some(read) = failing_read {
         failing_reads.push(read)?;
@@ -82,6 +87,25 @@ fn call(
     let mut err = MemSink::new(alloc, 7, Vec::new(alloc));
     let status = tool(alloc, list.as_slice(), &mut files, &mut out, &mut err);
     Ok(Outcome { status, out, err })
+}
+
+/// The same with one file `a.cif`.
+fn call(
+    rt: &HostRuntime,
+    words: &str,
+    source: &[u8],
+    failing_read: Option<u32>,
+    failing_write: Option<u32>,
+    at_most: usize,
+) -> Result<Outcome, Fail> {
+    let sources = [("a.cif", source)];
+    call_with(rt, words, &sources, failing_read, failing_write, at_most)
+}
+
+/// Replays a program over rows.
+fn replay(rt: &HostRuntime, st: &[u8], rows: &[u8]) -> Result<Outcome, Fail> {
+    let sources = [("f.st", st), ("r.csv", rows)];
+    call_with(rt, "replay f.st r.csv", &sources, None, None, 16)
 }
 
 #[test]
@@ -219,17 +243,9 @@ fn other_options_are_no_command_line(rt: HostRuntime) -> Result<(), Fail> {
     Ok(())
 }
 
-/// Makes a scan, and gives the value of the variable with this number; `None` where the scan fails.
-fn value_after_scan(machine: &mut Machine<'_>, variable: u32) -> Option<i64> {
-    if machine.scan(&[]).is_err() || variable as usize >= machine.program().vars.len() {
-        return None;
-    }
-    Some(machine.value(variable))
-}
-
 #[test]
 fn the_written_program_makes_the_scans_of_the_source(rt: HostRuntime) -> Result<(), Fail> {
-    let outcome = call(
+    let written = call(
         &rt,
         "generate a.cif --unc 3 --con 3",
         SOURCE,
@@ -237,18 +253,187 @@ fn the_written_program_makes_the_scans_of_the_source(rt: HostRuntime) -> Result<
         None,
         16,
     )?;
+    assert_eq!(rt; written.status, Status::Done);
+    let outcome = replay(&rt, written.out.as_slice(), b"scan\n1\n2\n")?;
     assert_eq!(rt; outcome.status, Status::Done);
-    let text = outcome.out.as_slice();
-    assert!(rt; text.len() <= 16_777_216);
-    let program = read(rt.alloc(), text)?;
-    assert!(rt; program.vars.len() == 4);
-    let mut machine = Machine::new(rt.alloc(), &program)?;
-    for scan in 1..=3u8 {
-        assert_eq!(rt;
-            value_after_scan(&mut machine, 3),
-            Some(0),
-            "in scan {scan}"
-        );
+    assert_eq!(rt; outcome.out.as_slice(), b"scan,P0_A\n1,0\n2,0\n".as_slice());
+    assert_eq!(rt; outcome.err.as_slice(), b"".as_slice());
+    Ok(())
+}
+
+#[test]
+fn other_words_of_replay_are_no_command_line(rt: HostRuntime) -> Result<(), Fail> {
+    for words in [
+        "replay",
+        "replay f.st",
+        "replay f.st r.csv x",
+        "Replay f.st r.csv",
+    ] {
+        let outcome = call_with(&rt, words, &[], None, None, 16)?;
+        assert_eq!(rt; outcome.status, Status::Usage, "at {words}");
     }
+    Ok(())
+}
+
+#[test]
+fn each_refused_program_has_its_line(rt: HostRuntime) -> Result<(), Fail> {
+    let rows = [
+        (
+            "PROGRAM p # END_PROGRAM",
+            StRefusal::Text(StErr::StBadByte { at: 10 }),
+            "31 StBadByte at 10",
+        ),
+        (
+            "PROGRAM p x := 9223372036854775808; END_PROGRAM",
+            StRefusal::Text(StErr::StNumberTooBig { at: 15 }),
+            "32 StNumberTooBig at 15",
+        ),
+        (
+            "PROGRAM p (* END_PROGRAM",
+            StRefusal::Text(StErr::StOpenComment { at: 10 }),
+            "33 StOpenComment at 10",
+        ),
+        (
+            "PROGRAM p END_IF",
+            StRefusal::Text(StErr::StNotRead { at: 10 }),
+            "34 StNotRead at 10",
+        ),
+        (
+            "PROGRAM p x := 1; END_PROGRAM",
+            StRefusal::Check(StCheckErr::StUnknown { statement: 0 }),
+            "35 StUnknown statement 0",
+        ),
+        (
+            "PROGRAM p VAR x : LINT; X : BOOL; END_VAR END_PROGRAM",
+            StRefusal::Check(StCheckErr::StDuplicate { variable: 1 }),
+            "36 StDuplicate variable X",
+        ),
+        (
+            "PROGRAM p VAR x : BOOL; END_VAR x := 1; END_PROGRAM",
+            StRefusal::Check(StCheckErr::StMismatch { statement: 0 }),
+            "37 StMismatch statement 0",
+        ),
+        (
+            "PROGRAM p VAR x : LINT (0..3) := 4; END_VAR END_PROGRAM",
+            StRefusal::Check(StCheckErr::StInitRange { variable: 0 }),
+            "39 StInitRange variable x",
+        ),
+    ];
+    for (st, why, told) in rows {
+        // The rows are not there: a file after a refused one is not read.
+        let sources = [("f.st", st.as_bytes())];
+        let outcome = call_with(&rt, "replay f.st r.csv", &sources, None, None, 16)?;
+        assert_eq!(rt; outcome.status, Status::StRefused { why }, "at {st}");
+        let alloc = rt.alloc();
+        let line = format!(in alloc; "cif: f.st: {told}\n")?;
+        assert_eq!(rt; outcome.err.as_slice(), line.as_bytes(), "at {st}");
+        assert_eq!(rt; outcome.out.as_slice(), b"".as_slice(), "at {st}");
+    }
+    Ok(())
+}
+
+#[test]
+fn each_broken_row_has_its_line(rt: HostRuntime) -> Result<(), Fail> {
+    // The scan of each row would fail: rows are judged before any scan.
+    let st = b"PROGRAM p WHILE TRUE DO END_WHILE; END_PROGRAM";
+    let rows = [
+        ("", RowErr::Header { column: 1 }, "44 Header column 1"),
+        (
+            "Scan\n2\n",
+            RowErr::Header { column: 1 },
+            "44 Header column 1",
+        ),
+        (
+            "scan,x\n",
+            RowErr::Header { column: 2 },
+            "44 Header column 2",
+        ),
+        (
+            "scan\n1\n3\n",
+            RowErr::Cell { row: 2, column: 1 },
+            "45 Cell row 2 column 1",
+        ),
+        (
+            "scan\n1\n2,2\n",
+            RowErr::RowLength { row: 2 },
+            "46 RowLength row 2",
+        ),
+    ];
+    for (text, why, told) in rows {
+        let outcome = replay(&rt, st, text.as_bytes())?;
+        assert_eq!(rt; outcome.status, Status::RowRefused { why }, "at {text}");
+        let alloc = rt.alloc();
+        let line = format!(in alloc; "cif: r.csv: {told}\n")?;
+        assert_eq!(rt; outcome.err.as_slice(), line.as_bytes(), "at {text}");
+    }
+    Ok(())
+}
+
+#[test]
+fn each_stopped_scan_has_its_line(rt: HostRuntime) -> Result<(), Fail> {
+    let left = ScanErr::SubrangeLeft {
+        variable: 0,
+        value: 4,
+    };
+    let rows = [
+        (
+            "PROGRAM p WHILE TRUE DO END_WHILE; END_PROGRAM",
+            Status::Budget { row: 1 },
+            "row 1: 43 Budget",
+        ),
+        (
+            "PROGRAM p VAR x : LINT (0..3) := 2; END_VAR X := x + 1; END_PROGRAM",
+            Status::ScanFault {
+                row: 2,
+                fault: left,
+            },
+            "row 2: 42 SubrangeLeft variable x value 4",
+        ),
+        (
+            "PROGRAM p VAR x : LINT := 9223372036854775806; END_VAR x := x + 1; END_PROGRAM",
+            Status::ScanFault {
+                row: 2,
+                fault: ScanErr::Overflow,
+            },
+            "row 2: 40 Overflow",
+        ),
+    ];
+    for (st, status, told) in rows {
+        let outcome = replay(&rt, st.as_bytes(), b"scan\n1\n2\n3\n")?;
+        assert_eq!(rt; outcome.status, status, "at {st}");
+        let alloc = rt.alloc();
+        let line = format!(in alloc; "cif: f.st: {told}\n")?;
+        assert_eq!(rt; outcome.err.as_slice(), line.as_bytes(), "at {st}");
+        assert_eq!(rt; outcome.out.as_slice(), b"".as_slice(), "at {st}");
+    }
+    Ok(())
+}
+
+#[test]
+fn faults_of_the_files_of_replay_are_told(rt: HostRuntime) -> Result<(), Fail> {
+    let st = b"program P var_output b : bool; end_var B := true; end_program".as_slice();
+    let rows = b"scan\n1\n".as_slice();
+    let both = [("f.st", st), ("r.csv", rows)];
+    for (read, word, line) in [
+        (0, 1, "cif: cannot read f.st\n"),
+        (1, 2, "cif: cannot read r.csv\n"),
+    ] {
+        let outcome = call_with(&rt, "replay f.st r.csv", &both, Some(read), None, 16)?;
+        assert_eq!(rt; outcome.status, Status::ReadFault { word });
+        assert_eq!(rt; outcome.err.as_slice(), line.as_bytes());
+    }
+    let outcome = call_with(&rt, "replay f.st r.csv", &both, None, Some(1), 6)?;
+    assert_eq!(rt; outcome.status, Status::WriteFault);
+    assert_eq!(rt; outcome.out.as_slice(), b"scan,b".as_slice());
+    let outcome = call_with(&rt, "replay f.st r.csv", &both, None, None, 6)?;
+    assert_eq!(rt; outcome.status, Status::Done);
+    assert_eq!(rt; outcome.out.as_slice(), b"scan,b\n1,TRUE\n".as_slice());
+    let long = vec![in rt.alloc(); b' '; 16_777_217]?;
+    let outcome = replay(&rt, long.as_slice(), rows)?;
+    assert_eq!(rt; outcome.status, Status::TooBig { word: 1 });
+    assert_eq!(rt;
+        outcome.err.as_slice(),
+        b"cif: f.st is longer than 16777216 bytes\n".as_slice()
+    );
     Ok(())
 }

@@ -1,28 +1,17 @@
 -- What a program shows of a plant: its inputs and outputs, and the state that a memory stands for.
-use Rattle.std.specs.Prelude.{◌≡◌, ℕ, ◌-◌, pos, [], ◌∷◌, filter, slice_get, Some, true, false, Bool}
+use Rattle.std.specs.Prelude.{◌≡◌, ℕ, ◌-◌, pos, [], ◌∷◌, filter, slice_get, Some}
 use Rattle.st_ast.specs.Tree.{Program}
 use Rattle.st_ast.specs.Names.{place_of}
 use Rattle.st_ast.specs.Values.{Memory}
+use Rattle.st_ast.specs.Scan.{is_input}
+use Rattle.st_ast.specs.Interface.{is_output}
 use Rattle.st_ast.specs.declared.tree.StVar.{StVar}
 use Rattle.st_ast.specs.declared.tree.StTy.TheVariants as ty
-use Rattle.st_ast.specs.declared.tree.StClass.{StClass}
 use Rattle.st_ast.specs.declared.tree.StClass.TheVariants as class
 use Rattle.cif_system.specs.System.{State, IsState}
 use Rattle.cif_ast.specs.declared.numbered.NumberedPlant.{NumberedPlant}
 use Rattle.cif_ast.specs.Meaning.{system_of_numbered}
 use Rattle.plc_gen.specs.Emitted.{place_name, place_output}
-
-abbrev pub is_input : StClass → Bool
-is_input class.Input = true
-is_input class.Plain = false
-is_input class.Constant = false
-is_input class.Output = false
-
-abbrev pub is_output : StClass → Bool
-is_output class.Output = true
-is_output class.Plain = false
-is_output class.Constant = false
-is_output class.Input = false
 
 -- no inputs, and the place of the automaton as the one output
 pub record HasInterface (n : NumberedPlant) (p : Program) : Type 0 where

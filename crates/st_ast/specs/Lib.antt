@@ -8,3 +8,4 @@ pub mod ReadsAs
 pub mod Values
 pub mod Exec
 pub mod Scan
+pub mod Interface

@@ -1,61 +1,170 @@
--- A loop that finds tokens one by one, beside the recursion.
-use Rattle.std.proofs.Common.{◌≡◌, ◌==◌, ℕ, true, zero, suc, ◌≤◌, List, [], ◌∷◌, ◌++◌, length, Option, Some, None, refl, sym, ap, ◌∙◌, append_assoc, append-nil, arith}
+-- A loop that takes tokens from the front of a text, piece by piece.
+use Rattle.std.proofs.Common.{◌≡◌, ◌==◌, ◌&&◌, ◌||◌, Bool, true, false, ◌+◌, ◌-◌, ◌≤◌, ◌<◌, List, [], ◌∷◌, ◌++◌, length, All, Option, Some, None, Ok, Err, refl, sym, ap, subst, ◌∙◌, append-nil, arith, codes, filter_map}
 use Rattle.std.proofs.lemmas.Bool.Decides.{nat_tests}
-use Rattle.grammar.specs.Pieces.{Text}
-use Rattle.st_ast.specs.Tokens.{Token}
-use Rattle.st_read.specs.Lexing.{Front, front_of, with_token, then_lexed, lexed_from, lexed, before}
-use Rattle.st_read.proofs.Fronts.{front_shorter}
+use Rattle.std.proofs.lemmas.List.{length-append}
+use Rattle.std.proofs.lemmas.List.Elements.{All-nil, All-push, filter_map-append}
+use Rattle.grammar.specs.Pieces.{Text, IsLongest, Pieces}
+use Rattle.st_ast.specs.Tokens.{Token, Piece, blank, comment, word, number, sign, piece, is_sign, opens_comment, token_of}
+use Rattle.st_lex.proofs.CuttingLaws.{piece_cuts}
+use Rattle.st_read.specs.declared.found.Fault.{Fault}
+use Rattle.st_read.specs.declared.found.Fault.TheVariants as f
+use Rattle.st_read.specs.declared.error.StErr.{StErr}
+use Rattle.st_read.specs.Lexing.{Halts, front_of, refusal_of, IsInRange, Lexes}
+use Rattle.st_read.specs.Refusals.{Begun, Front, BadByteDue, NumberTooBigDue, OpenCommentDue, RefusalDue}
+use Rattle.st_read.proofs.Fronts.{sign_bytes, sign_is}
+use Rattle.st_read.proofs.FoundLaws.{Takes, takes, bad_byte, big_number, open_comment, none_closes}
 
--- more turns than bytes change nothing
-enough : (n m : ℕ) (text : Text) → length text ≤ n → length text ≤ m → lexed_from n text ≡ lexed_from m text
-unfolding lexed_from
-enough n m [] l k = refl
-enough zero m (b ∷ text) l k = absurd (omega arith)
-enough (suc n) zero (b ∷ text) l k = absurd (omega arith)
-enough (suc n) (suc m) (b ∷ text) l k = go (front_of (b ∷ text)) refl (λ rest low high. enough n m rest low high)
+begun_more : (ps : List Piece) (p : Piece) (text rest x more : Text) → Begun piece ps text rest → piece p x → IsLongest piece x rest → rest ≡ x ++ more
+    → Begun piece (ps ++ p ∷ []) text more
+begun_more [] p text rest x more b is longest e = (x, more, is, subst (λ (u : Text). IsLongest piece x u) (sym b) longest, b ∙ e, refl)
+begun_more (q ∷ ps) p text rest x more b is longest e = (b.0, b.1, b.2, b.3, b.4, begun_more ps p b.1 rest x more b.5 is longest e)
+
+-- what is left is no longer
+begun_short : (ps : List Piece) (text rest : Text) → Begun piece ps text rest → length rest ≤ length text
+begun_short [] text rest b = let e : length text ≡ length rest = ap (λ (u : Text). length u) b in omega arith
+begun_short (p ∷ ps) text rest b =
+    let ih = begun_short ps b.1 rest b.5 in
+    let e : length text ≡ length b.0 + length b.1 = ap (λ (u : Text). length u) b.4 ∙ length-append b.0 b.1 in
+    omega arith
+
+-- ---- `(` directly before `*`
+
+-- whether the last piece is `(`
+abbrev ends_open : List Piece → Bool
+ends_open [] = false
+ends_open (p ∷ []) = is_sign (codes "(") p
+ends_open (p ∷ q ∷ ps) = ends_open (q ∷ ps)
+
+ends_more : (ps : List Piece) (p : Piece) → ends_open (ps ++ p ∷ []) ≡ is_sign (codes "(") p
+ends_more [] p = refl
+ends_more (q ∷ []) p = refl
+ends_more (q ∷ r ∷ ps) p = ends_more (r ∷ ps) p
+
+or_false : (x y : Bool) → (x || y) ≡ false → (x ≡ false) × (y ≡ false)
+or_false true y e = absurd cc
+or_false false y e = (refl, e)
+
+both_false : (x y z : Bool) → (x ≡ true → y ≡ true → ⊥) → z ≡ false → (x && y || z) ≡ false
+both_false true true z h e = absurd (h refl refl)
+both_false true false z h e = e
+both_false false y z h e = e
+
+or_both : (x y : Bool) → x ≡ false → y ≡ false → (x || y) ≡ false
+or_both true y e h = absurd cc
+or_both false y e h = h
+
+closed_more : (ps : List Piece) (p : Piece) → opens_comment ps ≡ false → (ends_open ps ≡ true → is_sign (codes "*") p ≡ true → ⊥) → opens_comment (ps ++ p ∷ []) ≡ false
+closed_more [] p e h = refl
+closed_more (q ∷ []) p e h = both_false (is_sign (codes "(") q) (is_sign (codes "*") p) false h refl
+closed_more (q ∷ r ∷ ps) p e h =
+    let m = or_false (is_sign (codes "(") q && is_sign (codes "*") r) (opens_comment (r ∷ ps)) e in
+    or_both (is_sign (codes "(") q && is_sign (codes "*") r) (opens_comment ((r ∷ ps) ++ p ∷ [])) m.0 (closed_more (r ∷ ps) p m.1 h)
+
+-- ---- the tokens before the rest of a text
+
+pub record Taken (text rest : Text) (tokens : List Token) : Type 0 where
+  pub pieces : List Piece
+  pub cut : Begun piece pieces text rest
+  pub closed : opens_comment pieces ≡ false
+  -- no `*` comes directly after `(`
+  pub apart : ends_open pieces ≡ true → (more : Text) → rest ≡ 42 ∷ more → ⊥
+  pub in_range : All IsInRange pieces
+  pub are : tokens ≡ filter_map token_of pieces
+
+pub taken_none : (text : Text) → Taken text text []
+taken_none text = record { pieces = []; cut = refl; closed = refl; apart = λ e more g. cc; in_range = All-nil IsInRange; are = refl }
+
+-- the token of a piece, if it is one
+abbrev pub with_token : Option Token → List Token
+with_token None = []
+with_token (Some t) = t ∷ []
+
+one_token : (p : Piece) → filter_map token_of (p ∷ []) ≡ with_token (token_of p)
+one_token blank = refl
+one_token comment = refl
+one_token (word w) = refl
+one_token (number d) = refl
+one_token (sign s) = refl
+
+taken_more : (text rest left : Text) (tokens : List Token) (o : Option Token) → Taken text rest tokens → front_of rest ≡ Ok (o, left) → Taken text left (tokens ++ with_token o)
+taken_more text rest left tokens o t e =
+    let m = takes rest left o e in
+    record {
+      pieces = t.pieces ++ m.taken ∷ [];
+      cut = begun_more t.pieces m.taken text rest m.bytes left t.cut m.is m.longest m.whole;
+      closed = closed_more t.pieces m.taken t.closed (λ paren star. t.apart paren left (starts (codes "*") m.taken m.bytes left rest m.is star m.whole));
+      apart = λ paren more g. no_star m more (sym (ends_more t.pieces m.taken) ∙ paren) g;
+      in_range = All-push IsInRange t.pieces m.taken t.in_range m.small;
+      are = ap (λ (ts : List Token). ts ++ with_token o) t.are ∙ ap (λ (q : Option Token). filter_map token_of t.pieces ++ with_token q) (sym m.token)
+          ∙ ap (λ (ts : List Token). filter_map token_of t.pieces ++ ts) (sym (one_token m.taken)) ∙ sym (filter_map-append token_of t.pieces (m.taken ∷ []));
+    }
   where
-    go : (o : Option Front) → front_of (b ∷ text) ≡ o → ((rest : Text) → length rest ≤ n → length rest ≤ m → lexed_from n rest ≡ lexed_from m rest)
-        → then_lexed (lexed_from n) o ≡ then_lexed (lexed_from m) o
-    go None is ih = refl
-    go (Some p) is ih = let less = front_shorter (b ∷ text) p.1 p.0 is in ap (with_token p.0) (ih p.1 (omega arith) (omega arith))
+    starts : (s : Text) (p : Piece) (x more whole : Text) → piece p x → is_sign s p ≡ true → whole ≡ x ++ more → whole ≡ s ++ more
+    starts s p x more whole is same w = w ∙ ap (λ (u : Text). u ++ more) (sign_bytes s x (subst (λ (q : Piece). piece q x) (sign_is s p same) is))
 
-lexed_step : (b : ℕ) (text rest : Text) (o : Option Token) → front_of (b ∷ text) ≡ Some (o, rest) → lexed (b ∷ text) ≡ with_token o (lexed rest)
-unfolding lexed lexed_from
-lexed_step b text rest o e =
-    let less = front_shorter (b ∷ text) rest o e in
-    ap (then_lexed (lexed_from (length text))) e ∙ ap (with_token o) (enough (length text) (length rest) rest (omega arith) (omega arith))
+    no_star : (m : Takes rest left o) (more : Text) → is_sign (codes "(") m.taken ≡ true → left ≡ 42 ∷ more → ⊥
+    no_star m more paren g =
+        let whole = starts (codes "(") m.taken m.bytes left rest m.is paren m.whole in
+        let is = m.no_sign more (whole ∙ ap (λ (u : Text). 40 ∷ u) g) in
+        let wrong : is_sign (codes "(") comment ≡ true = ap (is_sign (codes "(")) (sym is) ∙ paren in
+        cc
 
-lexed_more : (text rest : Text) (o : Option Token) → front_of text ≡ Some (o, rest) → lexed text ≡ with_token o (lexed rest)
-lexed_more [] rest o e = let less = front_shorter [] rest o e in absurd (omega arith)
-lexed_more (b ∷ text) rest o e = lexed_step b text rest o e
+-- ---- the steps of the loop
 
-before_token : (front : List Token) (t : Token) (o : Option (List Token)) → before front (with_token (Some t) o) ≡ before (front ++ t ∷ []) o
-before_token front t None = refl
-before_token front t (Some ts) = ap (λ (us : List Token). Some us) (sym (append_assoc front (t ∷ []) ts))
+pub left_shorter : (text left : Text) (o : Option Token) → front_of text ≡ Ok (o, left) → length left < length text
+left_shorter text left o e =
+    let m = takes text left o e in
+    let s = piece_cuts.begins m.taken m.bytes m.is in
+    let size : length m.bytes ≡ length (s.0 ∷ s.1) = ap (λ (u : Text). length u) s.2 in
+    let len : length text ≡ length m.bytes + length left = ap (λ (u : Text). length u) m.whole ∙ length-append m.bytes left in
+    omega arith
 
-before_blank : (front : List Token) (o : Option (List Token)) → before front (with_token None o) ≡ before front o
-before_blank front None = refl
-before_blank front (Some ts) = refl
+pub taken_token : (text rest left : Text) (tokens : List Token) (o : Option Token) (t : Token) → Taken text rest tokens → front_of rest ≡ Ok (o, left) → o ≡ Some t → Taken text left (tokens ++ t ∷ [])
+taken_token text rest left tokens o t h e is = subst (λ (q : Option Token). Taken text left (tokens ++ with_token q)) is (taken_more text rest left tokens o h e)
 
-before_none : (o : Option (List Token)) → before [] o ≡ o
-before_none None = refl
-before_none (Some ts) = refl
+pub taken_skip : (text rest left : Text) (tokens : List Token) (o : Option Token) → Taken text rest tokens → front_of rest ≡ Ok (o, left) → o ≡ None → Taken text left tokens
+taken_skip text rest left tokens o h e is =
+    let same = subst (λ (q : Option Token). Taken text left (tokens ++ with_token q)) is (taken_more text rest left tokens o h e) in
+    subst (λ (ts : List Token). Taken text left ts) (append-nil tokens) same
 
-pub lex_token : (front : List Token) (text rest : Text) (t : Token) → front_of text ≡ Some (Some t, rest) → before front (lexed text) ≡ before (front ++ t ∷ []) (lexed rest)
-lex_token front text rest t e = ap (before front) (lexed_more text rest (Some t) e) ∙ before_token front t (lexed rest)
+pieces_all : (ps : List Piece) (text : Text) → Begun piece ps text [] → Pieces piece ps text
+pieces_all [] text b = b
+pieces_all (p ∷ ps) text b = (b.0, b.1, b.2, b.3, b.4, pieces_all ps b.1 b.5)
 
-pub lex_blank : (front : List Token) (text rest : Text) → front_of text ≡ Some (None, rest) → before front (lexed text) ≡ before front (lexed rest)
-lex_blank front text rest e = ap (before front) (lexed_more text rest None e) ∙ before_blank front (lexed rest)
+pub taken_all : (text rest : Text) (tokens : List Token) → Taken text rest tokens → (length rest == 0) ≡ true → Lexes text tokens
+taken_all text [] tokens t e = record { are_tokens = record { pieces = t.pieces; cut = pieces_all t.pieces text t.cut; closed = t.closed; are = t.are }; in_range = t.in_range }
+taken_all text (b ∷ rest) tokens t e = absurd (grind (arith, nat_tests))
 
-pub lex_fail : (front : List Token) (text : Text) → (text ≡ [] → ⊥) → front_of text ≡ None → before front (lexed text) ≡ None
-unfolding lexed lexed_from
-lex_fail front [] n e = absurd (n refl)
-lex_fail front (b ∷ text) n e = ap (λ o. before front (then_lexed (lexed_from (length text)) o)) e
+front_at : (text rest : Text) (tokens : List Token) → Taken text rest tokens → Front text (length text - length rest)
+front_at text rest tokens t =
+    let short = begun_short t.pieces text rest t.cut in
+    record { pieces = t.pieces; rest = rest; cut = t.cut; closed = t.closed; place = omega arith }
 
-pub lex_end : (front : List Token) (text : Text) → (length text == 0) ≡ true → before front (lexed text) ≡ Some front
-unfolding lexed lexed_from
-lex_end front [] e = ap (λ (us : List Token). Some us) (append-nil front)
-lex_end front (b ∷ text) e = absurd (grind (arith, nat_tests))
+bad : (text rest : Text) (tokens : List Token) → Taken text rest tokens → (length rest == 0) ≡ false → front_of rest ≡ Err f.BadByte → BadByteDue text (length text - length rest)
+unfolding front_at
+bad text rest tokens t n e =
+    let short = begun_short t.pieces text rest t.cut in
+    let m = bad_byte rest e in
+    record { front = front_at text rest tokens t; within = grind (arith, nat_tests); no_piece = m.0; no_comment = m.1 }
 
-pub lex_start : (text : Text) → before [] (lexed text) ≡ lexed text
-lex_start text = before_none (lexed text)
+too_big : (text rest : Text) (tokens : List Token) → Taken text rest tokens → front_of rest ≡ Err f.NumberTooBig → NumberTooBigDue text (length text - length rest)
+unfolding front_at
+too_big text rest tokens t e =
+    let m = big_number rest e in
+    record { front = front_at text rest tokens t; digits = m.0; more = m.1; is_number = m.2; longest = m.3; there = m.4; too_big = m.5 }
+
+open_end : (text rest : Text) (tokens : List Token) → Taken text rest tokens → front_of rest ≡ Err f.OpenComment → OpenCommentDue text (length text - length rest)
+unfolding front_at
+open_end text rest tokens t e =
+    let m = open_comment rest e in
+    record { front = front_at text rest tokens t; more = m.0; there = m.1; open_end = λ inner after g. none_closes m.0 inner after m.2 g }
+
+due_at : (text rest : Text) (tokens : List Token) (fault : Fault) → Taken text rest tokens → (length rest == 0) ≡ false → Halts fault (front_of rest) → RefusalDue text (refusal_of fault (length text - length rest))
+due_at text rest tokens f.BadByte t n e = bad text rest tokens t n e
+due_at text rest tokens f.NumberTooBig t n e = too_big text rest tokens t e
+due_at text rest tokens f.OpenComment t n e = open_end text rest tokens t e
+due_at text rest tokens f.NoMemory t n e = tt
+
+pub refused : (text rest : Text) (tokens : List Token) (fault : Fault) (why : StErr) → Taken text rest tokens → (length rest == 0) ≡ false → Halts fault (front_of rest)
+    → why ≡ refusal_of fault (length text - length rest) → RefusalDue text why
+refused text rest tokens fault why t n e is = subst (λ (w : StErr). RefusalDue text w) (sym is) (due_at text rest tokens fault t n e)

@@ -5,7 +5,10 @@ pub mod Whole
 pub mod Literals
 pub mod SeenLoops
 pub mod Fronts
+pub mod FoundLaws
 pub mod LexSteps
+pub mod Programs
+pub mod RefusalLaws
 pub mod Numbers
 pub mod Runs
 pub mod Sameness

@@ -1,53 +1,76 @@
--- What is read from a text is what it derives.
-use Rattle.std.proofs.Common.{◌≡◌, ℕ, ◌≤◌, List, Option, Some, None, Result, Ok, Err, refl, ap, subst, ◌∙◌}
-use Rattle.std.specs.Prelude.{IfOk}
+-- What is told of a text that is read or refused.
+use Rattle.std.proofs.Common.{◌≡◌, ℕ, ◌≤◌, List, None, Result, Ok, Err, refl, ap, subst, ◌∙◌}
+use Rattle.std.specs.Prelude.{IfOk, IfErr, MatchResult, length}
 use Rattle.grammar.specs.Pieces.{Text}
 use Rattle.st_ast.specs.Tokens.{Token}
 use Rattle.st_ast.specs.Tree.{Program}
+use Rattle.st_ast.specs.Grammar.{whole}
 use Rattle.st_ast.specs.View.{view}
 use Rattle.st_ast.specs.ReadsAs.{ReadsAsProgram}
 use Rattle.st_ast.specs.declared.tree.Program as rust
+use Rattle.st_lex.proofs.CuttingLaws.{token_lists_agree}
 use Rattle.st_read.specs.declared.error.StErr.{StErr}
-use Rattle.st_read.specs.declared.error.StErr.TheVariants.{Memory, NotRead}
+use Rattle.st_read.specs.declared.error.StErr.TheVariants as err
 use Rattle.st_read.specs.Told.{Refuses, Tells}
-use Rattle.st_read.specs.Lexing.{lexed}
+use Rattle.st_read.specs.Lexing.{Lexes}
 use Rattle.st_read.specs.Reading.{program_of}
-use Rattle.st_read.specs.Derives.{Derives, derived_from, read_of}
-use Rattle.st_read.proofs.Fronts.{lexed-tokens, tokens-lexed}
-use Rattle.st_read.proofs.Whole.{read_derives, derived_reads}
-
-derived_some : (o : Option (List Token)) (p : Program) → derived_from o ≡ Some p → (ts : List Token) × (o ≡ Some ts) × (program_of ts ≡ Some p)
-derived_some None p e = absurd cc
-derived_some (Some ts) p e = (ts, refl, e)
-
-pub read_reads : (text : Text) (p : Program) → read_of text ≡ Some p → Derives text p
-unfolding read_of
-read_reads text p e =
-    let d = derived_some (lexed text) p e in
-    record { tokens = d.0; are_tokens = lexed-tokens text d.0 d.1; derived = read_derives d.0 p d.2 }
-
-pub reads_read : (text : Text) (p : Program) → Derives text p → read_of text ≡ Some p
-unfolding read_of
-reads_read text p d = ap derived_from (tokens-lexed text d.tokens d.are_tokens) ∙ derived_reads d.tokens p d.derived
-
--- a text that derives a program is not refused
-pub none_reads : (text : Text) → read_of text ≡ None → (p : Program) → Derives text p → ⊥
-none_reads text e p d = let found = reads_read text p d in absurd cc
-
--- ---- what is told of a text
-
-pub told_read : (text : Text) (end : ℕ) (r : Result rust.Program StErr) → Tells end view r (read_of text) → IfOk r (λ p. Derives text (view p))
-told_read text end (Ok p) t = read_reads text (view p) t
-told_read text end (Err e) t = tt
-
-refused : (text : Text) (end at : ℕ) (e : StErr) → Refuses end e (read_of text) → e ≡ NotRead at → (at ≤ end) × ((p : Program) → Derives text p → ⊥)
-refused text end at Memory t e = absurd cc
-refused text end at (NotRead place) t e = let same : place ≡ at = cc in (subst (λ n. n ≤ end) same t.0, none_reads text t.1)
-
-pub told_refused : (text : Text) (end : ℕ) (r : Result rust.Program StErr) → Tells end view r (read_of text) → (at : ℕ) → r ≡ Err (NotRead at) → (at ≤ end) × ((p : Program) → Derives text p → ⊥)
-told_refused text end (Ok p) t at e = absurd cc
-told_refused text end (Err w) t at e = let same : w ≡ NotRead at = cc in refused text end at w t same
+use Rattle.st_read.specs.Derives.{Derives}
+use Rattle.st_read.specs.Refusals.{NotReadDue, RefusalDue}
+use Rattle.st_read.proofs.Whole.{read_derives, none_derives, one_derivation}
+use Rattle.st_read.proofs.RefusalLaws.{no_bad_byte, no_big_number, no_open_comment, refused_derives_none}
 
 -- a text that reads as a program derives it
 pub reads_derive : (text : Text) (p : Program) → ReadsAsProgram text p → Derives text p
 reads_derive text p d = record { tokens = d.tokens; are_tokens = d.are_tokens; derived = d.derived }
+
+-- a text derives at most one program
+pub one_derives : (text : Text) (p q : Program) → Derives text p → Derives text q → p ≡ q
+one_derives text p q d e =
+    let same = token_lists_agree text e.tokens d.tokens e.are_tokens d.are_tokens in
+    one_derivation d.tokens p q d.derived (subst (λ ts. whole q ts) same e.derived)
+
+-- ---- tokens of which no program is read
+
+none_reads : (text : Text) (ts : List Token) → Lexes text ts → program_of ts ≡ None → (p : Program) → Derives text p → ⊥
+none_reads text ts l e p d =
+    let same = token_lists_agree text d.tokens ts d.are_tokens l.are_tokens in
+    none_derives d.tokens (ap program_of same ∙ e) p d.derived
+
+not_read : (text : Text) (at : ℕ) (ts : List Token) → Lexes text ts → at ≤ length text → program_of ts ≡ None → NotReadDue text at
+not_read text at ts l w e = record {
+  within = w;
+  no_bad_byte = λ n due. no_bad_byte text n due ts l;
+  no_big_number = λ n due. no_big_number text n due ts l;
+  no_open_comment = λ n due. no_open_comment text n due ts l;
+  no_program = none_reads text ts l e;
+}
+
+-- ---- what is told of a text
+
+pub told_read : (text : Text) (ts : List Token) (r : Result rust.Program StErr) → Lexes text ts → Tells (length text) view r (program_of ts) → IfOk r (λ p. Derives text (view p))
+told_read text ts (Ok p) l t = record { tokens = ts; are_tokens = l.are_tokens; derived = read_derives ts (view p) t }
+told_read text ts (Err e) l t = tt
+
+due : (text : Text) (ts : List Token) (why : StErr) → Lexes text ts → Refuses (length text) why (program_of ts) → RefusalDue text why
+due text ts (err.StBadByte at) l t = absurd t
+due text ts (err.StNumberTooBig at) l t = absurd t
+due text ts (err.StOpenComment at) l t = absurd t
+due text ts (err.StNotRead at) l t = not_read text at ts l t.0 t.1
+due text ts err.Memory l t = tt
+
+pub told_refused : (text : Text) (ts : List Token) (r : Result rust.Program StErr) → Lexes text ts → Tells (length text) view r (program_of ts) → IfErr r (RefusalDue text)
+told_refused text ts (Ok p) l t = tt
+told_refused text ts (Err why) l t = due text ts why l t
+
+pub only_memory : (text : Text) (why : StErr) → RefusalDue text why → (p : Program) → Derives text p → why ≡ err.Memory
+only_memory text (err.StBadByte at) h p d = absurd (refused_derives_none text (err.StBadByte at) h (λ e. cc) p d)
+only_memory text (err.StNumberTooBig at) h p d = absurd (refused_derives_none text (err.StNumberTooBig at) h (λ e. cc) p d)
+only_memory text (err.StOpenComment at) h p d = absurd (refused_derives_none text (err.StOpenComment at) h (λ e. cc) p d)
+only_memory text (err.StNotRead at) h p d = absurd (refused_derives_none text (err.StNotRead at) h (λ e. cc) p d)
+only_memory text err.Memory h p d = refl
+
+-- a text that derives a program is read as that, or memory runs out
+pub told_complete : (text : Text) (r : Result rust.Program StErr) → IfOk r (λ p. Derives text (view p)) → IfErr r (RefusalDue text)
+    → (p : Program) → Derives text p → MatchResult r (λ q. view q ≡ p) (λ e. e ≡ err.Memory)
+told_complete text (Ok q) h k p d = one_derives text (view q) p h d
+told_complete text (Err why) h k p d = only_memory text why k p d

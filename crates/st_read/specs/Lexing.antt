@@ -1,13 +1,36 @@
--- A text as its tokens, found piece by piece from its front.
-use Rattle.std.specs.Prelude.{ℕ, zero, suc, ◌==◌, ◌&&◌, Bool, false, List, [], ◌∷◌, ◌++◌, length, Option, Some, None, nat_le, if◌then◌else◌}
+-- What stands at the front of a text, found by its first bytes.
+use Rattle.std.specs.Prelude.{◌≡◌, ℕ, ◌≤◌, ◌==◌, ◌&&◌, Bool, false, List, [], ◌∷◌, All, Option, Some, None, Result, Ok, Err, nat_le, if◌then◌else◌}
 use Rattle.std.specs.List.{list_any}
 use Rattle.grammar.specs.Pieces.{Text, run_of, strip}
 use Rattle.st_ast.specs.Names.{same_name}
-use Rattle.st_ast.specs.Tokens.{Kind, Token, is_blank, is_letter, is_digit, is_wordy, signs, name, outside, keywords, reserved, in_table, is_identifier, number_of, greatest, kind_of_number, kind_of_sign}
+use Rattle.st_ast.specs.Tokens.{Kind, Token, Piece, blank, comment, word, number, sign, Tokens, is_blank, is_letter, is_digit, is_wordy, signs, name, literal, outside, keywords, reserved, in_table, is_identifier, number_of, greatest, kind_of_sign}
+use Rattle.st_read.specs.declared.found.Fault.{Fault}
+use Rattle.st_read.specs.declared.found.Fault.TheVariants as f
+use Rattle.st_read.specs.declared.error.StErr.{StErr}
+use Rattle.st_read.specs.declared.error.StErr.TheVariants as err
 
 -- a token, or none for a blank and for a comment, and the text after it
-abbrev pub Front : Type 0
-Front = Option Token × Text
+abbrev pub Found : Type 0
+Found = Result (Option Token × Text) Fault
+
+-- the fault that the code found, unless memory ran out
+abbrev pub Halts : Fault → Found → Type 0
+Halts f.BadByte found = found ≡ Err f.BadByte
+Halts f.NumberTooBig found = found ≡ Err f.NumberTooBig
+Halts f.OpenComment found = found ≡ Err f.OpenComment
+Halts f.NoMemory found = Unit {0}
+
+-- what the code returned, and what is found
+abbrev pub Finds : {X : Type 0} → (X → Option Token × Text) → Result X Fault → Found → Type 0
+Finds view (Ok x) found = found ≡ Ok (view x)
+Finds view (Err e) found = Halts e found
+
+-- the error for a fault at a place
+abbrev pub refusal_of : Fault → ℕ → StErr
+refusal_of f.BadByte at = err.StBadByte at
+refusal_of f.NumberTooBig at = err.StNumberTooBig at
+refusal_of f.OpenComment at = err.StOpenComment at
+refusal_of f.NoMemory at = err.Memory
 
 -- the tests of bytes, each as one word
 unfoldable pub letter : ℕ → Bool
@@ -29,21 +52,22 @@ other_kind w = if is_reserved w then outside else (if is_identifier w then name 
 unfoldable pub word_kind : Text → Kind
 word_kind w = in_table keywords w (other_kind w)
 
-unfoldable pub number_kind : Text → Kind
-number_kind d = kind_of_number d
-
 unfoldable pub sign_kind : Text → Kind
 sign_kind s = kind_of_sign s
 
-abbrev pub worded : Text × Text → Front
-worded w = (Some (record { kind = word_kind w.0; text = w.0 }), w.1)
-
-abbrev pub numbered : Text × Text → Front
-numbered w = (Some (record { kind = number_kind w.0; text = w.0 }), w.1)
+abbrev pub worded : Text × Text → Found
+worded w = Ok (Some (record { kind = word_kind w.0; text = w.0 }), w.1)
 
 -- the number that digits stand for, where a program may have it
 unfoldable pub value_in : Text → Option ℕ
 value_in d = if nat_le (number_of d) greatest then Some (number_of d) else None
+
+abbrev pub with_value : Text × Text → Option ℕ → Found
+with_value w None = Err f.NumberTooBig
+with_value w (Some n) = Ok (Some (record { kind = literal; text = w.0 }), w.1)
+
+abbrev pub numbered : Text × Text → Found
+numbered w = with_value w (value_in w.0)
 
 -- what follows the first `*)`
 unfoldable pub after_close : Text → Option Text
@@ -51,9 +75,9 @@ after_close [] = None
 after_close (a ∷ []) = None
 after_close (a ∷ b ∷ text) = if a == 42 && b == 41 then Some text else after_close (b ∷ text)
 
-abbrev pub commented : Option Text → Option Front
-commented None = None
-commented (Some rest) = Some (None, rest)
+abbrev pub commented : Option Text → Found
+commented None = Err f.OpenComment
+commented (Some rest) = Ok (None, rest)
 
 abbrev pub with_sign : Text → Option Text → Option (Text × Text) → Option (Text × Text)
 with_sign s None other = other
@@ -67,9 +91,9 @@ sign_in (s ∷ ss) text = with_sign s (strip s text) (sign_in ss text)
 unfoldable pub sign_of : Text → Option (Text × Text)
 sign_of text = sign_in signs text
 
-abbrev pub signed : Option (Text × Text) → Option Front
-signed None = None
-signed (Some w) = Some (Some (record { kind = sign_kind w.0; text = w.0 }), w.1)
+abbrev pub signed : Option (Text × Text) → Found
+signed None = Err f.BadByte
+signed (Some w) = Ok (Some (record { kind = sign_kind w.0; text = w.0 }), w.1)
 
 -- whether `(*` comes
 abbrev pub opens : Text → Bool
@@ -83,33 +107,24 @@ inside [] = []
 inside (a ∷ []) = []
 inside (a ∷ b ∷ text) = text
 
--- what stands at the front of a text. A comment that isn't closed is no front.
-unfoldable pub front_of : Text → Option Front
-front_of [] = None
-front_of (b ∷ text) = if is_blank b then Some (None, text) else (if letter b then Some (worded (run_of wordy (b ∷ text)))
-    else (if digit b then Some (numbered (run_of digit (b ∷ text)))
+-- what stands at the front of a text
+unfoldable pub front_of : Text → Found
+front_of [] = Err f.BadByte
+front_of (b ∷ text) = if is_blank b then Ok (None, text) else (if letter b then worded (run_of wordy (b ∷ text))
+    else (if digit b then numbered (run_of digit (b ∷ text))
     else (if opens (b ∷ text) then commented (after_close (inside (b ∷ text))) else signed (sign_of (b ∷ text)))))
 
-abbrev pub with_token : Option Token → Option (List Token) → Option (List Token)
-with_token o None = None
-with_token None (Some ts) = Some ts
-with_token (Some t) (Some ts) = Some (t ∷ ts)
+-- ---- all tokens
 
-abbrev pub then_lexed : (Text → Option (List Token)) → Option Front → Option (List Token)
-then_lexed f None = None
-then_lexed f (Some p) = with_token p.0 (f p.1)
+-- a piece that is no number above the greatest
+unfoldable pub IsInRange : Piece → Type 0
+IsInRange blank = Unit {0}
+IsInRange comment = Unit {0}
+IsInRange (word w) = Unit {0}
+IsInRange (number d) = number_of d ≤ greatest
+IsInRange (sign s) = Unit {0}
 
--- Each piece has a byte, so the number of bytes bounds the turns.
-unfoldable pub lexed_from : ℕ → Text → Option (List Token)
-lexed_from n [] = Some []
-lexed_from zero (b ∷ text) = None
-lexed_from (suc n) (b ∷ text) = then_lexed (lexed_from n) (front_of (b ∷ text))
-
--- the tokens of a text, where it has any
-unfoldable pub lexed : Text → Option (List Token)
-lexed text = lexed_from (length text) text
-
--- the tokens after those of a front
-abbrev pub before : List Token → Option (List Token) → Option (List Token)
-before front None = None
-before front (Some ts) = Some (front ++ ts)
+-- the tokens of a text in which no number is too big
+pub record Lexes (text : Text) (tokens : List Token) : Type 0 where
+  pub are_tokens : Tokens text tokens
+  pub in_range : All IsInRange are_tokens.pieces

@@ -7,3 +7,4 @@ pub mod ReadsStatement
 pub mod Lexing
 pub mod Told
 pub mod Derives
+pub mod Refusals

@@ -1,20 +1,43 @@
-//! Why reading stops.
+//! Why a text is not read, and why reading stops.
 
 ghost use Rattle.std.specs.Prelude.{◌≡◌};
+ghost use Rattle.st_read.specs.declared.error.StErr.TheVariants.{Memory as no_memory};
 ghost use Rattle.st_read.specs.declared.error.Stop.TheVariants.{NoMemory};
 
 use cif_base::Memory;
 use std::alloc::AllocFailed;
 
-/// Why a text is not read: it stands for no program, and reading stopped at the byte `at`, counted from 0, or memory ran
-/// out.
+/// Why a text is not read, with a byte where that shows, counted from 0; or memory ran out.
 #[derive(Clone, Copy, Debug, PartialEq, Eq)]
 pub enum StErr {
-    NotRead { at: u32 },
+    /// No token, blank or comment begins there.
+    StBadByte { at: u32 },
+    /// The number that begins there exceeds 9223372036854775807.
+    StNumberTooBig { at: u32 },
+    /// The comment that `(*` begins there has no end.
+    StOpenComment { at: u32 },
+    /// The tokens derive no program within the depth limits; a place in the text where that shows.
+    StNotRead { at: u32 },
     Memory,
 }
 
-/// Why a reader stopped: memory ran out, or it can't go on with so many tokens or bytes left.
+impl From<Memory> for StErr {
+    ghost from_gives = { λ _ e. e ≡ no_memory };
+
+    fn from(_error: Memory) -> StErr {
+        StErr::Memory
+    }
+}
+
+impl<T: Drop> From<AllocFailed<T>> for StErr {
+    ghost from_gives = { λ _ e. e ≡ no_memory };
+
+    fn from(_error: AllocFailed<T>) -> StErr {
+        StErr::Memory
+    }
+}
+
+/// Why a reader of tokens stopped: memory ran out, or it can't go on with so many tokens left.
 #[derive(Clone, Copy, Debug, PartialEq, Eq)]
 pub enum Stop {
     NoMemory,

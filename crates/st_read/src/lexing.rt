@@ -1,14 +1,16 @@
 //! A text as its tokens.
 
-ghost use Rattle.std.specs.Prelude.{◌≡◌, ◌≤◌, Some, not, map, position, unwrap_or, length, option_map, All, IfOk};
+ghost use Rattle.std.specs.Prelude.{◌≡◌, ◌≤◌, not, map, position, unwrap_or, length, option_map, All, IfOk, IfErr};
 ghost use Rattle.std.specs.Option.{option_copied};
 ghost use Rattle.grammar.specs.Pieces.{run_of, strip};
 ghost use Rattle.st_ast.specs.Tokens as k;
-ghost use Rattle.st_read.specs.Gives.{Gives};
 ghost use Rattle.st_read.specs.Kinds.{seen};
 ghost use Rattle.st_read.specs.Lexing as lexing;
+ghost use Rattle.st_read.specs.Lexing.{Finds, Lexes, refusal_of};
+ghost use Rattle.st_read.specs.Refusals.{RefusalDue};
 
-use crate::error::Stop;
+use crate::error::StErr;
+use crate::found::{Fault, Found};
 use crate::tokens::{Kind, Token};
 use crate::words::{is_blank, is_digit, is_letter, is_wordy, kind_of_word, value_of};
 use cif_base::{Items, Text};
@@ -41,9 +43,6 @@ pub struct Lexed {
     pub tokens: Items<Token>,
     pub starts: Vec<u32>,
 }
-
-/// A token, or none for a blank or a comment, and the text after it.
-type Front<'a> = (Option<Token>, &'a [u8]);
 
 /// The place of the first byte that no word has.
 fn first_unwordy(text: &[u8]) -> Option<usize>
@@ -93,8 +92,8 @@ fn split_number(text: &[u8]) -> (&[u8], &[u8])
 
 /// The word at the front.
 #[tactic(auto, using(crate::proofs::Numbers::word_apart))]
-fn word(alloc: Global, text: &[u8]) -> Result<Front<'_>, Stop>
-    ensures { Gives (λ x. (x.0, x.1.now)) result (Some (lexing.worded (run_of lexing.wordy text.now))) }
+fn word(alloc: Global, text: &[u8]) -> Found<'_>
+    ensures { Finds (λ x. (x.0, x.1.now)) result (lexing.worded (run_of lexing.wordy text.now)) }
 {
     let (word, rest) = split_word(text);
     let kind = kind_of_word(word);
@@ -103,17 +102,16 @@ fn word(alloc: Global, text: &[u8]) -> Result<Front<'_>, Stop>
 }
 
 /// The digits at the front.
-#[tactic(auto, unfolding(crate::specs::Lexing::number_kind, crate::specs::Lexing::value_in))]
-fn number(alloc: Global, text: &[u8]) -> Result<Front<'_>, Stop>
-    ensures { Gives (λ x. (x.0, x.1.now)) result (Some (lexing.numbered (run_of lexing.digit text.now))) }
+#[tactic(auto, unfolding(crate::specs::Lexing::value_in))]
+fn number(alloc: Global, text: &[u8]) -> Found<'_>
+    ensures { Finds (λ x. (x.0, x.1.now)) result (lexing.numbered (run_of lexing.digit text.now)) }
 {
     let (digits, rest) = split_number(text);
-    let text = Text::from_slice(alloc, digits)?;
-    let token = match value_of(digits) {
-        Some(value) => Token::literal(text, value),
-        None => Token::plain(Kind::Outside, text),
+    let Some(value) = value_of(digits) else {
+        return Err(Fault::NumberTooBig);
     };
-    Ok((Some(token), rest))
+    let text = Text::from_slice(alloc, digits)?;
+    Ok((Some(Token::literal(text, value)), rest))
 }
 
 /// What follows the first `*)`.
@@ -201,11 +199,11 @@ fn kind_of_sign(sign: &[u8]) -> Kind
 
 /// The sign at the front.
 #[tactic(auto, using(crate::proofs::Numbers::sign_apart), unfolding(crate::specs::Lexing::sign_of))]
-fn sign(alloc: Global, text: &[u8]) -> Result<Front<'_>, Stop>
-    ensures { Gives (λ x. (x.0, x.1.now)) result (lexing.signed (lexing.sign_of text.now)) }
+fn sign(alloc: Global, text: &[u8]) -> Found<'_>
+    ensures { Finds (λ x. (x.0, x.1.now)) result (lexing.signed (lexing.sign_of text.now)) }
 {
     let Some((sign, rest)) = first_sign(text, &SIGNS) else {
-        return Err(Stop::NotTaken(text.len()));
+        return Err(Fault::BadByte);
     };
     let kind = kind_of_sign(sign);
     let text = Text::from_slice(alloc, sign)?;
@@ -213,22 +211,22 @@ fn sign(alloc: Global, text: &[u8]) -> Result<Front<'_>, Stop>
 }
 
 /// A comment, of which the first two bytes are read.
-fn comment(text: &[u8]) -> Result<Front<'_>, Stop>
-    ensures { Gives (λ x. (x.0, x.1.now)) result (lexing.commented (lexing.after_close text.now)) }
+fn comment(text: &[u8]) -> Found<'_>
+    ensures { Finds (λ x. (x.0, x.1.now)) result (lexing.commented (lexing.after_close text.now)) }
 {
     match after_close(text) {
         Some(rest) => Ok((None, rest)),
-        None => Err(Stop::NotTaken(text.len() + 2)),
+        None => Err(Fault::OpenComment),
     }
 }
 
-/// What stands at the front. Where nothing does, the error tells how many bytes are left.
+/// What stands at the front.
 #[tactic(auto, unfolding(crate::specs::Lexing::front_of))]
-fn front(alloc: Global, text: &[u8]) -> Result<Front<'_>, Stop>
-    ensures { Gives (λ x. (x.0, x.1.now)) result (lexing.front_of text.now) }
+fn front(alloc: Global, text: &[u8]) -> Found<'_>
+    ensures { Finds (λ x. (x.0, x.1.now)) result (lexing.front_of text.now) }
 {
     match text {
-        [] => Err(Stop::NotTaken(0)),
+        [] => Err(Fault::BadByte),
         [byte, rest @ ..] if is_blank(*byte) => Ok((None, rest)),
         [byte, ..] if is_letter(*byte) => word(alloc, text),
         [byte, ..] if is_digit(*byte) => number(alloc, text),
@@ -237,21 +235,38 @@ fn front(alloc: Global, text: &[u8]) -> Result<Front<'_>, Stop>
     }
 }
 
-/// The tokens of a text. Where it has none, the error tells how many bytes are left.
-#[tactic(auto, using(crate::proofs::LexSteps::lex_token, crate::proofs::LexSteps::lex_blank, crate::proofs::LexSteps::lex_fail, crate::proofs::LexSteps::lex_end, crate::proofs::LexSteps::lex_start, crate::proofs::Fronts::front_shorter))]
-pub fn lex(alloc: Global, text: &[u8]) -> Result<Lexed, Stop>
+/// The error for what is found at a place.
+fn refusal(fault: Fault, at: u32) -> StErr
+    ensures { result ≡ refusal_of fault at }
+{
+    match fault {
+        Fault::BadByte => StErr::StBadByte { at },
+        Fault::NumberTooBig => StErr::StNumberTooBig { at },
+        Fault::OpenComment => StErr::StOpenComment { at },
+        Fault::NoMemory => StErr::Memory,
+    }
+}
+
+/// The tokens of a text. The first number that is too big ends it.
+#[tactic(auto, using(crate::proofs::LexSteps::taken_token, crate::proofs::LexSteps::taken_skip, crate::proofs::LexSteps::taken_none, crate::proofs::LexSteps::left_shorter))]
+pub fn lex(alloc: Global, text: &[u8]) -> Result<Lexed, StErr>
     requires { length text.now ≤ 16777216 }
-    ensures tokens { Gives (λ x. x.tokens) result (lexing.lexed text.now) }
+    ensures tokens { IfOk result (λ x. Lexes text.now x.tokens) }
     ensures starts { IfOk result (λ x. All (λ at. at ≤ length text.now) x.starts.items) }
+    ensures refused { IfErr result (RefusalDue text.now) }
 {
     let mut tokens = Items::new(alloc);
     let mut starts = Vec::new(alloc);
     let mut rest = text;
     while !rest.is_empty() {
-        let (token, left) = front(alloc, rest)?;
+        let at = (text.len() - rest.len()) as u32;
+        let (token, left) = match front(alloc, rest) {
+            Ok(found) => found,
+            Err(fault) => return Err(refusal(fault, at)),
+        };
         if let Some(token) = token {
             tokens.push(token)?;
-            starts.push((text.len() - rest.len()) as u32)?;
+            starts.push(at)?;
         }
         rest = left;
     }

@@ -3,6 +3,8 @@
 
 mod declarations;
 mod error;
+mod found;
+mod laws;
 mod levels;
 mod lexing;
 mod names;
@@ -14,7 +16,11 @@ mod tokens;
 mod words;
 
 pub use error::StErr;
-pub use texts::{one_program, read, reads_derive};
+pub use laws::{
+    no_program_where_refused, one_program, programs_are_small, programs_have_no_inputs,
+    reads_derive,
+};
+pub use texts::read;
 
 #[cfg(test)]
 mod tests;

@@ -18,14 +18,10 @@ END_IF;
 END_PROGRAM
 ";
 
-/// The place where a text is refused, if it is.
-fn refused_at(rt: &impl Abort, alloc: Global, text: &[u8]) -> Option<u32> {
+/// Why a text is refused, if it is.
+fn refusal(rt: &impl Abort, alloc: Global, text: &[u8]) -> Option<StErr> {
     assert!(rt; text.len() <= MOST_BYTES);
-    match read(alloc, text) {
-        Ok(_) => None,
-        Err(StErr::NotRead { at }) => Some(at),
-        Err(StErr::Memory) => panic!(rt; "out of memory"),
-    }
+    read(alloc, text).err()
 }
 
 #[test]
@@ -65,30 +61,67 @@ fn forms_are_read(rt: HostRuntime) {
         b"PROGRAM p WHILE a DO IF b THEN END_IF; END_WHILE; END_PROGRAM\r\n\t",
     ];
     for text in texts.iter() {
-        assert_eq!(rt; refused_at(&rt, rt.alloc(), *text), None);
+        assert_eq!(rt; refusal(&rt, rt.alloc(), *text), None);
     }
 }
 
 #[test]
-fn other_texts_are_refused(rt: HostRuntime) {
+fn refusals_tell_their_cause(rt: HostRuntime) {
+    let texts: [(&[u8], StErr); 13] = [
+        (b"PROGRAM p # END_PROGRAM", StErr::StBadByte { at: 10 }),
+        (
+            b"PROGRAM p x := %; END_PROGRAM",
+            StErr::StBadByte { at: 15 },
+        ),
+        (b"PROGRAM p . END_PROGRAM", StErr::StBadByte { at: 10 }),
+        (b"\x0b", StErr::StBadByte { at: 0 }),
+        (b"END_VAR \x80", StErr::StBadByte { at: 8 }),
+        (
+            b"PROGRAM p x := 9223372036854775808; END_PROGRAM",
+            StErr::StNumberTooBig { at: 15 },
+        ),
+        (b"00009223372036854775808", StErr::StNumberTooBig { at: 0 }),
+        (
+            b"1 18446744073709551617 # (*",
+            StErr::StNumberTooBig { at: 2 },
+        ),
+        (b"PROGRAM p (* x", StErr::StOpenComment { at: 10 }),
+        (
+            b"PROGRAM p (*) END_PROGRAM",
+            StErr::StOpenComment { at: 10 },
+        ),
+        (b"(*)", StErr::StOpenComment { at: 0 }),
+        (b"(**)(*", StErr::StOpenComment { at: 4 }),
+        (b"((* * )", StErr::StOpenComment { at: 1 }),
+    ];
+    for (text, why) in texts.iter() {
+        assert_eq!(rt; refusal(&rt, rt.alloc(), *text), Some(*why));
+    }
+}
+
+#[test]
+fn other_texts_derive_no_program(rt: HostRuntime) {
     let texts: [(&[u8], u32); 14] = [
         (b"", 0),
         (b"PROGRAM p", 9),
         (b"PROGRAM p END_PROGRAM x", 22),
         (b"PROGRAM p x := 1 END_PROGRAM", 17),
-        (b"PROGRAM p x := 9223372036854775808; END_PROGRAM", 15),
-        (b"PROGRAM p (* END_PROGRAM", 10),
-        (b"PROGRAM p (*) END_PROGRAM", 10),
+        (b"PROGRAM p x := 1; x := 2 END_PROGRAM", 25),
         (b"PROGRAM p x_ := 1; END_PROGRAM", 10),
         (b"PROGRAM p x__y := 1; END_PROGRAM", 10),
+        (b"PROGRAM a__b END_PROGRAM", 8),
         (b"PROGRAM for END_PROGRAM", 8),
         (b"PROGRAM p x := a < b < c; END_PROGRAM", 21),
         (b"PROGRAM p x := a <= b; END_PROGRAM", 17),
-        (b"PROGRAM p x := %; END_PROGRAM", 15),
+        (b"PROGRAM p x := a & b; END_PROGRAM", 17),
         (b"PROGRAM p VAR x : LINT := 1 + 1; END_VAR END_PROGRAM", 28),
+        (b"PROGRAM p x := ( * 1); END_PROGRAM", 17),
     ];
     for (text, at) in texts.iter() {
-        assert_eq!(rt; refused_at(&rt, rt.alloc(), *text), Some(*at));
+        assert_eq!(rt;
+            refusal(&rt, rt.alloc(), *text),
+            Some(StErr::StNotRead { at: *at })
+        );
     }
 }
 
@@ -116,9 +149,16 @@ fn nested(rt: &impl Abort, alloc: Global, loops: usize, depth: usize) -> Vec<u8>
 #[test]
 fn depth_is_at_most_400(rt: HostRuntime) {
     assert_eq!(rt;
-        refused_at(&rt, rt.alloc(), &nested(&rt, rt.alloc(), 400, 400)),
+        refusal(&rt, rt.alloc(), &nested(&rt, rt.alloc(), 400, 400)),
         None
     );
-    assert!(rt; refused_at(&rt, rt.alloc(), &nested(&rt, rt.alloc(), 400, 401)).is_some());
-    assert!(rt; refused_at(&rt, rt.alloc(), &nested(&rt, rt.alloc(), 401, 0)).is_some());
+    for (loops, depth) in [(400, 401), (401, 0)] {
+        let text = nested(&rt, rt.alloc(), loops, depth);
+        assert!(rt;
+            matches!(
+                &refusal(&rt, rt.alloc(), &text),
+                Some(StErr::StNotRead { .. })
+            )
+        );
+    }
 }

@@ -1,3 +1,6 @@
+pub mod Agreement
 pub mod Checked
+pub mod Listed
 pub mod Loop
+pub mod Outputs
 pub mod Rows

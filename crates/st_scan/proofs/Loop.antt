@@ -1,14 +1,15 @@
 -- A loop, turn by turn: what it does from a test of its condition on.
-use Rattle.std.proofs.Common.{◌≡◌, ℕ, zero, suc, ◌≤◌, ◌<◌, ◌-◌, ℤ, Bool, true, false, List, refl, ap, sym, ◌∙◌, arith}
+use Rattle.std.proofs.Common.{◌≡◌, ℕ, zero, suc, ◌≤◌, ◌<◌, ◌-◌, ℤ, Bool, true, false, refl, ap, sym, ◌∙◌, arith}
 use Rattle.std.specs.Prelude.{Result, Ok, Err, slice_set, if◌then◌else◌}
-use Rattle.st_ast.specs.declared.tree.StVar.{StVar}
-use Rattle.st_ast.specs.Names.{place_of}
-use Rattle.st_ast.specs.Tree.{Stm, Stms, Branches, Other, assign, choice, loop, no_stms, stms, no_branches, branches, no_other, other}
-use Rattle.st_ast.specs.Values.{Fault, subrange_left, Memory, is_true, with_value, value_of}
-use Rattle.st_ast.specs.Exec.{Outcome, Ended, Faulted, OutOfTurns, Act, and_then, is_within, type_at, store, take_turn, repeated, exec, exec_one, exec_other, exec_choice}
+use Rattle.st_ast.specs.declared.tree.StTy.{StTy}
+use Rattle.st_ast.specs.Values.{Fault, subrange_left, Memory, is_true, with_value}
+use Rattle.st_ast.specs.Exec.{Outcome, Ended, Faulted, OutOfTurns, Act, and_then, is_within, take_turn, repeated}
 use Rattle.st_scan.specs.declared.error.ScanErr.{ScanErr}
 use Rattle.st_scan.specs.declared.error.ScanErr.TheVariants.{Overflow, ZeroDivide, SubrangeLeft, Budget}
 use Rattle.st_scan.specs.Endings.{stopped, outcome_of}
+use Rattle.st_scan.specs.PlacedTree.{Stm, Stms, Branches, Other, assign, choice, loop, no_stms, stms, no_branches, branches, no_other, other}
+use Rattle.st_scan.specs.PlacedValues.{value_at}
+use Rattle.st_scan.specs.PlacedExec.{store_at, exec_at, exec_one_at, exec_other_at, exec_choice_at}
 
 -- an outcome that leaves at most so many turns
 abbrev pub IsWithin : ℕ → Outcome → Type 0
@@ -49,28 +50,28 @@ repeated-shrinks (suc tests) cond body s n m =
     within-with_value (cond m) _ n
     (λ v. within-if (is_true v) (take_turn body (repeated tests cond body) n m) (Ended n m) n (take_turn-shrinks body (repeated tests cond body) s (repeated-shrinks tests cond body s) n m) (omega arith))
 
-store-shrinks : (vars : List StVar) (k : ℕ) (v : ℤ) → Shrinks (store vars k v)
-store-shrinks vars k v n m = within-if (is_within (type_at vars k) v) (Ended n (slice_set m k v)) (Faulted (subrange_left k v)) n (omega arith) tt
+store_at-shrinks : (k : ℕ) (t : StTy) (v : ℤ) → Shrinks (store_at k t v)
+store_at-shrinks k t v n m = within-if (is_within t v) (Ended n (slice_set m k v)) (Faulted (subrange_left k v)) n (omega arith) tt
 
 mutual
-  pub exec-shrinks : (vars : List StVar) (ss : Stms) → Shrinks (λ n m. exec vars ss n m)
-  exec-shrinks vars no_stms n m = omega arith
-  exec-shrinks vars (stms s ss) n m = within-and_then (exec_one vars s n m) _ n (exec_one-shrinks vars s n m) (exec-shrinks vars ss)
+  pub exec_at-shrinks : (ss : Stms) → Shrinks (λ n m. exec_at ss n m)
+  exec_at-shrinks no_stms n m = omega arith
+  exec_at-shrinks (stms s ss) n m = within-and_then (exec_one_at s n m) _ n (exec_one_at-shrinks s n m) (exec_at-shrinks ss)
 
-  exec_one-shrinks : (vars : List StVar) (s : Stm) → Shrinks (λ n m. exec_one vars s n m)
-  exec_one-shrinks vars (assign x e) n m = within-with_value (value_of vars e m) _ n (λ v. store-shrinks vars (place_of vars x) v n m)
-  exec_one-shrinks vars (choice bs o) n m = exec_choice-shrinks vars bs _ (exec_other-shrinks vars o) n m
-  exec_one-shrinks vars (loop c ss) n m = repeated-shrinks (suc n) _ _ (exec-shrinks vars ss) n m
+  exec_one_at-shrinks : (s : Stm) → Shrinks (λ n m. exec_one_at s n m)
+  exec_one_at-shrinks (assign k t e) n m = within-with_value (value_at e m) _ n (λ v. store_at-shrinks k t v n m)
+  exec_one_at-shrinks (choice bs o) n m = exec_choice_at-shrinks bs _ (exec_other_at-shrinks o) n m
+  exec_one_at-shrinks (loop c ss) n m = repeated-shrinks (suc n) _ _ (exec_at-shrinks ss) n m
 
-  exec_other-shrinks : (vars : List StVar) (o : Other) → Shrinks (λ n m. exec_other vars o n m)
-  exec_other-shrinks vars no_other n m = omega arith
-  exec_other-shrinks vars (other ss) n m = exec-shrinks vars ss n m
+  exec_other_at-shrinks : (o : Other) → Shrinks (λ n m. exec_other_at o n m)
+  exec_other_at-shrinks no_other n m = omega arith
+  exec_other_at-shrinks (other ss) n m = exec_at-shrinks ss n m
 
-  exec_choice-shrinks : (vars : List StVar) (bs : Branches) (last : Act) → Shrinks last → Shrinks (λ n m. exec_choice vars bs last n m)
-  exec_choice-shrinks vars no_branches last s n m = s n m
-  exec_choice-shrinks vars (branches c ss bs) last s n m =
-      within-with_value (value_of vars c m) _ n
-      (λ v. within-if (is_true v) (exec vars ss n m) (exec_choice vars bs last n m) n (exec-shrinks vars ss n m) (exec_choice-shrinks vars bs last s n m))
+  exec_choice_at-shrinks : (bs : Branches) (last : Act) → Shrinks last → Shrinks (λ n m. exec_choice_at bs last n m)
+  exec_choice_at-shrinks no_branches last s n m = s n m
+  exec_choice_at-shrinks (branches c ss bs) last s n m =
+      within-with_value (value_at c m) _ n
+      (λ v. within-if (is_true v) (exec_at ss n m) (exec_choice_at bs last n m) n (exec_at-shrinks ss n m) (exec_choice_at-shrinks bs last s n m))
 
 -- where at most n turns are left, only those matter to what follows
 and_then-same : (o : Outcome) (n : ℕ) (f g : Act) → IsWithin n o → ((k : ℕ) (m : Memory) → k ≤ n → f k m ≡ g k m) → and_then o f ≡ and_then o g
@@ -116,22 +117,22 @@ loop-out cond body zero m v is true_is e = loop-busy cond body zero m v is true_
 loop-out cond body (suc n) m v is true_is e = absurd (omega arith)
 
 -- one more turn of a body of statements, and the loop as from its beginning
-pub loop-turn : (cond : Memory → Result ℤ Fault) (vars : List StVar) (ss : Stms) (n : ℕ) (m : Memory) (v : ℤ) → cond m ≡ Ok v → is_true v ≡ true → 0 < n
-    → repeated (suc n) cond (λ l k. exec vars ss l k) n m ≡ and_then (exec vars ss (n - 1) m) (λ l k. repeated (suc l) cond (λ i j. exec vars ss i j) l k)
-loop-turn cond vars ss zero m v is true_is some = absurd (omega arith)
-loop-turn cond vars ss (suc n) m v is true_is some =
+pub loop-turn : (cond : Memory → Result ℤ Fault) (ss : Stms) (n : ℕ) (m : Memory) (v : ℤ) → cond m ≡ Ok v → is_true v ≡ true → 0 < n
+    → repeated (suc n) cond (λ l k. exec_at ss l k) n m ≡ and_then (exec_at ss (n - 1) m) (λ l k. repeated (suc l) cond (λ i j. exec_at ss i j) l k)
+loop-turn cond ss zero m v is true_is some = absurd (omega arith)
+loop-turn cond ss (suc n) m v is true_is some =
     let less : suc n - 1 ≡ n = omega arith in
-    loop-busy cond (λ l k. exec vars ss l k) (suc n) m v is true_is
-    ∙ and_then-same (exec vars ss n m) n _ (λ l k. repeated (suc l) cond (λ i j. exec vars ss i j) l k) (exec-shrinks vars ss n m)
-    (λ k x h. repeated-enough (suc n) (suc k) cond (λ i j. exec vars ss i j) (exec-shrinks vars ss) k x (omega arith) (omega arith))
-    ∙ ap (λ j. and_then (exec vars ss j m) (λ l k. repeated (suc l) cond (λ i j. exec vars ss i j) l k)) (sym less)
+    loop-busy cond (λ l k. exec_at ss l k) (suc n) m v is true_is
+    ∙ and_then-same (exec_at ss n m) n _ (λ l k. repeated (suc l) cond (λ i j. exec_at ss i j) l k) (exec_at-shrinks ss n m)
+    (λ k x h. repeated-enough (suc n) (suc k) cond (λ i j. exec_at ss i j) (exec_at-shrinks ss) k x (omega arith) (omega arith))
+    ∙ ap (λ j. and_then (exec_at ss j m) (λ l k. repeated (suc l) cond (λ i j. exec_at ss i j) l k)) (sym less)
 
 -- a body that is stopped stops its loop
-pub loop-stopped : (cond : Memory → Result ℤ Fault) (vars : List StVar) (ss : Stms) (n : ℕ) (m k : Memory) (v : ℤ) (e : ScanErr) → cond m ≡ Ok v → is_true v ≡ true → 0 < n
-    → exec vars ss (n - 1) m ≡ outcome_of (Err e) k → repeated (suc n) cond (λ i j. exec vars ss i j) n m ≡ outcome_of (Err e) k
-loop-stopped cond vars ss n m k v e is true_is some stops =
-    loop-turn cond vars ss n m v is true_is some
-    ∙ ap (λ o. and_then o (λ i j. repeated (suc i) cond (λ x y. exec vars ss x y) i j)) stops
+pub loop-stopped : (cond : Memory → Result ℤ Fault) (ss : Stms) (n : ℕ) (m k : Memory) (v : ℤ) (e : ScanErr) → cond m ≡ Ok v → is_true v ≡ true → 0 < n
+    → exec_at ss (n - 1) m ≡ outcome_of (Err e) k → repeated (suc n) cond (λ i j. exec_at ss i j) n m ≡ outcome_of (Err e) k
+loop-stopped cond ss n m k v e is true_is some stops =
+    loop-turn cond ss n m v is true_is some
+    ∙ ap (λ o. and_then o (λ i j. repeated (suc i) cond (λ x y. exec_at ss x y) i j)) stops
     ∙ stays-stopped e _
 
 pub ruleset loops = (loop-fault, loop-idle, loop-out, loop-turn)

@@ -3,7 +3,8 @@
 
 mod error;
 mod machine;
-mod names;
+mod placed;
+mod resolving;
 mod statements;
 #[cfg(test)]
 mod tests;

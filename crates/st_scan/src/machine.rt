@@ -2,15 +2,21 @@
 
 ghost use Rattle.std.specs.Prelude.{◌≡◌, ◌<◌, ◌^◌, ℕ, length, slice_get, IfOk, OnOk, OnErr, IfErr, map};
 ghost use Rattle.st_ast.specs.Exec.{Ended};
+ghost use Rattle.st_ast.specs.Interface.{is_output, numbers_of, output_values};
 ghost use Rattle.st_ast.specs.Scan.{value_of_literal, first_of, start_memory, is_input, store_row, scan_of};
-ghost use Rattle.st_ast.specs.View.{view};
+ghost use Rattle.st_ast.specs.View.{view, view_stmts};
 ghost use Rattle.st_scan.specs.Standing.{Standing};
-ghost use Rattle.st_scan.specs.Endings.{stopped};
+ghost use Rattle.st_scan.specs.Endings.{stopped, outcome_of};
+ghost use Rattle.st_scan.specs.PlacedView.{stmts_view};
+ghost use Rattle.st_scan.specs.Placing.{placed_stms};
 
 use crate::error::ScanErr;
+use crate::placed::PlacedStmt;
+use crate::resolving::resolve_stmts;
 use crate::statements::run;
-use cif_base::Memory;
-use st_ast::{Program, StClass, StLit, StTy, StVar};
+use cif_base::{Items, Memory};
+use st_ast::{StClass, StLit, StTy, StVar};
+use st_check::Checked;
 use std::alloc::Global;
 use std::marker::Model;
 
@@ -20,7 +26,9 @@ const TURNS: u32 = 1_000_000;
 /// A program and its memory: the number of each variable, in the order of declaration. A BOOL is 0 or 1.
 #[derive(Drop)]
 pub struct Machine<'a> {
-    program: &'a Program,
+    program: &'a Checked,
+    // the statements of the program with its names resolved
+    body: Items<PlacedStmt>,
     memory: Vec<i64>,
     // what a scan works on, so that one that ends early leaves the memory as it was
     work: Vec<i64>,
@@ -29,7 +37,10 @@ pub struct Machine<'a> {
 impl<'a> Model for Machine<'a> {
     ghost use Rattle.std.specs.Prelude.{◌≡◌, ◌<◌, ◌^◌, length};
     ghost use Rattle.std.specs.Coded.{codes};
+    ghost use Rattle.st_ast.specs.View.{view_stmts};
     ghost use Rattle.st_ast.specs.contracts.tree.Stmt as statement;
+    ghost use Rattle.st_scan.specs.PlacedView.{stmts_view};
+    ghost use Rattle.st_scan.specs.Placing.{placed_stms};
     ghost use Rattle.st_scan.specs.Standing.{Standing};
 
     ghost Value = { Standing };
@@ -41,20 +52,22 @@ impl<'a> Model for Machine<'a> {
     ghost invariant = { λ m.
         (length m.memory.items ≡ length m.program.now.vars)
         × (length m.work.items ≡ length m.program.now.vars)
-        × (length m.program.now.vars < 2 ^ 32) };
+        × (stmts_view m.body ≡ placed_stms m.program.now.vars (view_stmts m.program.now.body)) };
 }
 
 impl<'a> Machine<'a> {
-    /// The machine at the memory of the declarations.
-    pub fn new(alloc: Global, program: &'a Program) -> Result<Machine<'a>, Memory>
-        requires { length program.now.vars < 2 ^ 32 }
+    /// The machine at the memory of the declarations. All memory that later calls need is taken here.
+    pub fn new(alloc: Global, program: &'a Checked) -> Result<Machine<'a>, Memory>
         ensures { IfOk result (λ m.
             m ≡ record { program = program.now; memory = start_memory (view program.now) }) }
     {
-        let memory = first_values(alloc, program.vars.as_slice())?;
-        let work = first_values(alloc, program.vars.as_slice())?;
+        let tree = program.program();
+        let memory = first_values(alloc, tree.vars.as_slice())?;
+        let work = first_values(alloc, tree.vars.as_slice())?;
+        let body = resolve_stmts(alloc, program, tree.body.as_slice())?;
         Ok(Machine {
             program,
+            body,
             memory,
             work,
         })
@@ -70,13 +83,12 @@ impl<'a> Machine<'a> {
             scan_of (view self.old.program) self.old.memory row.now ≡ stopped e) }
         ensures kept { OnErr result (self.new.memory ≡ self.old.memory) }
     {
-        let vars = self.program.vars.as_slice();
-        store(vars, row, self.memory.as_slice(), self.work.as_mut_slice());
-        match run(
-            vars,
-            self.program.body.as_slice(),
+        match execute(
+            self.program,
+            self.body.as_slice(),
+            row,
+            self.memory.as_slice(),
             self.work.as_mut_slice(),
-            TURNS,
         ) {
             Ok(_) => {
                 std::mem::swap(&mut self.memory, &mut self.work);
@@ -87,8 +99,9 @@ impl<'a> Machine<'a> {
     }
 
     /// The program that the machine executes.
-    pub fn program(&self) -> &'a Program
-        ensures { result.now ≡ self.now.program }
+    pub fn program(&self) -> &'a Checked
+        ensures same { result.now ≡ self.now.program }
+        ensures sized { length self.now.memory ≡ length self.now.program.vars }
     {
         self.program
     }
@@ -99,6 +112,16 @@ impl<'a> Machine<'a> {
         ensures { slice_get self.now.memory variable ≡ Some result }
     {
         self.memory[variable as usize]
+    }
+
+    /// The value of the k-th output, counted from 0 in the order of declaration.
+    #[tactic(auto, using(crate::proofs::Outputs::outputs))]
+    pub fn output(&self, k: u32) -> i64
+        requires { k < length (numbers_of is_output 0 self.now.program.vars) }
+        ensures { slice_get (output_values self.now.program.vars self.now.memory) k ≡ Some result }
+    {
+        let variable = self.program.outputs()[k as usize];
+        self.value(variable)
     }
 }
 
@@ -155,4 +178,22 @@ fn store(vars: &[StVar], row: &[i64], memory: &[i64], work: &mut [i64])
             next += 1;
         }
     }
+}
+
+/// Executes a program once, whose statements with their names resolved are `body`. The memory after it is left in `work`.
+#[tactic(auto, using(crate::proofs::Agreement::scans))]
+fn execute(
+    program: &Checked,
+    body: &[PlacedStmt],
+    row: &[i64],
+    memory: &[i64],
+    work: &mut [i64],
+) -> Result<u32, ScanErr>
+    requires resolved { stmts_view body.now ≡ placed_stms program.now.vars (view_stmts program.now.body) }
+    requires memory { length memory.now ≡ length program.now.vars }
+    requires work { length work.old ≡ length program.now.vars }
+    ensures { scan_of (view program.now) memory.now row.now ≡ outcome_of result work.new }
+{
+    store(program.program().vars.as_slice(), row, memory, work);
+    run(body, work, TURNS)
 }

@@ -1,11 +1,11 @@
-use Rattle.std.proofs.Common.{◌≡◌, ◌≤◌, length}
+use Rattle.std.proofs.Common.{◌≤◌, length}
 use Rattle.std.specs.Prelude.{All}
-use Rattle.st_read.specs.Lexing.{lexed, before}
+use Rattle.st_read.proofs.LexSteps.{Taken}
 use Rattle.st_read.proofs.lexing.lex.Given as goal
 
 abbrev pub invariant-loop-rest : goal.invariant-loop-rest
 invariant-loop-rest l = record {
-  found : lexed l.text ≡ before l.tokens (lexed l.rest);
+  found : Taken l.text l.rest l.tokens;
   shorter : length l.rest ≤ length l.text;
   within : All (λ at. at ≤ length l.text) l.starts.items;
 }

@@ -2,11 +2,13 @@ use Rattle.std.proofs.Common.{◌≡◌, ℕ, suc, true, ap, sym, ◌∙◌, ari
 use Rattle.std.specs.Prelude.{Result, Ok, Err}
 use Rattle.std.specs.Result.{IsErrAnd}
 use Rattle.std.proofs.lemmas.Int.{to_z-of_z}
-use Rattle.st_ast.specs.Values.{Memory, is_true, value_of}
-use Rattle.st_ast.specs.Exec.{and_then, repeated, exec}
-use Rattle.st_ast.specs.View.{view_expr, view_stmts}
+use Rattle.st_ast.specs.Values.{Memory, is_true}
+use Rattle.st_ast.specs.Exec.{and_then, repeated}
 use Rattle.st_scan.specs.declared.error.ScanErr.{ScanErr}
 use Rattle.st_scan.specs.Endings.{outcome_of}
+use Rattle.st_scan.specs.PlacedValues.{value_at}
+use Rattle.st_scan.specs.PlacedExec.{exec_at}
+use Rattle.st_scan.specs.PlacedView.{expr_view, stmts_view}
 use Rattle.st_scan.proofs.Loop.{loop-turn, loop-stopped}
 use Rattle.st_scan.proofs.statements.+run.Goals as goal
 
@@ -20,7 +22,7 @@ repeat-returns-in_err-left-clause-is t c =
     let fits : FitsSigned w64 v = search rules in
     let goes : is_true v ≡ true = grind (arith, to_z-of_z, c.is_set.ensures) in
     sym c.turns.invariant.rest
-    ∙ loop-stopped _ c.args.vars.now (view_stmts c.args.body.now) c.turns.left c.turns.memory c.run.new.memory v _ (sym c.in_ok-value.ensures) goes (omega arith) c.in_err-left.ensures.is
+    ∙ loop-stopped _ (stmts_view c.args.body.now) c.turns.left c.turns.memory c.run.new.memory v _ (sym c.in_ok-value.ensures) goes (omega arith) c.in_err-left.ensures.is
     ∙ handed_on _ _ c.run.new.memory c.from_residual-in_err-left.ensures.1
 
 pub repeat-turns-preserved : goal.repeat-turns-preserved
@@ -28,12 +30,12 @@ repeat-turns-preserved t c =
     let v = c.in_ok-value.field-0 in
     let fits : FitsSigned w64 v = search rules in
     let goes : is_true v ≡ true = grind (arith, to_z-of_z, c.is_set.ensures) in
-    let cond = value_of c.args.vars.now (view_expr c.args.cond.now) in
-    let body = view_stmts c.args.body.now in
+    let cond = value_at (expr_view c.args.cond.now) in
+    let body = stmts_view c.args.body.now in
     record {
       less = omega (arith, c.in_ok-left.ensures.less, c.turns.invariant.less);
       rest =
-          sym (loop-turn cond c.args.vars.now body c.turns.left c.turns.memory v (sym c.in_ok-value.ensures) goes (omega arith)
-          ∙ ap (λ o. and_then o (λ l k. repeated (suc l) cond (λ i j. exec c.args.vars.now body i j) l k)) c.in_ok-left.ensures.is)
+          sym (loop-turn cond body c.turns.left c.turns.memory v (sym c.in_ok-value.ensures) goes (omega arith)
+          ∙ ap (λ o. and_then o (λ l k. repeated (suc l) cond (λ i j. exec_at body i j) l k)) c.in_ok-left.ensures.is)
           ∙ c.turns.invariant.rest;
     }

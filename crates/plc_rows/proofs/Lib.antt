@@ -1,0 +1,4 @@
+pub mod Remaining
+pub mod Checking
+pub mod Whole
+pub mod Lines

@@ -1,0 +1,16 @@
+//! Rows files, and the table of the outputs of scans.
+#![tactic(auto)]
+
+mod error;
+mod reading;
+mod records;
+mod row;
+mod table;
+
+pub use error::RowErr;
+pub use reading::read_rows;
+pub use row::{Row, Rows};
+pub use table::rows_text;
+
+#[cfg(test)]
+mod tests;

@@ -1,0 +1,5 @@
+pub mod Told
+pub mod Keys
+pub mod Sorts
+pub mod Rows
+pub mod Outcome

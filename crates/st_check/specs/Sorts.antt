@@ -1,0 +1,14 @@
+-- What a sort of the code stands for.
+use Rattle.std.specs.Prelude.{Option, Some, None}
+use Rattle.st_ast.specs.Checks as checks
+use Rattle.st_check.specs.declared.sorts.Sort.{Sort}
+use Rattle.st_check.specs.declared.sorts.Sort.TheVariants as sort
+
+abbrev pub told : Sort → checks.Sort
+told sort.Boolean = checks.boolean
+told sort.Integer = checks.integer
+
+-- a sort, where there is one
+abbrev pub sort_told : Option Sort → Option checks.Sort
+sort_told None = None
+sort_told (Some s) = Some (told s)

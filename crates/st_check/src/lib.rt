@@ -1,0 +1,17 @@
+//! Checking the names, the types and the first values of a Structured Text program (IEC 61131-3, "Variables" and "Data
+//! types").
+#![tactic(auto)]
+
+mod checked;
+mod error;
+mod names;
+mod rows;
+mod scope;
+mod sorts;
+mod statements;
+#[cfg(test)]
+mod tests;
+mod variables;
+
+pub use checked::{Checked, check_program};
+pub use error::StCheckErr;
