@@ -2,7 +2,7 @@
 use Rattle.std.proofs.Common.{◌≡◌, ℕ, List, [], ◌∷◌, refl}
 use Rattle.std.specs.Prelude.{nat_eq}
 use Rattle.std.specs.Cmp.Lexicographic.{pointwise}
-use Rattle.st_ast.specs.Tokens.{same}
+use Rattle.grammar.specs.Pieces.{same}
 
 -- texts compared as slices are
 pub same_is : (x y : List ℕ) → pointwise nat_eq x y ≡ same x y

@@ -1,7 +1,6 @@
 -- The most bytes that files may have.
 use Rattle.std.specs.Prelude.{ℕ, ◌==◌, codes, if◌then◌else◌}
-use Rattle.grammar.specs.Pieces.{Text}
-use Rattle.st_ast.specs.Tokens.{same}
+use Rattle.grammar.specs.Pieces.{Text, same}
 
 -- of a source, a program of Structured Text, and rows
 abbrev pub source_limit : ℕ

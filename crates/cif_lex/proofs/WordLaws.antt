@@ -3,9 +3,9 @@ use Rattle.std.proofs.Common.{◌≡◌, ◌≢◌, ◌==◌, ℕ, Bool, not, tr
 use Rattle.std.proofs.lemmas.Bool.Decides.{nat_tests}
 use Rattle.std.specs.Prelude.{nat_eq}
 use Rattle.std.specs.Cmp.Lexicographic.{pointwise}
-use Rattle.grammar.specs.Pieces.{Text}
+use Rattle.grammar.specs.Pieces.{Text, same}
 use Rattle.cif_lex.specs.declared.token.Word.{Word}
-use Rattle.cif_lex.specs.Tokens.{same, find_text, reserved}
+use Rattle.cif_lex.specs.Tokens.{find_text, reserved}
 use Rattle.cif_lex.specs.Cutting.{reserved_word}
 
 pub same_is : (xs ys : List ℕ) → pointwise nat_eq xs ys ≡ same xs ys

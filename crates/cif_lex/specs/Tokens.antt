@@ -1,7 +1,7 @@
 -- The tokens of a source (CIF 3 language reference, "Lexical syntax"): a text is blanks, comments, words, numbers and
 -- signs one after the other, each the longest that begins at its place, and all but the blanks and comments are its tokens.
 use Rattle.std.specs.Prelude.{◌≡◌, ℕ, ◌+◌, ◌-◌, ◌*◌, ◌≤◌, ◌<◌, Bool, true, false, not, ◌||◌, ◌&&◌, ◌==◌, nat_le, List, [], ◌∷◌, ◌++◌, codes, length, map, All, Option, Some, None, if◌then◌else◌}
-use Rattle.grammar.specs.Pieces.{Text, Kinds, ◌∣◌, IsLongest, Pieces, run, after_byte, closed, one_text}
+use Rattle.grammar.specs.Pieces.{Text, Kinds, ◌∣◌, IsLongest, Pieces, run, after_byte, closed, one_text, same}
 use Rattle.cif_lex.specs.declared.token.Token.{Token}
 use Rattle.cif_lex.specs.declared.token.TokenKind.{TokenKind}
 use Rattle.cif_lex.specs.declared.token.TokenKind.TheVariants.{Id, Reserved, Number, Sign}
@@ -76,12 +76,6 @@ piece = run is_blank none_of (λ t. blank)
 
 -- ---- kinds of token
 
-abbrev pub same : Text → Text → Bool
-same [] [] = true
-same [] (b ∷ bs) = false
-same (a ∷ as') [] = false
-same (a ∷ as') (b ∷ bs) = a == b && same as' bs
-
 -- what a table has for a text
 abbrev pub find_text : {A : Type 0} → List (Text × A) → Text → Option A
 find_text [] t = None
@@ -139,6 +133,10 @@ number_of digits = digits_from 0 digits
 
 abbrev pub greatest_number : ℕ
 greatest_number = 2147483647
+
+-- the number that digits stand for, where it isn't too big
+unfoldable pub small_number : Text → Option ℕ
+small_number digits = if nat_le (number_of digits) greatest_number then Some (number_of digits) else None
 
 -- a piece that is no number above the greatest
 unfoldable pub IsInRange : Piece → Type 0

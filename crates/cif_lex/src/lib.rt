@@ -17,7 +17,9 @@ mod words;
 pub use error::LexErr;
 pub use laws::{no_tokens_where_refused, one_token_list, spans_rise};
 pub use lexing::lex;
+pub use numbers::small_number;
 pub use token::{Mark, Token, TokenKind, Word};
+pub use words::reserved_word;
 
 #[cfg(test)]
 mod tests;

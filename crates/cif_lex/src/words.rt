@@ -1,7 +1,8 @@
 //! Reserved words.
 
 ghost use Rattle.std.specs.Prelude.{◌≡◌, map};
-ghost use Rattle.cif_lex.specs.Tokens.{same, find_text};
+ghost use Rattle.grammar.specs.Pieces.{same};
+ghost use Rattle.cif_lex.specs.Tokens.{find_text};
 ghost use Rattle.cif_lex.specs.Cutting as cutting;
 
 use crate::token::Word;

@@ -1,7 +1,8 @@
 -- A loop that reads a list item by item, beside the recursion that says which list it is.
 use Rattle.std.proofs.Common.{◌≡◌, ℕ, zero, suc, max, ◌+◌, ◌-◌, ◌<◌, ◌≤◌, true, false, List, [], ◌∷◌, ◌++◌, Some, None, refl, sym, ap, ◌∙◌, append_assoc, append-nil, arith}
+use Rattle.grammar.specs.Lang.{flat}
 use Rattle.grammar.specs.Reader.{Read, Reader, and_then, starts, many_from, many_at, list_at, Deep, deep_from, deep_many, deep_list, joined, level, above, chained}
-use Rattle.grammar.specs.Loops.{after, deep_after}
+use Rattle.grammar.specs.Loops.{after, deep_after, flat_after}
 
 down : (n at : ℕ) → at < n → n - at ≡ suc (n - (at + 1))
 down n at l = omega arith
@@ -83,3 +84,36 @@ chained_more limit make first (b ∷ bs) e ts h = refl
 pub deep_after_none : {T A : Type 0} (read : Read T (List A × ℕ)) → deep_after [] 0 read ≡ read
 deep_after_none None = refl
 deep_after_none (Some p) = let none : max 0 p.0.1 ≡ p.0.1 = omega arith in ap (λ n. Some ((p.0.0, n), p.1)) none
+
+-- ---- lists one after the other
+
+pub after_none : {T A : Type 0} (read : Read T (List A)) → after [] read ≡ read
+after_none None = refl
+after_none (Some p) = refl
+
+pub flat_after_none : {T A : Type 0} (read : Read T (List (List A))) → flat_after [] read ≡ and_then {A = List (List A)} {B = List A} read (λ all us. Some (flat all, us))
+flat_after_none None = refl
+flat_after_none (Some p) = refl
+
+module _ {T A : Type 0} (code : T → ℕ) (ks : List ℕ) (r : Reader T (List A)) where
+  flat_tail : (front a : List A) (read : Read T (List (List A))) → flat_after front (and_then read (λ more vs. Some (a ∷ more, vs))) ≡ flat_after (front ++ a) read
+  flat_tail front a None = refl
+  flat_tail front a (Some p) = ap (λ (all : List A). Some (all, p.1)) (sym (append_assoc front a (flat p.0)))
+
+  pub flat_step : (front : List A) (n at : ℕ) (ts us : List T) (a : List A) → at < n → starts code ks ts ≡ true → r ts ≡ Some (a, us)
+      → flat_after front (many_from code ks r (n - at) ts) ≡ flat_after (front ++ a) (many_from code ks r (n - (at + 1)) us)
+  unfolding many_from
+  flat_step front n at ts us a l s e = rw (down n at l, s, e) (flat_tail front a (many_from code ks r (n - (at + 1)) us))
+
+  pub flat_stop : (front : List A) (n : ℕ) (ts : List T) → starts code ks ts ≡ false → flat_after front (many_from code ks r n ts) ≡ Some (front, ts)
+  unfolding many_from
+  flat_stop front zero ts s = ap (λ (all : List A). Some (all, ts)) (append-nil front)
+  flat_stop front (suc n) ts s = rw s (ap (λ (all : List A). Some (all, ts)) (append-nil front))
+
+  pub flat_fail : (front : List A) (n at : ℕ) (ts : List T) → at < n → starts code ks ts ≡ true → r ts ≡ None → flat_after front (many_from code ks r (n - at) ts) ≡ None
+  unfolding many_from
+  flat_fail front n at ts l s e = rw (down n at l, s, e) refl
+
+  pub flat_end : (front : List A) (n at : ℕ) (ts : List T) → n ≤ at → flat_after front (many_from code ks r (n - at) ts) ≡ Some (front, ts)
+  unfolding many_from
+  flat_end front n at ts l = let none : n - at ≡ 0 = omega arith in rw none (ap (λ (all : List A). Some (all, ts)) (append-nil front))

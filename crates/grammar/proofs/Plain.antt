@@ -1,8 +1,8 @@
 -- The laws of readers with one token of sight, one for each way to build a language.
 use Rattle.std.proofs.Common.{◌≡◌, ℕ, zero, suc, ◌≤◌, Bool, true, false, cond, ◌&&◌, List, [], ◌∷◌, ◌++◌, length, Option, Some, None, refl, sym, ap, subst, ◌∙◌, append_assoc, arith, inl, inr, ◌⊎◌}
 use Rattle.std.proofs.lemmas.List.{length-append}
-use Rattle.grammar.specs.Lang.{Lang, has, one, ◌&◌, ◌∣◌, ◌<$>◌, many, list, optional}
-use Rattle.grammar.specs.Reader.{Read, Reader, and_then, starts, one_at, both_at, map_at, either_at, when_at, optional_at, many_from, many_at, list_at}
+use Rattle.grammar.specs.Lang.{Lang, has, one, ◌&◌, ◌∣◌, ◌<$>◌, many, list, optional, ◌▹◌, such_that}
+use Rattle.grammar.specs.Reader.{Read, Reader, and_then, starts, none_at, bind_at, checked, such_at, one_at, both_at, map_at, either_at, when_at, optional_at, many_from, many_at, list_at}
 use Rattle.grammar.specs.Sets.{apart, covers}
 use Rattle.grammar.proofs.Laws.{apart-has, covers-has, covers-not, has-left, has-right, not-left, not-right, Begins, Stops, Takes}
 
@@ -310,3 +310,42 @@ pub one_front : {T A : Type 0} {code : T → ℕ} {empty : Bool} {first goes_on 
 one_front {r = r} h a b x y u v d g s z e =
     let same = sym (h.complete a x u d s) ∙ ap r e ∙ h.complete b y v g z in
     (took_value a b u v same, took_rest a b u v same)
+
+-- a language without a tree
+pub nothing_takes : {T A : Type 0} (code : T → ℕ) (empty : Bool) (first goes_on : List ℕ) (p : Lang T A) → ((a : A) (x : List T) → p a x → ⊥) → Takes code empty first goes_on p none_at
+nothing_takes code empty first goes_on p h = record { begins = λ a x d. absurd (h a x d); sound = λ ts a rest e. absurd cc; complete = λ a x rest d s. absurd (h a x d) }
+
+-- a language that hands its tree on to the next
+pub bind_takes : {T A B : Type 0} {code : T → ℕ} {empty_1 empty_2 : Bool} {first_1 first_2 goes_1 goes_2 : List ℕ} {p : Lang T A} {q : A → Lang T B} {r : Reader T A} {s : A → Reader T B}
+    → Takes code empty_1 first_1 goes_1 p r → apart first_2 goes_1 ≡ true → ((a : A) → Takes code empty_2 first_2 goes_2 (q a) (s a))
+    → Takes code (empty_1 && empty_2) (first_1 ++ cond empty_1 first_2 []) (goes_2 ++ cond empty_2 goes_1 []) (p ▹ q) (bind_at r s)
+bind_takes {code = code} {empty_1 = empty_1} {empty_2 = empty_2} {first_1 = first_1} {first_2 = first_2} {goes_1 = goes_1} {goes_2 = goes_2} {r = r} {s = s} h e k = record {
+  begins = λ b x d. subst (λ t. Begins code (empty_1 && empty_2) (first_1 ++ cond empty_1 first_2 []) t) (sym d.5)
+      (begins_both code empty_1 empty_2 first_1 first_2 d.1 d.2 (h.begins d.0 d.1 d.3) ((k d.0).begins b d.2 d.4));
+  sound = λ ts b rest g.
+      let w = and_then_some (r ts) s b rest g in
+      let m = h.sound ts w.0 w.1 w.2 in
+      let n = (k w.0).sound w.1 b rest w.3 in
+      (m.0 ++ n.0, (w.0, m.0, n.0, m.1, n.1, refl), m.2 ∙ ap (λ us. m.0 ++ us) n.2 ∙ sym (append_assoc m.0 n.0 rest));
+  complete = λ b x rest d z.
+      let one = h.complete d.0 d.1 (d.2 ++ rest) d.3 (stops_before code empty_2 first_2 goes_1 goes_2 d.2 rest e ((k d.0).begins b d.2 d.4) z) in
+      let two = (k d.0).complete b d.2 rest d.4 (stops_left code goes_2 (cond empty_2 goes_1 []) rest z) in
+      rw (d.5, append_assoc d.1 d.2 rest, one) two;
+}
+
+-- the trees of a language that pass a test
+pub such_takes : {T A : Type 0} {code : T → ℕ} {empty : Bool} {first goes_on : List ℕ} {p : Lang T A} {r : Reader T A} (test : A → Bool)
+    → Takes code empty first goes_on p r → Takes code empty first goes_on (such_that test p) (such_at test r)
+such_takes {T = T} {A = A} {p = p} {r = r} test h = record {
+  begins = λ a x d. h.begins a x d.1;
+  sound = λ ts a rest e.
+      let w = and_then_some (r ts) (checked test) a rest e in
+      let m = h.sound ts w.0 w.1 w.2 in
+      elim (if_some (test w.0) (took w.0 w.1) None (took a rest) w.3) [
+        | inl u ↦
+            let same : w.0 ≡ a = took_value w.0 a w.1 rest u.1 in
+            (m.0, (ap test (sym same) ∙ u.0, subst (λ c. p c m.0) same m.1), m.2 ∙ ap (λ us. m.0 ++ us) (took_rest w.0 a w.1 rest u.1))
+        | inr u ↦ absurd (let e = u.1 in cc)
+      ];
+  complete = λ a x rest d s. rw (h.complete a x rest d.1 s, d.0) refl;
+}

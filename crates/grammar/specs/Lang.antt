@@ -42,3 +42,21 @@ list p q = (λ v. v.0 ∷ v.1) <$> p & many q
 abbrev pub optional : {T A : Type 0} → Lang T A → Lang T (Option A)
 optional p None ts = ts ≡ []
 optional p (Some a) ts = p a ts
+
+-- a language that hands its tree on to the next
+infixr 6 ◌▹◌
+abbrev pub ◌▹◌ : {T A B : Type 0} → Lang T A → (A → Lang T B) → Lang T B
+(p ▹ q) b ts = (a : _) × (x : List _) × (y : List _) × p a x × q a b y × (ts ≡ x ++ y)
+
+-- the trees of a language that pass a test
+abbrev pub such_that : {T A : Type 0} → (A → Bool) → Lang T A → Lang T A
+such_that test p a ts = (test a ≡ true) × p a ts
+
+-- no tree at all
+abbrev pub nothing : {T A : Type 0} → Lang T A
+nothing a ts = ⊥
+
+-- lists one after the other, as one list
+abbrev pub flat : {A : Type 0} → List (List A) → List A
+flat [] = []
+flat (x ∷ xs) = x ++ flat xs

@@ -41,6 +41,17 @@ when_at test r s ts = if test ts then r ts else s ts
 abbrev pub optional_at : {T A : Type 0} → (T → ℕ) → List ℕ → Reader T A → Reader T (Option A)
 optional_at code ks r ts = if starts code ks ts then map_at (λ a. Some a) r ts else Some (None, ts)
 
+-- the second reader is made by what the first took
+abbrev pub bind_at : {T A B : Type 0} → Reader T A → (A → Reader T B) → Reader T B
+bind_at r s ts = and_then (r ts) s
+
+abbrev pub checked : {T A : Type 0} → (A → Bool) → A → Reader T A
+checked test a ts = if test a then Some (a, ts) else None
+
+-- what passes a test
+abbrev pub such_at : {T A : Type 0} → (A → Bool) → Reader T A → Reader T A
+such_at test r ts = and_then (r ts) (checked test)
+
 -- Each turn takes a token, so the number of tokens bounds the turns.
 unfoldable pub many_from : {T A : Type 0} → (T → ℕ) → List ℕ → Reader T A → ℕ → Reader T (List A)
 many_from code ks r zero ts = Some ([], ts)

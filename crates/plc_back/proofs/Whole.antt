@@ -1,14 +1,14 @@
 -- The tokens of the printed program of a plant derive the program.
 use Rattle.std.proofs.Common.{◌≡◌, ℕ, ◌-◌, ◌≤◌, ℤ, pos, Bool, true, false, cond, List, [], ◌∷◌, Option, Some, filter, refl, sym, subst, ◌∙◌, inl, inr, append-nil, arith}
 use Rattle.std.specs.Prelude.{codes}
-use Rattle.grammar.specs.Lang.{many}
+use Rattle.grammar.specs.Lang.{many, flat}
 use Rattle.grammar.specs.Pieces.{Text}
 use Rattle.cif_system.specs.Words.{Member}
 use Rattle.cif_ast.specs.declared.plant.Class.TheVariants as c
 use Rattle.cif_ast.specs.declared.numbered.Move.{Move}
 use Rattle.cif_ast.specs.declared.numbered.NumberedPlant.{NumberedPlant}
 use Rattle.st_ast.specs.Tokens.{Token, name, program, end_program, var, var_output, end_var, bool, lint, colon, assigns, semicolon, open_sign, close_sign, dots, false_word, greatest, kind_of_word}
-use Rattle.st_ast.specs.Grammar.{middle, expression, below, max_depth, signed, first_value, subrange_of, type_use, value_of_init, declaration, block, flat, statement, whole}
+use Rattle.st_ast.specs.Grammar.{middle, expression, below, max_depth, signed, first_value, subrange_of, type_use, value_of_init, declaration, block, statement, whole}
 use Rattle.st_ast.specs.Tree.{truth, number, named, Stm, Stms, assign, no_stms, stms, append, stms_of, Program}
 use Rattle.st_ast.specs.declared.tree.StVar.{StVar}
 use Rattle.st_ast.specs.declared.tree.StTy.{StTy}

@@ -1,8 +1,7 @@
 -- The header and the rows, by their first fields and how many fields they have.
 use Rattle.std.proofs.Common.{◌≡◌, ◌<◌, ◌≤◌, ℕ, Bool, true, false, not, ◌&&◌, List, [], ◌∷◌, length, codes, decimal, Some, None, refl, sym, ap, ◌∙◌, arith, eqb-true, eq-eqb}
 use Rattle.std.specs.Prelude.{◌==◌}
-use Rattle.grammar.specs.Pieces.{Text}
-use Rattle.st_ast.specs.Tokens.{same}
+use Rattle.grammar.specs.Pieces.{Text, same}
 use Rattle.csv.specs.Records.{field_at}
 use Rattle.plc_rows.specs.Rows.{header, cell, row_length, header_fault, row_fault}
 use Rattle.plc_rows.proofs.Remaining.{none_some, one_some}

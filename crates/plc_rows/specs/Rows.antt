@@ -1,8 +1,7 @@
 -- The rules of a rows file, for a program without inputs: the records of the text, as `csv` has them, are the header, which
 -- is the field `scan` alone, and then the rows, which are numbered from 1. The cell of a row is its number.
 use Rattle.std.specs.Prelude.{◌≡◌, ℕ, suc, ◌+◌, nat_lt, ℤ, List, [], ◌∷◌, codes, decimal, Option, Some, None, if◌then◌else◌}
-use Rattle.grammar.specs.Pieces.{Text}
-use Rattle.st_ast.specs.Tokens.{same}
+use Rattle.grammar.specs.Pieces.{Text, same}
 use Rattle.csv.specs.Reading.{default_config, records, strip_bom}
 
 -- What breaks a rule. Columns and rows are counted from 1.

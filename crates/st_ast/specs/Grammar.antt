@@ -18,7 +18,7 @@
 --   prim    = "TRUE" | "FALSE" | NUMBER | ID | "(" e ")"
 use Rattle.std.specs.Prelude.{ℕ, zero, suc, ℤ, pos, neg_ℤ, true, false, List, [], ◌∷◌, ◌++◌, map, Option, Some, None}
 use Rattle.grammar.specs.Pieces.{Text}
-use Rattle.grammar.specs.Lang.{Lang, one, ◌&◌, ◌∣◌, ◌<$>◌, many, some, optional}
+use Rattle.grammar.specs.Lang.{Lang, one, ◌&◌, ◌∣◌, ◌<$>◌, many, some, optional, flat}
 use Rattle.st_ast.specs.Tokens.{Kind, Token, name, literal, program, end_program, var, var_output, end_var, bool, lint, true_word, false_word, if_word, then_word, elsif_word, else_word, end_if, while_word, do_word, end_while, not_word, and_word, or_word, semicolon, colon, assigns, dots, open_sign, close_sign, comma, plus, dash, equals, less, outside, number_of}
 use Rattle.st_ast.specs.Tree.{Expr, truth, number, named, paren, negation, sum, order, equal, all_of, any_of, exprs_of, Stm, Stms, assign, choice, loop, stms_of, Program}
 use Rattle.st_ast.specs.View.{terms_of, branches_of, other_of}
@@ -209,10 +209,6 @@ block_of kind k = (λ (v : Token × (List StVar × Token)). middle v) <$> word k
 
 abbrev pub block : Lang Token (List StVar)
 block = block_of var class.Plain ∣ block_of var_output class.Output
-
-abbrev pub flat : {A : Type 0} → List (List A) → List A
-flat [] = []
-flat (x ∷ xs) = x ++ flat xs
 
 -- ---- programs
 

@@ -2,7 +2,7 @@
 -- blanks, comments, words, numbers and signs one after the other, each the longest that begins at its place.
 use Rattle.std.specs.Prelude.{◌≡◌, ℕ, ◌+◌, ◌-◌, ◌*◌, Bool, true, false, not, ◌||◌, ◌&&◌, ◌==◌, nat_le, List, [], ◌∷◌, codes, Option, Some, None, filter_map, if◌then◌else◌}
 use Rattle.std.specs.List.{list_any}
-use Rattle.grammar.specs.Pieces.{Text, Kinds, ◌∣◌, run, after_byte, closed, one_text, Pieces}
+use Rattle.grammar.specs.Pieces.{Text, Kinds, ◌∣◌, run, after_byte, closed, one_text, Pieces, same}
 use Rattle.st_ast.specs.Names.{same_name}
 
 pub data Piece : Type 0 where
@@ -35,12 +35,6 @@ signs = codes ":=" ∷ codes ".." ∷ codes "<>" ∷ codes "<=" ∷ codes ">="
 unfoldable pub piece : Kinds Piece
 piece = run is_blank none_of (λ t. blank) ∣ run is_letter is_wordy word ∣ run is_digit is_digit number
     ∣ after_byte 40 (closed 42 42 41 comment) ∣ one_text signs sign
-
-abbrev pub same : Text → Text → Bool
-same [] [] = true
-same [] (b ∷ bs) = false
-same (a ∷ as') [] = false
-same (a ∷ as') (b ∷ bs) = a == b && same as' bs
 
 abbrev pub is_sign : Text → Piece → Bool
 is_sign s blank = false

@@ -3,9 +3,9 @@ use Rattle.std.proofs.Common.{◌≡◌, ◌==◌, ℕ, zero, suc, ◌*◌, ◌<
 use Rattle.std.specs.Prelude.{if◌then◌else◌, codes, decimal, replicate, filter_map}
 use Rattle.std.specs.List.{list_any, list_all}
 use Rattle.std.proofs.lemmas.Bool.Decides.{nat_tests}
-use Rattle.grammar.specs.Pieces.{Text, Pieces, AllAre, head_is, run_of}
+use Rattle.grammar.specs.Pieces.{Text, Pieces, AllAre, head_is, run_of, same}
 use Rattle.st_ast.specs.Tokens as tk
-use Rattle.st_ast.specs.Tokens.{Piece, is_blank, is_letter, is_digit, is_wordy, none_of, piece, same, is_sign, opens_comment, token_of, Token, Tokens}
+use Rattle.st_ast.specs.Tokens.{Piece, is_blank, is_letter, is_digit, is_wordy, none_of, piece, is_sign, opens_comment, token_of, Token, Tokens}
 use Rattle.st_lex.specs.Cutting.{piece_cut}
 use Rattle.st_lex.proofs.CuttingLaws.{piece_cuts}
 use Rattle.st_lex.proofs.Decimals.{decimal_digits, decimal_nonempty}

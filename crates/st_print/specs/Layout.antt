@@ -2,8 +2,7 @@
 -- line of its own, indented by two blanks for each nesting. Tokens are separated by one blank, with none before `;` `,` `:`
 -- `)`, none after `(` and none after a sign before a number.
 use Rattle.std.specs.Prelude.{ℕ, ◌+◌, ◌*◌, ℤ, pos, negsuc, Bool, true, false, ◌||◌, List, [], ◌∷◌, ◌++◌, codes, decimal, replicate, Option, Some, None, if◌then◌else◌}
-use Rattle.grammar.specs.Pieces.{Text}
-use Rattle.st_ast.specs.Tokens.{same}
+use Rattle.grammar.specs.Pieces.{Text, same}
 use Rattle.st_ast.specs.Tree.{Expr, Exprs, Terms, truth, number, named, paren, negation, sum, order, equal, all_of, any_of, no_exprs, exprs, no_terms, terms, Stm, Stms, Branches, Other, assign, choice, loop, no_stms, stms, no_branches, branches, no_other, other, Program}
 use Rattle.st_ast.specs.declared.tree.StOrder.{StOrder}
 use Rattle.st_ast.specs.declared.tree.StOrder.TheVariants as cmp

@@ -1,8 +1,8 @@
 -- The tokens of what is printed, mark by mark, and the marks that are printed so that these are the tokens of the text.
 use Rattle.std.specs.Prelude.{◌≡◌, Bool, true, false, ◌&&◌, List, [], ◌∷◌, codes, decimal, Option, Some, None, filter_map}
 use Rattle.std.specs.List.{list_any, list_all}
-use Rattle.grammar.specs.Pieces.{Text}
-use Rattle.st_ast.specs.Tokens.{Token, is_letter, is_wordy, same, kind_of_word, kind_of_number, kind_of_sign}
+use Rattle.grammar.specs.Pieces.{Text, same}
+use Rattle.st_ast.specs.Tokens.{Token, is_letter, is_wordy, kind_of_word, kind_of_number, kind_of_sign}
 use Rattle.st_print.specs.Layout.{Mark, line, word, digits, sign, dash}
 
 -- a line break gives none

@@ -2,7 +2,7 @@
 
 ghost use Rattle.std.specs.Prelude.{◌≡◌, true, ◌++◌, ◌||◌, [], ◌∷◌, List, codes, OnOk};
 ghost use Rattle.std.specs.Fmt.{signed_decimal};
-ghost use Rattle.st_ast.specs.Tokens.{same};
+ghost use Rattle.grammar.specs.Pieces.{same};
 ghost use Rattle.st_print.specs.Layout.{Mark, line, word, sign, gap, closes, opens, number_marks, text_of};
 
 use cif_base::{Memory, put_int};

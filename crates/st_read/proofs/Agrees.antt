@@ -1,6 +1,6 @@
 -- What is read is what the grammar derives.
 use Rattle.std.proofs.Common.{◌≡◌, ℕ, zero, suc, ◌+◌, ◌≤◌, ◌<◌, true, false, List, [], ◌∷◌, ◌++◌, map, Option, refl, ap, ◌∙◌, arith}
-use Rattle.grammar.specs.Lang.{Lang, ◌&◌, ◌<$>◌, many, optional}
+use Rattle.grammar.specs.Lang.{Lang, ◌&◌, ◌<$>◌, many, optional, flat}
 use Rattle.grammar.specs.Reader.{Reader, Deep, inside, many_at, both_at, deep_both}
 use Rattle.grammar.specs.Sets.{apart}
 use Rattle.grammar.proofs.Laws.{Takes}
@@ -9,14 +9,14 @@ use Rattle.grammar.proofs.Depth.{Nests, IsBelow, flat_nests, deep_map_nests, dee
 use Rattle.st_ast.specs.Tokens.{Kind, Token, name, literal, program, end_program, var, var_output, end_var, bool, lint, true_word, false_word, if_word, then_word, elsif_word, else_word, end_if, while_word, do_word, end_while, not_word, and_word, or_word, semicolon, colon, assigns, dots, open_sign, close_sign, plus, dash, equals, less}
 use Rattle.st_ast.specs.Tree.{Expr, number, named, Stm, Stms, choice, stms_of, Program}
 use Rattle.st_ast.specs.View.{branches_of, other_of}
-use Rattle.st_ast.specs.Grammar.{sort, second, text_of, word, identifier, natural, Level, at_or, at_and, at_equal, at_order, at_sum, at_unary, prim, unary, summed, ordered, equated, conjunction, disjunction, level, max_depth, below, expression, without_word, assignment, guarded, conditional, repetition, statement, signed, first_value, type_use, value_of_init, declaration, block_of, block, flat, whole}
+use Rattle.st_ast.specs.Grammar.{sort, second, text_of, word, identifier, natural, Level, at_or, at_and, at_equal, at_order, at_sum, at_unary, prim, unary, summed, ordered, equated, conjunction, disjunction, level, max_depth, below, expression, without_word, assignment, guarded, conditional, repetition, statement, signed, first_value, type_use, value_of_init, declaration, block_of, block, whole}
 use Rattle.st_ast.specs.declared.tree.StVar.{StVar}
 use Rattle.st_ast.specs.declared.tree.StLit.{StLit}
 use Rattle.st_ast.specs.declared.tree.StLit.TheVariants as lit
 use Rattle.st_ast.specs.declared.tree.StClass.{StClass}
 use Rattle.st_ast.specs.declared.tree.StClass.TheVariants as class
 use Rattle.st_read.specs.Reading.{codes_of, first, word_at, flat_word, identifier_at, natural_of, natural_at, truth_of, paren_of, negation_of, term_of, sum_of, order_of, equal_of, all_from, any_from, paren_at, prim_at, unary_from, term_at, sum_from, ordered_at, order_from, equated_at, equal_from, and_next_at, and_from, or_next_at, or_from, unary_at, expression_at, assign_of, assignment_at, guarded_of, choice_of, loop_of, guarded_at, elsif_at, elsifs_at, branches_at, else_at, conditional_at, repetition_at, statement_first, statement_at, statements_at, opposite_of, signed_at, bool_of, first_value_at, bool_type, number_type, subrange_at, type_at, variable_of, init_at, declaration_at, variables_of, block_of_at, block_at, block_first, variables_at, made_of, program_at}
-use Rattle.st_read.proofs.Flat.{flat_after_none}
+use Rattle.grammar.proofs.Loops.{flat_after_none}
 use Rattle.st_read.proofs.Mapped.{reads_same, deep_reads_same, many_mapped, joined_first, chain_mapped, suffix_mapped}
 
 -- ---- what each level begins with, and what makes it go on

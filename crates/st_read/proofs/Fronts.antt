@@ -1,9 +1,9 @@
 -- What stands at the front of a text is the piece that is cut off there, and where nothing does none begins.
 use Rattle.std.proofs.Common.{◌≡◌, ◌==◌, ◌&&◌, ℕ, Bool, true, false, nat_le, List, [], ◌∷◌, Option, Some, None, Ok, Err, refl, sym, ap, ◌∙◌, arith, inl, inr, if◌then◌else◌}
 use Rattle.std.proofs.lemmas.Bool.Decides.{nat_tests}
-use Rattle.grammar.specs.Pieces.{Text, Cutter, Cut, either_cut, run_cut, run_of, after_cut, closed_cut, close_at, longer_by, text_cut, strip, or_else, one_text, head_is}
+use Rattle.grammar.specs.Pieces.{Text, Cutter, Cut, either_cut, run_cut, run_of, after_cut, closed_cut, close_at, longer_by, text_cut, strip, or_else, one_text, head_is, same}
 use Rattle.grammar.proofs.Plain.{if_some}
-use Rattle.st_ast.specs.Tokens.{Piece, blank, comment, word, number, sign, is_blank, is_letter, is_digit, is_wordy, none_of, signs, token_of, piece, same, is_sign, number_of, greatest}
+use Rattle.st_ast.specs.Tokens.{Piece, blank, comment, word, number, sign, is_blank, is_letter, is_digit, is_wordy, none_of, signs, token_of, piece, is_sign, number_of, greatest}
 use Rattle.st_lex.specs.Cutting.{first_there, first_cut, piece_cut}
 use Rattle.st_read.specs.declared.found.Fault.TheVariants as f
 use Rattle.st_read.specs.Lexing.{Found, letter, wordy, digit, is_reserved, other_kind, word_kind, sign_kind, value_in, numbered, after_close, commented, with_sign, sign_in, sign_of, signed, opens, inside, front_of}

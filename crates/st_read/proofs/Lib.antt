@@ -1,5 +1,4 @@
 pub mod Mapped
-pub mod Flat
 pub mod Agrees
 pub mod Whole
 pub mod Literals

@@ -1,9 +1,9 @@
 -- The number that digits stand for, digit by digit, and the kinds of words and signs.
 use Rattle.std.proofs.Common.{◌≡◌, ◌==◌, ◌&&◌, ℕ, zero, suc, ◌+◌, ◌-◌, ◌*◌, ◌<◌, ◌≤◌, Bool, true, false, not, List, [], ◌∷◌, length, drop, Some, None, refl, sym, ap, ◌∙◌, arith, codes, nat_le, if◌then◌else◌}
 use Rattle.std.proofs.lemmas.Bool.Decides.{nat_tests}
-use Rattle.grammar.specs.Pieces.{Text}
+use Rattle.grammar.specs.Pieces.{Text, same}
 use Rattle.st_ast.specs.Names.{same_name}
-use Rattle.st_ast.specs.Tokens.{Kind, name, outside, literal, semicolon, colon, assigns, dots, open_sign, close_sign, comma, plus, dash, equals, less, keywords, in_table, is_identifier, same, kind_of_sign_in, digits_from, number_of, greatest}
+use Rattle.st_ast.specs.Tokens.{Kind, name, outside, literal, semicolon, colon, assigns, dots, open_sign, close_sign, comma, plus, dash, equals, less, keywords, in_table, is_identifier, kind_of_sign_in, digits_from, number_of, greatest}
 use Rattle.st_ast.specs.Grammar.{code}
 use Rattle.st_read.specs.Lexing.{is_reserved, other_kind, word_kind, sign_kind, value_in}
 

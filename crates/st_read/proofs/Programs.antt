@@ -3,7 +3,7 @@
 use Rattle.std.proofs.Common.{◌≡◌, ◌==◌, ◌≤◌, ◌+◌, ◌||◌, ℕ, zero, suc, Bool, true, false, List, [], ◌∷◌, ◌++◌, length, map, Option, Some, None, refl, sym, ap, subst, ◌∙◌, arith, inl, inr, filter_map}
 use Rattle.std.proofs.lemmas.List.{length-append}
 use Rattle.grammar.specs.Pieces.{Text, Pieces}
-use Rattle.grammar.specs.Lang.{Lang, ◌&◌, ◌∣◌, ◌<$>◌, many, some, optional}
+use Rattle.grammar.specs.Lang.{Lang, ◌&◌, ◌∣◌, ◌<$>◌, many, some, optional, flat}
 use Rattle.st_ast.specs.Tokens.{Kind, Token, Piece, blank, comment, sign, piece, token_of, name, literal, program, end_program, var, var_output, end_var, bool, lint, true_word, false_word, if_word, then_word, elsif_word, else_word, end_if, while_word, do_word, end_while, not_word, and_word, or_word, semicolon, colon, assigns, dots, open_sign, close_sign, plus, dash, equals, less, outside}
 use Rattle.st_ast.specs.Tokens as tokens
 use Rattle.st_ast.specs.Tree.{Expr, Stm, Stms, stms_of, Program}
@@ -11,7 +11,7 @@ use Rattle.st_ast.specs.View.{branches_of, other_of}
 use Rattle.st_ast.specs.Checks.{stm_count, stms_count, branches_count, other_count}
 use Rattle.st_ast.specs.Interface.{numbers_of}
 use Rattle.st_ast.specs.Scan.{is_input}
-use Rattle.st_ast.specs.Grammar.{code, sort, second, word, identifier, natural, Level, at_or, at_and, at_equal, at_order, at_sum, at_unary, prim, unary, summed, ordered, equated, conjunction, disjunction, level, max_depth, below, expression, without_word, assignment, guarded, conditional, repetition, statement, signed, first_value, type_use, declaration, block_of, block, flat, whole}
+use Rattle.st_ast.specs.Grammar.{code, sort, second, word, identifier, natural, Level, at_or, at_and, at_equal, at_order, at_sum, at_unary, prim, unary, summed, ordered, equated, conjunction, disjunction, level, max_depth, below, expression, without_word, assignment, guarded, conditional, repetition, statement, signed, first_value, type_use, declaration, block_of, block, whole}
 use Rattle.st_lex.proofs.CuttingLaws.{piece_cuts}
 use Rattle.st_read.specs.Derives.{Derives}
 use Rattle.st_ast.specs.declared.tree.StVar.{StVar}

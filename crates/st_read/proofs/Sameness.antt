@@ -2,7 +2,7 @@
 use Rattle.std.proofs.Common.{◌≡◌, ◌==◌, ◌&&◌, ℕ, List, [], ◌∷◌, refl, ap}
 use Rattle.std.specs.Prelude.{nat_eq}
 use Rattle.std.specs.Cmp.Lexicographic.{pointwise}
-use Rattle.st_ast.specs.Tokens.{same}
+use Rattle.grammar.specs.Pieces.{same}
 
 pub same_is : (xs ys : List ℕ) → pointwise nat_eq xs ys ≡ same xs ys
 same_is [] [] = refl

@@ -1,4 +1,3 @@
-pub mod Flat
 pub mod Reading
 pub mod Kinds
 pub mod Gives

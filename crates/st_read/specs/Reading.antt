@@ -6,7 +6,7 @@ use Rattle.st_ast.specs.Tokens.{Kind, Token, name, literal, program, end_program
 use Rattle.st_ast.specs.Tree.{Expr, truth, number, named, paren, negation, sum, order, equal, all_of, any_of, exprs_of, Stm, Stms, assign, choice, loop, stms_of, Program}
 use Rattle.st_ast.specs.View.{terms_of, branches_of, other_of}
 use Rattle.st_ast.specs.Grammar.{code, sort, second, middle, text_of, max_depth, without_word, subrange_of, value_of_init}
-use Rattle.st_read.specs.Flat.{flat_after}
+use Rattle.grammar.specs.Loops.{flat_after}
 use Rattle.st_ast.specs.declared.tree.StOrder.TheVariants as cmp
 use Rattle.st_ast.specs.declared.tree.StVar.{StVar}
 use Rattle.st_ast.specs.declared.tree.StTy.{StTy}

@@ -129,7 +129,7 @@ fn declarations(
 }
 
 /// A block that begins with that word, and its class.
-#[tactic(auto, using(crate::proofs::Flat::after_none), unfolding(crate::specs::Reading::block_of_at))]
+#[tactic(auto, using(grammar::proofs::Loops::after_none), unfolding(crate::specs::Reading::block_of_at))]
 fn block_of(
     alloc: Global,
     tokens: &[Token],
@@ -156,7 +156,7 @@ fn block(alloc: Global, tokens: &[Token]) -> Read<'_, Items<StVar>>
 }
 
 /// The declarations of all blocks as one list.
-#[tactic(auto, using(crate::proofs::Flat::flat_step, crate::proofs::Flat::flat_stop, crate::proofs::Flat::flat_fail, crate::proofs::Flat::flat_end), unfolding(crate::specs::Reading::variables_at))]
+#[tactic(auto, using(grammar::proofs::Loops::flat_step, grammar::proofs::Loops::flat_stop, grammar::proofs::Loops::flat_fail, grammar::proofs::Loops::flat_end), unfolding(crate::specs::Reading::variables_at))]
 pub fn variables(alloc: Global, tokens: &[Token]) -> Read<'_, Items<StVar>>
     ensures { Gives (λ x. (x.0, x.1.now)) result (reading.variables_at tokens.now) }
 {

@@ -2,6 +2,7 @@
 
 ghost use Rattle.std.specs.Prelude.{◌≡◌, ◌≤◌, not, map, position, unwrap_or, length, option_map, All, IfOk, IfErr};
 ghost use Rattle.std.specs.Option.{option_copied};
+ghost use Rattle.grammar.specs.Pieces as pieces;
 ghost use Rattle.grammar.specs.Pieces.{run_of, strip};
 ghost use Rattle.st_ast.specs.Tokens as k;
 ghost use Rattle.st_read.specs.Kinds.{seen};
@@ -173,7 +174,7 @@ fn first_sign<'a>(text: &'a [u8], signs: &[&'a [u8]]) -> Option<(&'a [u8], &'a [
 
 #[tactic(auto, using(crate::proofs::Sameness::same_is))]
 fn same(word: &[u8], other: &[u8]) -> bool
-    ensures { result ≡ k.same word.now other.now }
+    ensures { result ≡ pieces.same word.now other.now }
 {
     word == other
 }

@@ -48,7 +48,7 @@ impl<F: Fn(Global, &[Token], u16) -> Result<(Stmt, &[Token]), Stop>> Bodies<F> {
         (self.statement)(self.alloc, tokens, self.depth)
     }
 
-    #[tactic(auto, using(crate::proofs::SeenLoops::seen_step, grammar::proofs::Loops::after_stop, grammar::proofs::Loops::after_fail, grammar::proofs::Loops::after_end, crate::proofs::Flat::after_none))]
+    #[tactic(auto, using(crate::proofs::SeenLoops::seen_step, grammar::proofs::Loops::after_stop, grammar::proofs::Loops::after_fail, grammar::proofs::Loops::after_end, grammar::proofs::Loops::after_none))]
     fn all<'a>(&self, tokens: &'a [Token]) -> Read<'a, Items<Stmt>>
         requires { ReadsStatement self.now.depth (F.pre self.now.statement) (F.post self.now.statement) }
         ensures { Gives (λ x. (map view_stmt x.0, x.1.now)) result (reading.statements_at self.now.depth tokens.now) }

@@ -1,7 +1,7 @@
 use Rattle.std.proofs.Common.{◌≡◌, ◌-◌, []}
 use Rattle.grammar.specs.Reader.{many_at, many_from}
 use Rattle.st_ast.specs.Grammar.{sort}
-use Rattle.st_read.specs.Flat.{flat_after}
+use Rattle.grammar.specs.Loops.{flat_after}
 use Rattle.st_read.specs.Reading.{block_first, block_at}
 use Rattle.st_read.proofs.declarations.variables.Given as goal
 

@@ -1,6 +1,6 @@
 use Rattle.std.proofs.Common.{◌≡◌, ◌≤◌, drop}
 use Rattle.cif_lex.specs.Tokens.{digits_from}
-use Rattle.cif_lex.proofs.numbers.is_small.Given as goal
+use Rattle.cif_lex.proofs.numbers.small_number.Given as goal
 
 abbrev pub invariant-loop-digit : goal.invariant-loop-digit
 invariant-loop-digit l = record {
