@@ -1,0 +1,4 @@
+pub mod Agrees
+pub mod Whole
+pub mod PartLaws
+pub mod FlatLaws

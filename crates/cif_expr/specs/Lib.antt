@@ -1,0 +1,8 @@
+pub mod Kinds
+pub mod Spelling
+pub mod Trees
+pub mod Grammar
+pub mod Reading
+pub mod Parts
+pub mod Gives
+pub mod ReadsUn

@@ -1,0 +1,137 @@
+-- The tree that each form stands for.
+use Rattle.std.specs.Prelude.{ℕ, Bool, true, false, ◌==◌, List, [], ◌∷◌, Option, Some, None, pos, if◌then◌else◌}
+use Rattle.grammar.specs.Pieces.{Text}
+use Rattle.cif_lex.specs.declared.token.Token.{Token}
+use Rattle.cif_lex.specs.declared.token.TokenKind.{TokenKind}
+use Rattle.cif_lex.specs.declared.token.TokenKind.TheVariants.{Reserved, Sign}
+use Rattle.cif_lex.specs.declared.token.Word.TheVariants as w
+use Rattle.cif_lex.specs.declared.token.Mark.TheVariants as m
+use Rattle.cif_tree.specs.declared.names.Ident.{Ident}
+use Rattle.cif_tree.specs.declared.names.Name.{Name}
+use Rattle.cif_tree.specs.declared.expressions.MulOp.{MulOp}
+use Rattle.cif_tree.specs.declared.expressions.MulOp.TheVariants as mul
+use Rattle.cif_tree.specs.declared.expressions.CmpOp.{CmpOp}
+use Rattle.cif_tree.specs.declared.expressions.CmpOp.TheVariants as cmp
+use Rattle.cif_tree.specs.declared.expressions.Form.{Form}
+use Rattle.cif_tree.specs.declared.expressions.Form.TheVariants as f
+use Rattle.cif_tree.specs.declared.expressions.Expr.{Expr, out-Expr, roll-Expr}
+use Rattle.cif_tree.specs.declared.expressions.Term.{Term, roll-Term}
+use Rattle.cif_tree.specs.declared.expressions.Factor.{Factor, roll-Factor}
+use Rattle.cif_tree.specs.declared.expressions.Branch.{Branch, roll-Branch}
+use Rattle.cif_expr.specs.Kinds.{code}
+use Rattle.cif_expr.specs.Spelling.{spelling, value}
+
+abbrev pub node : ℕ → Form → Expr
+node at form = roll-Expr (record { form = form; at = at })
+
+-- where an expression begins
+unfoldable pub place : Expr → ℕ
+place e = (out-Expr e).at
+
+abbrev pub second : {A B : Type 0} → A × B → B
+second v = v.1
+
+abbrev pub middle : {A B C : Type 0} → A × (B × C) → B
+middle v = v.1.0
+
+-- ---- names
+
+abbrev pub ident : Text → Token → Ident
+ident text t = record { text = spelling text t; at = t.span.from }
+
+-- the place of a name is that of its first token
+abbrev pub name_place : Option Token → List Ident → ℕ
+name_place None [] = 0
+name_place None (first ∷ more) = first.at
+name_place (Some dot) parts = dot.span.from
+
+abbrev pub from_root : Option Token → Bool
+from_root None = false
+from_root (Some dot) = true
+
+abbrev pub name : Option Token × List Ident → Name
+name v = record { from_root = from_root v.0; parts = v.1; at = name_place v.0 v.1 }
+
+-- ---- what stands alone or in brackets
+
+abbrev pub boolean : Bool → Token → Expr
+boolean b t = node t.span.from (f.Bool b)
+
+abbrev pub number : Text → Token → Expr
+number text t = node t.span.from (f.Int (pos (value text t)))
+
+abbrev pub named : Name → Expr
+named n = node n.at (f.Named n)
+
+abbrev pub received : Token → Expr
+received t = node t.span.from f.Received
+
+abbrev pub paren : Token × (Expr × Token) → Expr
+paren v = node v.0.span.from (f.Paren v.1.0)
+
+abbrev pub abs : Token × (Token × (Expr × Token)) → Expr
+abs v = node v.0.span.from (f.Abs v.1.1.0)
+
+abbrev pub least : Token × (Token × (Expr × (Token × (Expr × Token)))) → Expr
+least v = node v.0.span.from (f.Min v.1.1.0 v.1.1.1.1.0)
+
+abbrev pub greatest : Token × (Token × (Expr × (Token × (Expr × Token)))) → Expr
+greatest v = node v.0.span.from (f.Max v.1.1.0 v.1.1.1.1.0)
+
+abbrev pub branch : List Expr × (Token × Expr) → Branch
+branch v = roll-Branch (record { conds = v.0; value = v.1.1 })
+
+abbrev pub choice : Token × (List Branch × Expr) → Expr
+choice v = node v.0.span.from (f.If v.1.0 v.1.1)
+
+-- ---- operands with a sign
+
+abbrev pub negative : Token × Expr → Expr
+negative v = node v.0.span.from (f.Neg v.1)
+
+abbrev pub positive : Token × Expr → Expr
+positive v = node v.0.span.from (f.Plus v.1)
+
+abbrev pub negation : Token × Expr → Expr
+negation v = node v.0.span.from (f.Not v.1)
+
+-- ---- operators between operands
+
+abbrev pub mul_op : TokenKind → MulOp
+mul_op k = if code k == code (Reserved w.Div) then mul.Div else (if code k == code (Reserved w.Mod) then mul.Mod else mul.Times)
+
+abbrev pub factor : Token × Expr → Factor
+factor v = roll-Factor (record { op = mul_op v.0.kind; value = v.1 })
+
+abbrev pub product : Expr → List Factor → Expr
+product first rest = node (place first) (f.Product first rest)
+
+abbrev pub is_minus : TokenKind → Bool
+is_minus k = code k == code (Sign m.Minus)
+
+abbrev pub term : Token × Expr → Term
+term v = roll-Term (record { minus = is_minus v.0.kind; value = v.1 })
+
+abbrev pub sum : Expr → List Term → Expr
+sum first rest = node (place first) (f.Sum first rest)
+
+abbrev pub cmp_op : TokenKind → CmpOp
+cmp_op k =
+    if code k == code (Sign m.Equal) then cmp.Eq else (if code k == code (Sign m.NotEqual) then cmp.Ne
+    else (if code k == code (Sign m.Less) then cmp.Lt else (if code k == code (Sign m.LessEqual) then cmp.Le
+    else (if code k == code (Sign m.Greater) then cmp.Gt else cmp.Ge))))
+
+abbrev pub comparison : Expr → Token × Expr → Expr
+comparison left v = node (place left) (f.Compare left (cmp_op v.0.kind) v.1)
+
+abbrev pub conjunction : Expr → List Expr → Expr
+conjunction first rest = node (place first) (f.And (first ∷ rest))
+
+abbrev pub disjunction : Expr → List Expr → Expr
+disjunction first rest = node (place first) (f.Or (first ∷ rest))
+
+abbrev pub implied : TokenKind → Expr → Expr → Form
+implied k left right = if code k == code (Sign m.Implies) then f.Implies left right else f.Iff left right
+
+abbrev pub implication : Expr → Token × Expr → Expr
+implication left v = node (place left) (implied v.0.kind left v.1)

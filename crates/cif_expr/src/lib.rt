@@ -1,0 +1,22 @@
+//! Reading names and expressions of a CIF source (CIF 3 language reference, "Expressions"), and parts that stand one after
+//! the other.
+#![tactic(auto)]
+
+mod error;
+mod expressions;
+mod forms;
+mod levels;
+mod naming;
+mod operands;
+mod parts;
+mod spelling;
+mod tokens;
+
+pub use error::ReadError;
+pub use expressions::{ExprListPart, ExprPart, expr, expr_list};
+pub use naming::{IdentPart, NamePart, NamesPart, ident, ids, name, names};
+pub use parts::{Part, joined, joined_list, optional, repeated, separated};
+pub use tokens::{Read, any_of, code, kind, sign, starts, word};
+
+#[cfg(test)]
+mod tests;

@@ -1,0 +1,7 @@
+use Rattle.std.proofs.Common.{◌≡◌, ◌+◌, length, drop}
+use Rattle.std.specs.List.{list_all}
+use Rattle.cif_parse.specs.Trees.{alphabets_of, monitors_of, is_named}
+use Rattle.cif_parse.proofs.automata.are_named.Given as goal
+
+abbrev pub invariant-loop-loc : goal.invariant-loop-loc
+invariant-loop-loc l = list_all is_named l.locs ≡ list_all is_named (drop l.loc-index l.locs)

@@ -1,0 +1,6 @@
+use Rattle.std.proofs.Common.{◌≡◌, map}
+use Rattle.cif_tree.specs.declared.components.Item.TheVariants as item
+use Rattle.cif_parse.proofs.components.declared.Given as goal
+
+abbrev pub invariant-loop-decl : goal.invariant-loop-decl
+invariant-loop-decl l = l.all ≡ map item.Decl l.yielded

@@ -1,0 +1,12 @@
+//! Bodies of automata.
+
+use cif_base::Items;
+use cif_tree::{Decl, Name};
+
+/// What stands before the locations of an automaton: declarations, its alphabet, or what it monitors.
+#[derive(Drop)]
+pub enum Piece {
+    Decls(Items<Decl>),
+    Alphabet(Items<Name>),
+    Monitor(Items<Name>),
+}

@@ -1,0 +1,22 @@
+//! Reading a CIF source as its tree (CIF 3 language reference).
+#![tactic(auto)]
+
+mod automata;
+mod bodies;
+mod components;
+mod edges;
+mod elements;
+mod error;
+mod laws;
+mod locations;
+mod parsing;
+mod updating;
+
+pub use bodies::Piece;
+pub use elements::Element;
+pub use error::ParseErr;
+pub use laws::one_tree;
+pub use parsing::parse;
+
+#[cfg(test)]
+mod tests;

@@ -1,0 +1,4 @@
+pub mod Countable
+pub mod Depth
+pub mod Tree
+pub mod View
