@@ -2,6 +2,7 @@
 use Rattle.std.proofs.Common.{◌≡◌, ◌==◌, ℕ, ◌<◌, Bool, true, false, ◌&&◌, if◌then◌else◌, nat_le, List, [], ◌∷◌, ◌++◌, Option, Some, None, Ok, Err, refl, sym, ap, subst, ◌∙◌, inl, inr, arith, leb-true}
 use Rattle.std.proofs.lemmas.Bool.Decides.{nat_tests}
 use Rattle.grammar.specs.Pieces.{Text, Cut, IsLongest, one_text}
+use Rattle.grammar.proofs.Texts.{and_left, and_right}
 use Rattle.cif_lex.specs.declared.token.TokenKind.{TokenKind}
 use Rattle.cif_lex.specs.declared.found.Fault.{Fault}
 use Rattle.cif_lex.specs.declared.found.Fault.TheVariants as f
@@ -138,14 +139,6 @@ big_number b text h = go (piece_cut (b ∷ text)) refl (sym (front_is b text) �
         (t.0, c.rest, subst (λ (x : Text). piece (number t.0) x) same there, subst (λ (x : Text). IsLongest piece x (b ∷ text)) same m.1, m.2 ∙ ap (λ (x : Text). x ++ c.rest) same, t.2)
 
 -- ---- an open comment
-
-and_left : (a b : Bool) → (a && b) ≡ true → a ≡ true
-and_left true b e = refl
-and_left false b e = absurd cc
-
-and_right : (a b : Bool) → (a && b) ≡ true → b ≡ true
-and_right true b e = e
-and_right false b e = absurd cc
 
 opened : (b : ℕ) (text : Text) → opens (b ∷ text) ≡ true → (more : Text) × (b ∷ text ≡ 47 ∷ 42 ∷ more)
 opened b [] e = absurd cc

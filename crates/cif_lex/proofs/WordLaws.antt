@@ -1,35 +1,11 @@
 -- Reserved words are found among those of their length.
-use Rattle.std.proofs.Common.{◌≡◌, ◌≢◌, ◌==◌, ℕ, Bool, not, true, false, ◌&&◌, ◌||◌, if◌then◌else◌, List, [], ◌∷◌, length, refl, ap, ◌∙◌, eqb-true, eq-eqb, arith}
+use Rattle.std.proofs.Common.{◌≡◌, ◌≢◌, ◌==◌, ℕ, Bool, not, true, false, ◌||◌, if◌then◌else◌, List, [], ◌∷◌, length, refl, ap, ◌∙◌, eq-eqb, arith}
 use Rattle.std.proofs.lemmas.Bool.Decides.{nat_tests}
-use Rattle.std.specs.Prelude.{nat_eq}
-use Rattle.std.specs.Cmp.Lexicographic.{pointwise}
 use Rattle.grammar.specs.Pieces.{Text, same}
+use Rattle.grammar.proofs.Texts.{same_equal}
 use Rattle.cif_lex.specs.declared.token.Word.{Word}
 use Rattle.cif_lex.specs.Tokens.{find_text, reserved}
 use Rattle.cif_lex.specs.Cutting.{reserved_word}
-
-pub same_is : (xs ys : List ℕ) → pointwise nat_eq xs ys ≡ same xs ys
-same_is [] [] = refl
-same_is [] (y ∷ ys) = refl
-same_is (x ∷ xs) [] = refl
-same_is (x ∷ xs) (y ∷ ys) = ap (λ u. (x == y) && u) (same_is xs ys)
-
-and_left : (a b : Bool) → (a && b) ≡ true → a ≡ true
-and_left true b e = refl
-and_left false b e = absurd cc
-
-and_right : (a b : Bool) → (a && b) ≡ true → b ≡ true
-and_right true b e = e
-and_right false b e = absurd cc
-
-same_true : (a b : Text) → same a b ≡ true → a ≡ b
-same_true [] [] e = refl
-same_true [] (b ∷ bs) e = absurd cc
-same_true (a ∷ as') [] e = absurd cc
-same_true (a ∷ as') (b ∷ bs) e =
-    let heads : a ≡ b = search (eqb-true, and_left (a == b) (same as' bs) e) in
-    let tails : as' ≡ bs = same_true as' bs (and_right (a == b) (same as' bs) e) in
-    cc
 
 abbrev Table : Type 0
 Table = List (Text × Word)
@@ -43,7 +19,7 @@ find_step : (p : ℕ → Bool) (e : Text × Word) (es : Table) (t : Text) (x y :
     → find_text (having p es) t ≡ find_text es t → find_text (having p (e ∷ es)) t ≡ find_text (e ∷ es) t
 find_step p e es t true true is was h ih = rw (is, was) refl
 find_step p e es t true false is was h ih = rw (is, was) ih
-find_step p e es t false true is was h ih = absurd (let len : p (length e.0) ≡ true = ap (λ (u : Text). p (length u)) (same_true e.0 t was) ∙ h in cc)
+find_step p e es t false true is was h ih = absurd (let len : p (length e.0) ≡ true = ap (λ (u : Text). p (length u)) (same_equal e.0 t was) ∙ h in cc)
 find_step p e es t false false is was h ih = rw (is, was) ih
 
 find_having : (p : ℕ → Bool) (table : Table) (t : Text) → p (length t) ≡ true → find_text (having p table) t ≡ find_text table t

@@ -99,7 +99,7 @@ static LONGER: [Entry; 13] = [
 ];
 
 /// Whether two texts are the same.
-#[tactic(auto, using(crate::proofs::WordLaws::same_is))]
+#[tactic(auto, using(grammar::proofs::Texts::same_is))]
 fn is_same(text: &[u8], other: &[u8]) -> bool
     ensures { result ≡ same text.now other.now }
 {

@@ -2,6 +2,7 @@
 use Rattle.std.proofs.Common.{◌≡◌, ◌==◌, nat_le, ℕ, zero, suc, ◌+◌, ◌≤◌, Bool, true, false, cond, ◌&&◌, ◌||◌, List, [], ◌∷◌, ◌++◌, length, Option, Some, None, refl, sym, ap, subst, ◌∙◌, arith, inl, inr, ◌⊎◌, eqb-true, eq-eqb, leb-true}
 use Rattle.std.proofs.lemmas.List.{length-append}
 use Rattle.grammar.specs.Pieces.{Text, Kinds, ◌∣◌, IsLongest, Pieces, Cut, Cutter, with_piece, then_cut, cut_from, cut_all, head_is, either_cut, run_of, AllAre, run, run_cut, after_byte, one_text, with_byte, after_cut, strip, or_else, text_cut, none_longer, falling, heads_are, IsClosed, closed, close_at, longer_by, closed_of, closed_cut}
+use Rattle.grammar.proofs.Texts.{and_left, and_right}
 
 pub record Cuts {P : Type 0} (f : ℕ → Bool) (r : Kinds P) (c : Cutter P) : Type 0 where
   pub begins : (p : P) (x : Text) → r p x → (b : ℕ) × (t : Text) × (x ≡ b ∷ t) × (f b ≡ true)
@@ -258,14 +259,6 @@ strip_none (a ∷ s) (b ∷ text) rest e g =
     let tail : text ≡ s ++ rest = cc in
     let is : (a == b) ≡ true = search (eq-eqb, head) in
     elim (choose (a == b) (strip s text) None None e) [ inl u ↦ strip_none s text rest u.1 tail | inr u ↦ let w = u.0 in cc ]
-
-and_left : (a b : Bool) → (a && b) ≡ true → a ≡ true
-and_left true b e = refl
-and_left false b e = absurd cc
-
-and_right : (a b : Bool) → (a && b) ≡ true → b ≡ true
-and_right true b e = e
-and_right false b e = absurd cc
 
 text_begins : {P : Type 0} (f : ℕ → Bool) (ss : List Text) (make : Text → P) → heads_are f ss ≡ true → (p : P) (x : Text) → one_text ss make p x → (b : ℕ) × (t : Text) × (x ≡ b ∷ t) × (f b ≡ true)
 text_begins f [] make e p x d = absurd d

@@ -1,31 +1,10 @@
 -- The header and the rows, by their first fields and how many fields they have.
-use Rattle.std.proofs.Common.{◌≡◌, ◌<◌, ◌≤◌, ℕ, Bool, true, false, not, ◌&&◌, List, [], ◌∷◌, length, codes, decimal, Some, None, refl, sym, ap, ◌∙◌, arith, eqb-true, eq-eqb}
-use Rattle.std.specs.Prelude.{◌==◌}
+use Rattle.std.proofs.Common.{◌≡◌, ◌<◌, ◌≤◌, ℕ, Bool, true, false, not, List, [], ◌∷◌, length, codes, decimal, Some, None, refl, sym, ap, ◌∙◌, arith}
 use Rattle.grammar.specs.Pieces.{Text, same}
+use Rattle.grammar.proofs.Texts.{same_self, same_equal}
 use Rattle.csv.specs.Records.{field_at}
 use Rattle.plc_rows.specs.Rows.{header, cell, row_length, header_fault, row_fault}
 use Rattle.plc_rows.proofs.Remaining.{none_some, one_some}
-
-same_self : (x : Text) → same x x ≡ true
-same_self [] = refl
-same_self (b ∷ x) = let head : (b == b) ≡ true = eq-eqb b b refl in rw (head, same_self x) refl
-
-and_left : (a b : Bool) → (a && b) ≡ true → a ≡ true
-and_left true b e = refl
-and_left false b e = e
-
-and_right : (a b : Bool) → (a && b) ≡ true → b ≡ true
-and_right true b e = e
-and_right false b e = absurd cc
-
-same_equal : (x y : Text) → same x y ≡ true → x ≡ y
-same_equal [] [] e = refl
-same_equal [] (b ∷ y) e = absurd cc
-same_equal (a ∷ x) [] e = absurd cc
-same_equal (a ∷ x) (b ∷ y) e =
-    let heads : a ≡ b = eqb-true a b (and_left (a == b) (same x y) e) in
-    let tails : x ≡ y = same_equal x y (and_right (a == b) (same x y) e) in
-    cc
 
 same_text : (x y : Text) → x ≡ y → same x y ≡ true
 same_text x y e = ap (same x) (sym e) ∙ same_self x

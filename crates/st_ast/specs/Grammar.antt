@@ -16,7 +16,7 @@
 --   s       = u {"+" u}
 --   u       = "NOT" u | prim
 --   prim    = "TRUE" | "FALSE" | NUMBER | ID | "(" e ")"
-use Rattle.std.specs.Prelude.{ℕ, zero, suc, ℤ, pos, neg_ℤ, true, false, List, [], ◌∷◌, ◌++◌, map, Option, Some, None}
+use Rattle.std.specs.Prelude.{ℕ, zero, suc, ℤ, pos, neg_ℤ, true, false, List, [], ◌∷◌, map, Option, Some, None}
 use Rattle.grammar.specs.Pieces.{Text}
 use Rattle.grammar.specs.Lang.{Lang, one, ◌&◌, ◌∣◌, ◌<$>◌, many, some, optional, flat}
 use Rattle.st_ast.specs.Tokens.{Kind, Token, name, literal, program, end_program, var, var_output, end_var, bool, lint, true_word, false_word, if_word, then_word, elsif_word, else_word, end_if, while_word, do_word, end_while, not_word, and_word, or_word, semicolon, colon, assigns, dots, open_sign, close_sign, comma, plus, dash, equals, less, outside, number_of}

@@ -1,8 +1,9 @@
 -- The pieces of a text of Structured Text are found by cutting, and a text has at most one list of tokens.
-use Rattle.std.proofs.Common.{◌≡◌, ◌==◌, ℕ, ◌≤◌, ◌<◌, Bool, true, false, ◌||◌, ◌&&◌, nat_le, List, [], ◌∷◌, ◌++◌, length, Option, Some, None, refl, sym, ap, ◌∙◌, arith, inl, inr, leb-true, filter_map}
+use Rattle.std.proofs.Common.{◌≡◌, ◌==◌, ℕ, ◌≤◌, ◌<◌, Bool, true, false, ◌||◌, nat_le, List, [], ◌∷◌, ◌++◌, length, Option, Some, None, refl, sym, ap, ◌∙◌, arith, inl, inr, leb-true, filter_map}
 use Rattle.std.proofs.lemmas.Bool.Decides.{nat_tests}
 use Rattle.grammar.specs.Pieces.{Text, Kinds, ◌∣◌, IsLongest, Pieces, Cut, Cutter, cut_all, after_byte, closed, IsClosed, one_text, none_longer}
 use Rattle.grammar.proofs.Cutting.{Cuts, either_cuts, run_cuts, after_cuts, closed_cuts, text_cuts, cut_iff}
+use Rattle.grammar.proofs.Texts.{and_left, and_right}
 use Rattle.st_ast.specs.Tokens.{Piece, blank, comment, word, number, sign, is_blank, is_digit, is_letter, is_wordy, none_of, signs, piece, Token, token_of, Tokens}
 use Rattle.st_lex.specs.Cutting.{first_there, first_cut, begins_sign, piece_cut}
 
@@ -71,14 +72,6 @@ comment_long p x d =
     let one : length d.0 ≡ length (42 ∷ inner.0) = ap (λ (v : Text). length v) inner.2 in
     let two : length x ≡ length (40 ∷ d.0) = ap (λ (v : Text). length v) d.2 in
     omega arith
-
-and_left : (a b : Bool) → (a && b) ≡ true → a ≡ true
-and_left true b e = refl
-and_left false b e = absurd cc
-
-and_right : (a b : Bool) → (a && b) ≡ true → b ≡ true
-and_right true b e = e
-and_right false b e = absurd cc
 
 text_short : {P : Type 0} (n : ℕ) (ss : List Text) (make : Text → P) → none_longer n ss ≡ true → (p : P) (x : Text) → one_text ss make p x → length x ≤ n
 text_short n [] make e p x d = absurd d

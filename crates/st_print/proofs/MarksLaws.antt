@@ -1,11 +1,12 @@
 -- The tokens of a printed text are those of its marks.
-use Rattle.std.proofs.Common.{◌≡◌, ◌==◌, ℕ, zero, suc, ◌*◌, ◌<◌, Bool, true, false, not, ◌&&◌, ◌||◌, List, [], ◌∷◌, ◌++◌, length, Some, refl, sym, ap, subst, ◌∙◌, arith, eqb-true}
+use Rattle.std.proofs.Common.{◌≡◌, ◌==◌, ℕ, zero, suc, ◌*◌, ◌<◌, Bool, true, false, not, ◌&&◌, ◌||◌, List, [], ◌∷◌, ◌++◌, length, Some, refl, sym, ap, subst, ◌∙◌, arith}
 use Rattle.std.specs.Prelude.{if◌then◌else◌, codes, decimal, replicate, filter_map}
 use Rattle.std.specs.List.{list_any, list_all}
 use Rattle.std.proofs.lemmas.Bool.Decides.{nat_tests}
 use Rattle.grammar.specs.Pieces.{Text, Pieces, AllAre, head_is, run_of, same}
+use Rattle.grammar.proofs.Texts.{and_left, and_right, same_equal}
 use Rattle.st_ast.specs.Tokens as tk
-use Rattle.st_ast.specs.Tokens.{Piece, is_blank, is_letter, is_digit, is_wordy, none_of, piece, is_sign, opens_comment, token_of, Token, Tokens}
+use Rattle.st_ast.specs.Tokens.{Piece, is_blank, is_letter, is_digit, is_wordy, piece, is_sign, opens_comment, token_of, Tokens}
 use Rattle.st_lex.specs.Cutting.{piece_cut}
 use Rattle.st_lex.proofs.CuttingLaws.{piece_cuts}
 use Rattle.st_lex.proofs.Decimals.{decimal_digits, decimal_nonempty}
@@ -14,26 +15,9 @@ use Rattle.st_print.specs.Marks.{tokens_of, is_word_text, mark_signs, AreMarks}
 
 -- ---- tests
 
-and_left : (a b : Bool) → (a && b) ≡ true → a ≡ true
-and_left true b e = refl
-and_left false b e = absurd cc
-
-and_right : (a b : Bool) → (a && b) ≡ true → b ≡ true
-and_right true b e = e
-and_right false b e = absurd cc
-
 all_are : (f : ℕ → Bool) (t : Text) → list_all f t ≡ true → AllAre f t
 all_are f [] e = tt
 all_are f (b ∷ t) e = (and_left (f b) (list_all f t) e, all_are f t (and_right (f b) (list_all f t) e))
-
-same_true : (s t : Text) → same s t ≡ true → s ≡ t
-same_true [] [] e = refl
-same_true [] (b ∷ t) e = absurd cc
-same_true (a ∷ s) [] e = absurd cc
-same_true (a ∷ s) (b ∷ t) e =
-    let head : a ≡ b = eqb-true a b (and_left (a == b) (same s t) e) in
-    let tail = same_true s t (and_right (a == b) (same s t) e) in
-    cc
 
 -- ---- what holds of each sign
 
@@ -46,7 +30,7 @@ of_each P [] s h e = absurd cc
 of_each P (t ∷ ss) s h e = go (same s t) refl e (λ w. of_each P ss s h.1 w)
   where
     go : (b : Bool) → same s t ≡ b → (b || list_any (λ u. same s u) ss) ≡ true → (list_any (λ u. same s u) ss ≡ true → P s) → P s
-    go true is w ih = subst P (sym (same_true s t is)) h.0
+    go true is w ih = subst P (sym (same_equal s t is)) h.0
     go false is w ih = ih w
 
 -- what may stand after a word, digits and most signs: nothing, a blank, a line break, or `;` `,` `:` `)`

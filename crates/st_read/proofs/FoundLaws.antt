@@ -2,6 +2,7 @@
 use Rattle.std.proofs.Common.{◌≡◌, ◌==◌, ◌&&◌, ℕ, ◌<◌, Bool, true, false, nat_le, List, [], ◌∷◌, ◌++◌, Option, Some, None, Ok, Err, refl, sym, ap, subst, ◌∙◌, inl, inr, arith, leb-true, if◌then◌else◌}
 use Rattle.std.proofs.lemmas.Bool.Decides.{nat_tests}
 use Rattle.grammar.specs.Pieces.{Text, Cut, IsLongest, one_text}
+use Rattle.grammar.proofs.Texts.{and_left, and_right}
 use Rattle.st_ast.specs.Tokens.{Token, Piece, blank, comment, word, number, sign, signs, piece, token_of, number_of, greatest}
 use Rattle.st_lex.specs.Cutting.{piece_cut}
 use Rattle.st_lex.proofs.CuttingLaws.{piece_cuts}
@@ -163,14 +164,6 @@ open_comment text h =
     go : (c : Option (Cut Piece)) → judged (opens text) c ≡ Err f.OpenComment → opens text ≡ true
     go None g = is_open (opens text) g
     go (Some k) g = absurd (let j = judge_err k.piece k.rest f.OpenComment g in let e : f.OpenComment ≡ f.NumberTooBig = j.1 in cc)
-
-and_left : (a b : Bool) → (a && b) ≡ true → a ≡ true
-and_left true b e = refl
-and_left false b e = absurd cc
-
-and_right : (a b : Bool) → (a && b) ≡ true → b ≡ true
-and_right true b e = e
-and_right false b e = absurd cc
 
 from_test : (a b : ℕ) → (a == b) ≡ true → b ≡ a
 from_test a b e = grind (arith, nat_tests)

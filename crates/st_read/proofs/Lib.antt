@@ -10,5 +10,4 @@ pub mod Programs
 pub mod RefusalLaws
 pub mod Numbers
 pub mod Runs
-pub mod Sameness
 pub mod Told

@@ -172,7 +172,7 @@ fn first_sign<'a>(text: &'a [u8], signs: &[&'a [u8]]) -> Option<(&'a [u8], &'a [
     None
 }
 
-#[tactic(auto, using(crate::proofs::Sameness::same_is))]
+#[tactic(auto, using(grammar::proofs::Texts::same_is))]
 fn same(word: &[u8], other: &[u8]) -> bool
     ensures { result ≡ pieces.same word.now other.now }
 {
