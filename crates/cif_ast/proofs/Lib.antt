@@ -1,2 +1,3 @@
-pub mod NameLaws
+pub mod CountLemmas
 pub mod Rows
+pub mod ViewLemmas

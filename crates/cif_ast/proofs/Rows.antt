@@ -1,86 +1,116 @@
--- Worked examples of the definitions, by computation: the automaton with an uncontrollable event from its first place to the
--- second, and a controllable one back.
-use Rattle.std.proofs.Common.{◌≡◌, ℕ, true, false, [], ◌∷◌, Some, None, refl}
-use Rattle.std.specs.Prelude.{codes, replicate}
-use Rattle.cif_system.specs.System.{State, initial, outputs}
-use Rattle.cif_system.specs.Choices.{first_step, all_choices}
-use Rattle.cif_ast.specs.declared.tokens.Kind.TheVariants as k
-use Rattle.cif_ast.specs.declared.plant.Class.TheVariants as c
-use Rattle.cif_ast.specs.declared.plant.Plant.{Plant}
-use Rattle.cif_ast.specs.Tokens.{kind_of_word}
-use Rattle.cif_ast.specs.Numbers.{numbered}
-use Rattle.cif_ast.specs.Meaning.{system_of}
+-- Worked examples of the definitions, at values as the code builds them.
+use Rattle.std.proofs.Common.{◌≡◌, pos, Bool, true, false, List, [], ◌∷◌, Some, None, refl}
+use Rattle.std.specs.Prelude.{codes}
+use Rattle.cif_ast.specs.declared.names.Ident.{Ident}
+use Rattle.cif_ast.specs.declared.names.Name.{Name}
+use Rattle.cif_ast.specs.declared.expressions.Expr.{Expr, roll-Expr}
+use Rattle.cif_ast.specs.declared.expressions.Form.{Form}
+use Rattle.cif_ast.specs.declared.expressions.Form.TheVariants as form
+use Rattle.cif_ast.specs.declared.expressions.Term.{Term, roll-Term}
+use Rattle.cif_ast.specs.declared.expressions.Branch.{roll-Branch}
+use Rattle.cif_ast.specs.declared.declarations.TypeUse.TheVariants as type_use
+use Rattle.cif_ast.specs.declared.declarations.Decl.TheVariants as decl
+use Rattle.cif_ast.specs.declared.declarations.Param.TheVariants as param
+use Rattle.cif_ast.specs.declared.edges.Update.{Update}
+use Rattle.cif_ast.specs.declared.edges.Update.TheVariants as update
+use Rattle.cif_ast.specs.declared.edges.UpdateBranch.{roll-UpdateBranch}
+use Rattle.cif_ast.specs.declared.edges.Loc.{Loc}
+use Rattle.cif_ast.specs.declared.components.Body.{Body}
+use Rattle.cif_ast.specs.declared.components.Body.TheVariants as body
+use Rattle.cif_ast.specs.declared.components.Item.TheVariants as item
+use Rattle.cif_ast.specs.declared.components.Comp.{roll-Comp}
+use Rattle.cif_ast.specs.declared.components.Def.{roll-Def}
+use Rattle.cif_ast.specs.View.{view}
+use Rattle.cif_ast.specs.Depth.{depth}
+use Rattle.cif_ast.specs.Countable.{count_of_decl, count_of_update, count_of_loc, count_of_item, count_of_spec, IsWholeName, IsWholeExpr, IsWholeDecl}
+use Rattle.cif_ast.proofs.ViewLemmas.{views}
 
--- ---- words
+abbrev expr : Form → Expr
+expr f = roll-Expr (record { form = f; at = 0 })
 
-keyword : kind_of_word (codes "plant") ≡ k.Plant
-keyword = refl
+abbrev one : Expr
+one = expr (form.Int (pos 1))
 
-reserved_word : kind_of_word (codes "automaton") ≡ k.Other
-reserved_word = refl
+abbrev further : Bool → Expr → Term
+further minus e = roll-Term (record { minus = minus; value = e })
 
-reserved_word_without_use : kind_of_word (codes "tau") ≡ k.Other
-reserved_word_without_use = refl
+abbrev x : Ident
+x = record { text = codes "x"; at = 0 }
 
-capitals_are_no_keyword : kind_of_word (codes "Plant") ≡ k.Name
-capitals_are_no_keyword = refl
+abbrev name_of : List Ident → Name
+name_of parts = record { from_root = false; parts = parts; at = 0 }
 
-name_of_40_letters : kind_of_word (replicate 40 97) ≡ k.Name
-name_of_40_letters = refl
+-- ---- depth
 
-word_of_41_letters : kind_of_word (replicate 41 97) ≡ k.Other
-word_of_41_letters = refl
+depth_of_literal : depth (view one) ≡ 0
+depth_of_literal = simp views refl
 
--- ---- numbers and steps
+depth_of_paren : depth (view (expr (form.Paren one))) ≡ 1
+depth_of_paren = simp views refl
 
-abbrev two_places : Plant
-two_places = record {
-  name = codes "A";
-  events = record { class = c.Uncontrollable; name = codes "u" } ∷ record { class = c.Controllable; name = codes "c" } ∷ [];
-  locations = record { name = codes "x"; initial = true; edges = record { event = codes "u"; target = Some (codes "y") } ∷ [] }
-      ∷ record { name = codes "y"; initial = false; edges = record { event = codes "c"; target = Some (codes "x") } ∷ [] } ∷ [];
+depth_of_sum : depth (view (expr (form.Sum one (further false one ∷ further true one ∷ [])))) ≡ 1
+depth_of_sum = simp views refl
+
+-- the condition is the deepest part
+depth_of_choice : depth (view (expr (form.If (roll-Branch (record { conds = one ∷ expr (form.Neg (expr (form.Paren one))) ∷ []; value = one }) ∷ []) one))) ≡ 3
+depth_of_choice = simp views refl
+
+-- ---- counts
+
+enum_counts_its_literals : count_of_decl (decl.Enum x (x ∷ x ∷ [])) ≡ 3
+enum_counts_its_literals = refl
+
+equation_counts_once : count_of_decl (decl.Equation x one) ≡ 1
+equation_counts_once = refl
+
+marking_does_not_count : count_of_decl (decl.Marked one) ≡ 0
+marking_does_not_count = refl
+
+abbrev set_x : Update
+set_x = update.Set (name_of (x ∷ [])) one
+
+assignments_count_at_any_depth : count_of_update (update.If (roll-UpdateBranch (record { conds = one ∷ []; updates = set_x ∷ set_x ∷ [] }) ∷ []) (set_x ∷ [])) ≡ 3
+assignments_count_at_any_depth = simp views refl
+
+abbrev place : Loc
+place = record {
+  name = Some x;
+  initial = true;
+  marked = [];
+  equations = record { name = x; value = one } ∷ [];
+  edges = record { uses = []; guards = []; updates = set_x ∷ []; target = None } ∷ [];
 }
 
-abbrev at : ℕ → State
-at p = record { locs = p ∷ []; vals = []; ins = [] }
+-- itself, its name, its equation and what is assigned
+location_counts : count_of_loc place ≡ 4
+location_counts = simp views refl
 
-has_numbers : numbered two_places ≡ record {
-  name = codes "A";
-  classes = c.Uncontrollable ∷ c.Controllable ∷ [];
-  places = 2;
-  first = 0;
-  moves = record { event = 0; from = 0; to = 1 } ∷ record { event = 1; from = 1; to = 0 } ∷ [];
-}
-has_numbers = refl
+abbrev plant : Body
+plant = body.Auto (record { decls = decl.Input type_use.Int x ∷ []; alphabet = None; monitor = None; locs = place ∷ [] })
 
-starts_in_the_initial_location : initial (system_of two_places) ≡ at 0
-starts_in_the_initial_location = refl
+-- its name and its body, and what is in that
+component_counts : count_of_item (item.Comp (roll-Comp (record { name = x; body = plant }))) ≡ 7
+component_counts = simp views refl
 
-shows_its_place : (outputs (system_of two_places) (at 1)).places ≡ 1 ∷ []
-shows_its_place = refl
+definition_counts_its_parameters : count_of_item (item.Def (roll-Def (record { name = x; params = param.Location x ∷ []; body = body.Group [] }))) ≡ 3
+definition_counts_its_parameters = simp views refl
 
-uncontrollable_leads_on : first_step (system_of two_places) (at 0) 0 ≡ Some (at 1)
-uncontrollable_leads_on = refl
+empty_specification_counts : count_of_spec (record { items = [] }) ≡ 1
+empty_specification_counts = refl
 
-uncontrollable_has_no_other_step : first_step (system_of two_places) (at 1) 0 ≡ None
-uncontrollable_has_no_other_step = refl
+-- ---- whole values
 
-controllable_leads_back : first_step (system_of two_places) (at 1) 1 ≡ Some (at 0)
-controllable_leads_back = refl
+paren_is_as_whole : (e : Expr) → IsWholeExpr (expr (form.Paren e)) ≡ IsWholeExpr e
+paren_is_as_whole e = simp views refl
 
-has_a_choice_for_each_edge : all_choices (system_of two_places) ≡ 2
-has_a_choice_for_each_edge = refl
+name_with_a_part_is_whole : IsWholeName (name_of (x ∷ []))
+name_with_a_part_is_whole = λ e. cc
 
--- an event without edges has no step, and an edge without a target leads back
-abbrev one_place : Plant
-one_place = record {
-  name = codes "B";
-  events = record { class = c.Controllable; name = codes "e" } ∷ record { class = c.Controllable; name = codes "f" } ∷ [];
-  locations = record { name = codes "x"; initial = true; edges = record { event = codes "f"; target = None } ∷ [] } ∷ [];
-}
+name_without_a_part_is_not : IsWholeExpr (expr (form.Named (name_of []))) → ⊥
+name_without_a_part_is_not h = let k = simp views at h in k refl
 
-event_without_edges : first_step (system_of one_place) (at 0) 0 ≡ None
-event_without_edges = refl
+branch_without_a_condition_is_not : IsWholeExpr (expr (form.If (roll-Branch (record { conds = []; value = one }) ∷ []) one)) → ⊥
+branch_without_a_condition_is_not h = let k = simp views at h in k.0.0 refl
 
-edge_without_target : first_step (system_of one_place) (at 0) 1 ≡ Some (at 0)
-edge_without_target = refl
+type_is_as_whole_as_its_name : (n : Name) → IsWholeDecl (decl.Input (type_use.Named n) x) ≡ IsWholeName n
+type_is_as_whole_as_its_name n = refl

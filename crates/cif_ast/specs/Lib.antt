@@ -1,6 +1,4 @@
-pub mod Tokens
-pub mod Grammar
-pub mod Plant
-pub mod Numbers
-pub mod Meaning
-pub mod Named
+pub mod Countable
+pub mod Depth
+pub mod Tree
+pub mod View

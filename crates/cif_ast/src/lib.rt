@@ -1,13 +1,20 @@
-//! The tree of a source: one plant automaton without data, with its names as they are written, and the same
-//! automaton with numbers for names.
+//! The tree of a CIF source, as it is written (CIF 3 language reference).
 #![tactic(auto)]
 
-mod laws;
-mod numbered;
-mod plant;
-mod tokens;
+mod components;
+mod copying;
+mod declarations;
+mod depths;
+mod edges;
+mod expressions;
+mod names;
 
-pub use laws::plant_names_are_letters;
-pub use numbered::{Move, NumberedPlant};
-pub use plant::{Class, Edge, Event, Location, Plant};
-pub use tokens::{Kind, Token};
+pub use components::{AutoBody, Body, Comp, Def, Inst, Item, Spec};
+pub use declarations::{Chan, Class, Decl, Inv, Param, TypeUse};
+pub use depths::depth;
+pub use edges::{Edge, EventUse, Loc, LocEquation, Role, Update, UpdateBranch};
+pub use expressions::{Branch, CmpOp, Expr, Factor, Form, MulOp, Term};
+pub use names::{Ident, Name};
+
+#[cfg(test)]
+mod tests;

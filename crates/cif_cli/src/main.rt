@@ -1,22 +1,9 @@
-//! The command-line tool `cif`: Structured Text programs (IEC 61131-3) from CIF sources, and their scans over rows, with
-//! what is proved of both as the contract of `tool`.
+//! The command-line tool `cif`: Structured Text programs (IEC 61131-3) from CIF sources, and their scans over rows. What is
+//! proved of it is the contract of `cif_tool::tool`.
 #![tactic(auto)]
 
-mod command;
-mod ended;
-mod generating;
-mod reading;
-mod replaying;
-mod running;
-mod scanning;
-mod status;
-mod telling;
-#[cfg(test)]
-mod tests;
-
 use cif_io::{HostFiles, HostSink};
-pub use running::tool;
-pub use status::{Refusal, StRefusal, Status, code};
+use cif_tool::{Status, code, tool};
 use std::process::ExitCode;
 use std::{env, io};
 

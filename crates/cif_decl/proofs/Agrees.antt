@@ -1,5 +1,5 @@
 -- What is read is what the grammar of declarations and parameters derives.
-use Rattle.std.proofs.Common.{◌≡◌, ℕ, List, [], ◌∷◌, ◌++◌, Bool, true, false, not, Option, Some, None, refl, sym, ap, subst, ◌∙◌, append_assoc, append-nil, inl, inr}
+use Rattle.std.proofs.Common.{◌≡◌, ℕ, List, [], ◌∷◌, ◌++◌, true, false, not, Option, Some, None, refl, sym, ap, subst, ◌∙◌, append_assoc, append-nil, inl, inr}
 use Rattle.grammar.specs.Pieces.{Text}
 use Rattle.grammar.specs.Lang.{Lang, ◌&◌, ◌∣◌, ◌<$>◌, ◌▹◌, optional, many, has, flat}
 use Rattle.grammar.specs.Reader.{Reader, starts, both_at}
@@ -10,18 +10,17 @@ use Rattle.cif_lex.specs.declared.token.Token.{Token}
 use Rattle.cif_lex.specs.declared.token.TokenKind.TheVariants.{Id, Reserved, Sign}
 use Rattle.cif_lex.specs.declared.token.Word.TheVariants as w
 use Rattle.cif_lex.specs.declared.token.Mark.TheVariants as m
-use Rattle.cif_tree.specs.declared.names.Ident.{Ident}
-use Rattle.cif_tree.specs.declared.names.Name.{Name}
-use Rattle.cif_tree.specs.declared.expressions.Expr.{Expr}
-use Rattle.cif_tree.specs.declared.declarations.Class.{Class}
-use Rattle.cif_tree.specs.declared.declarations.Chan.{Chan}
-use Rattle.cif_tree.specs.declared.declarations.Chan.TheVariants as chan
-use Rattle.cif_tree.specs.declared.declarations.TypeUse.{TypeUse}
-use Rattle.cif_tree.specs.declared.declarations.TypeUse.TheVariants as type
-use Rattle.cif_tree.specs.declared.declarations.Decl.{Decl}
-use Rattle.cif_tree.specs.declared.declarations.Decl.TheVariants as decl
-use Rattle.cif_tree.specs.declared.declarations.Inv.{Inv}
-use Rattle.cif_tree.specs.declared.declarations.Inv.TheVariants as inv
+use Rattle.cif_ast.specs.declared.names.Ident.{Ident}
+use Rattle.cif_ast.specs.declared.names.Name.{Name}
+use Rattle.cif_ast.specs.declared.declarations.Class.{Class}
+use Rattle.cif_ast.specs.declared.declarations.Chan.{Chan}
+use Rattle.cif_ast.specs.declared.declarations.Chan.TheVariants as chan
+use Rattle.cif_ast.specs.declared.declarations.TypeUse.{TypeUse}
+use Rattle.cif_ast.specs.declared.declarations.TypeUse.TheVariants as type
+use Rattle.cif_ast.specs.declared.declarations.Decl.{Decl}
+use Rattle.cif_ast.specs.declared.declarations.Decl.TheVariants as decl
+use Rattle.cif_ast.specs.declared.declarations.Inv.{Inv}
+use Rattle.cif_ast.specs.declared.declarations.Inv.TheVariants as inv
 use Rattle.cif_expr.specs.Kinds.{sort, codes_of, word, sign}
 use Rattle.cif_expr.specs.Trees.{second, middle}
 use Rattle.cif_expr.specs.Grammar.{ident, name, names, separated, IsExpr}

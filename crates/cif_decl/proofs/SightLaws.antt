@@ -1,25 +1,25 @@
 -- What the first tokens say where one is not enough.
-use Rattle.std.proofs.Common.{◌≡◌, ℕ, List, [], ◌∷◌, ◌++◌, Bool, true, false, not, ◌&&◌, Option, Some, None, refl, sym, ap, subst, ◌∙◌, append_assoc, inl, inr}
+use Rattle.std.proofs.Common.{◌≡◌, ℕ, List, [], ◌∷◌, ◌++◌, Bool, true, false, not, ◌&&◌, Some, None, refl, ap, ◌∙◌, inl, inr}
 use Rattle.grammar.specs.Pieces.{Text}
-use Rattle.grammar.specs.Lang.{Lang, ◌&◌, ◌∣◌, ◌<$>◌, many}
+use Rattle.grammar.specs.Lang.{◌&◌, ◌<$>◌}
 use Rattle.grammar.specs.Reader.{Read, starts}
 use Rattle.grammar.specs.Sets.{apart, covers}
-use Rattle.grammar.proofs.Laws.{Takes, Begins, Stops, apart-has, covers-has}
-use Rattle.grammar.proofs.Plain.{one_takes, map_takes, both_takes, stops_part, begins_more, many_begins, one_front, starts_with}
+use Rattle.grammar.proofs.Laws.{Begins, Stops, apart-has, covers-has}
+use Rattle.grammar.proofs.Plain.{one_takes, stops_part, begins_more, many_begins, one_front, starts_with}
 use Rattle.cif_lex.specs.declared.token.Token.{Token}
-use Rattle.cif_lex.specs.declared.token.TokenKind.TheVariants.{Id, Reserved, Sign}
+use Rattle.cif_lex.specs.declared.token.TokenKind.TheVariants.{Id, Sign}
 use Rattle.cif_lex.specs.declared.token.Word.TheVariants as w
 use Rattle.cif_lex.specs.declared.token.Mark.TheVariants as m
-use Rattle.cif_tree.specs.declared.names.Ident.{Ident}
-use Rattle.cif_tree.specs.declared.names.Name.{Name}
-use Rattle.cif_tree.specs.declared.expressions.Expr.{Expr}
-use Rattle.cif_tree.specs.declared.declarations.TypeUse.{TypeUse}
-use Rattle.cif_tree.specs.declared.declarations.Chan.{Chan}
+use Rattle.cif_ast.specs.declared.names.Ident.{Ident}
+use Rattle.cif_ast.specs.declared.names.Name.{Name}
+use Rattle.cif_ast.specs.declared.expressions.Expr.{Expr}
+use Rattle.cif_ast.specs.declared.declarations.TypeUse.{TypeUse}
+use Rattle.cif_ast.specs.declared.declarations.Chan.{Chan}
 use Rattle.cif_expr.specs.Kinds.{sort, codes_of, sign}
 use Rattle.cif_expr.specs.Trees as form
 use Rattle.cif_expr.specs.Grammar.{ident, name, separated, IsExpr}
 use Rattle.cif_expr.specs.Reading.{first, first_word, first_sign, name_at}
-use Rattle.cif_expr.proofs.Agrees.{part_takes, ident_takes, name_takes, un_goes, expr_goes}
+use Rattle.cif_expr.proofs.Agrees.{part_takes, name_takes, un_goes, expr_goes}
 use Rattle.cif_expr.proofs.Whole.{expr_takes}
 use Rattle.cif_decl.specs.Grammar.{type_use, channel}
 use Rattle.cif_decl.specs.Reading.{is_bare, is_labelled, leaves}

@@ -1,28 +1,28 @@
 -- The grammar of types, declarations and parameters, a line for each production (CIF 3 language reference,
 -- "Declarations", "Types", "Invariants").
-use Rattle.std.specs.Prelude.{List, [], ◌∷◌, map, Option}
+use Rattle.std.specs.Prelude.{List, [], ◌∷◌, Option}
 use Rattle.grammar.specs.Pieces.{Text}
 use Rattle.grammar.specs.Lang.{Lang, ◌&◌, ◌∣◌, ◌<$>◌, ◌▹◌, optional, flat}
 use Rattle.cif_lex.specs.declared.token.Token.{Token}
 use Rattle.cif_lex.specs.declared.token.TokenKind.TheVariants.{Reserved}
 use Rattle.cif_lex.specs.declared.token.Word.TheVariants as w
 use Rattle.cif_lex.specs.declared.token.Mark.TheVariants as m
-use Rattle.cif_tree.specs.declared.names.Ident.{Ident}
-use Rattle.cif_tree.specs.declared.names.Name.{Name}
-use Rattle.cif_tree.specs.declared.expressions.Expr.{Expr}
-use Rattle.cif_tree.specs.declared.declarations.Class.{Class}
-use Rattle.cif_tree.specs.declared.declarations.Chan.{Chan}
-use Rattle.cif_tree.specs.declared.declarations.Chan.TheVariants as chan
-use Rattle.cif_tree.specs.declared.declarations.TypeUse.{TypeUse}
-use Rattle.cif_tree.specs.declared.declarations.TypeUse.TheVariants as type
-use Rattle.cif_tree.specs.declared.declarations.Decl.{Decl}
-use Rattle.cif_tree.specs.declared.declarations.Decl.TheVariants as decl
-use Rattle.cif_tree.specs.declared.declarations.Inv.{Inv}
-use Rattle.cif_tree.specs.declared.declarations.Inv.TheVariants as inv
-use Rattle.cif_tree.specs.declared.declarations.Param.{Param}
+use Rattle.cif_ast.specs.declared.names.Ident.{Ident}
+use Rattle.cif_ast.specs.declared.names.Name.{Name}
+use Rattle.cif_ast.specs.declared.expressions.Expr.{Expr}
+use Rattle.cif_ast.specs.declared.declarations.Class.{Class}
+use Rattle.cif_ast.specs.declared.declarations.Chan.{Chan}
+use Rattle.cif_ast.specs.declared.declarations.Chan.TheVariants as chan
+use Rattle.cif_ast.specs.declared.declarations.TypeUse.{TypeUse}
+use Rattle.cif_ast.specs.declared.declarations.TypeUse.TheVariants as type
+use Rattle.cif_ast.specs.declared.declarations.Decl.{Decl}
+use Rattle.cif_ast.specs.declared.declarations.Decl.TheVariants as decl
+use Rattle.cif_ast.specs.declared.declarations.Inv.{Inv}
+use Rattle.cif_ast.specs.declared.declarations.Inv.TheVariants as inv
+use Rattle.cif_ast.specs.declared.declarations.Param.{Param}
 use Rattle.cif_expr.specs.Kinds.{word, sign, any_of}
 use Rattle.cif_expr.specs.Trees.{second, middle}
-use Rattle.cif_expr.specs.Grammar.{ident, name, ids, names, separated, IsExpr, expr_list}
+use Rattle.cif_expr.specs.Grammar.{ident, name, ids, names, separated, IsExpr}
 use Rattle.cif_decl.specs.Trees as tree
 
 -- "event" | "controllable" | "uncontrollable"

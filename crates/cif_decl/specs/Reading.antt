@@ -1,5 +1,5 @@
 -- Reading types, declarations and parameters.
-use Rattle.std.specs.Prelude.{ℕ, Bool, true, false, not, ◌&&◌, ◌||◌, List, [], ◌∷◌, ◌++◌, map, Option, Some, None}
+use Rattle.std.specs.Prelude.{ℕ, Bool, false, not, ◌&&◌, ◌||◌, List, [], ◌∷◌, Option, Some, None}
 use Rattle.grammar.specs.Pieces.{Text}
 use Rattle.grammar.specs.Lang.{flat}
 use Rattle.grammar.specs.Reader.{Read, Reader, both_at, map_at, either_at, when_at, optional_at, bind_at, starts}
@@ -7,19 +7,18 @@ use Rattle.cif_lex.specs.declared.token.Token.{Token}
 use Rattle.cif_lex.specs.declared.token.TokenKind.TheVariants.{Id, Reserved, Sign}
 use Rattle.cif_lex.specs.declared.token.Word.TheVariants as w
 use Rattle.cif_lex.specs.declared.token.Mark.TheVariants as m
-use Rattle.cif_tree.specs.declared.names.Ident.{Ident}
-use Rattle.cif_tree.specs.declared.names.Name.{Name}
-use Rattle.cif_tree.specs.declared.expressions.Expr.{Expr}
-use Rattle.cif_tree.specs.declared.declarations.Class.{Class}
-use Rattle.cif_tree.specs.declared.declarations.Chan.{Chan}
-use Rattle.cif_tree.specs.declared.declarations.Chan.TheVariants as chan
-use Rattle.cif_tree.specs.declared.declarations.TypeUse.{TypeUse}
-use Rattle.cif_tree.specs.declared.declarations.TypeUse.TheVariants as type
-use Rattle.cif_tree.specs.declared.declarations.Decl.{Decl}
-use Rattle.cif_tree.specs.declared.declarations.Decl.TheVariants as decl
-use Rattle.cif_tree.specs.declared.declarations.Inv.{Inv}
-use Rattle.cif_tree.specs.declared.declarations.Inv.TheVariants as inv
-use Rattle.cif_tree.specs.declared.declarations.Param.{Param}
+use Rattle.cif_ast.specs.declared.names.Ident.{Ident}
+use Rattle.cif_ast.specs.declared.names.Name.{Name}
+use Rattle.cif_ast.specs.declared.expressions.Expr.{Expr}
+use Rattle.cif_ast.specs.declared.declarations.Class.{Class}
+use Rattle.cif_ast.specs.declared.declarations.Chan.{Chan}
+use Rattle.cif_ast.specs.declared.declarations.Chan.TheVariants as chan
+use Rattle.cif_ast.specs.declared.declarations.TypeUse.{TypeUse}
+use Rattle.cif_ast.specs.declared.declarations.TypeUse.TheVariants as type
+use Rattle.cif_ast.specs.declared.declarations.Decl.{Decl}
+use Rattle.cif_ast.specs.declared.declarations.Decl.TheVariants as decl
+use Rattle.cif_ast.specs.declared.declarations.Inv.{Inv}
+use Rattle.cif_ast.specs.declared.declarations.Param.{Param}
 use Rattle.cif_expr.specs.Kinds.{sort, codes_of}
 use Rattle.cif_expr.specs.Trees.{second, middle}
 use Rattle.cif_expr.specs.Reading.{any_at, word_at, sign_at, first, first_word, first_sign, ident_at, name_at, expr_at, separated_at}

@@ -1,24 +1,23 @@
 -- The tree that each form of a declaration stands for.
 use Rattle.std.specs.Prelude.{◌==◌, List, [], ◌∷◌, Option, Some, None, if◌then◌else◌}
 use Rattle.cif_lex.specs.declared.token.Token.{Token}
-use Rattle.cif_lex.specs.declared.token.TokenKind.{TokenKind}
 use Rattle.cif_lex.specs.declared.token.TokenKind.TheVariants.{Reserved}
 use Rattle.cif_lex.specs.declared.token.Word.TheVariants as w
-use Rattle.cif_tree.specs.declared.names.Ident.{Ident}
-use Rattle.cif_tree.specs.declared.names.Name.{Name}
-use Rattle.cif_tree.specs.declared.expressions.Expr.{Expr}
-use Rattle.cif_tree.specs.declared.declarations.Class.{Class}
-use Rattle.cif_tree.specs.declared.declarations.Class.TheVariants as class
-use Rattle.cif_tree.specs.declared.declarations.Chan.{Chan}
-use Rattle.cif_tree.specs.declared.declarations.Chan.TheVariants as channel
-use Rattle.cif_tree.specs.declared.declarations.TypeUse.{TypeUse}
-use Rattle.cif_tree.specs.declared.declarations.TypeUse.TheVariants as type
-use Rattle.cif_tree.specs.declared.declarations.Decl.{Decl}
-use Rattle.cif_tree.specs.declared.declarations.Decl.TheVariants as decl
-use Rattle.cif_tree.specs.declared.declarations.Inv.{Inv}
-use Rattle.cif_tree.specs.declared.declarations.Inv.TheVariants as inv
-use Rattle.cif_tree.specs.declared.declarations.Param.{Param}
-use Rattle.cif_tree.specs.declared.declarations.Param.TheVariants as param
+use Rattle.cif_ast.specs.declared.names.Ident.{Ident}
+use Rattle.cif_ast.specs.declared.names.Name.{Name}
+use Rattle.cif_ast.specs.declared.expressions.Expr.{Expr}
+use Rattle.cif_ast.specs.declared.declarations.Class.{Class}
+use Rattle.cif_ast.specs.declared.declarations.Class.TheVariants as class
+use Rattle.cif_ast.specs.declared.declarations.Chan.{Chan}
+use Rattle.cif_ast.specs.declared.declarations.Chan.TheVariants as channel
+use Rattle.cif_ast.specs.declared.declarations.TypeUse.{TypeUse}
+use Rattle.cif_ast.specs.declared.declarations.TypeUse.TheVariants as type
+use Rattle.cif_ast.specs.declared.declarations.Decl.{Decl}
+use Rattle.cif_ast.specs.declared.declarations.Decl.TheVariants as decl
+use Rattle.cif_ast.specs.declared.declarations.Inv.{Inv}
+use Rattle.cif_ast.specs.declared.declarations.Inv.TheVariants as inv
+use Rattle.cif_ast.specs.declared.declarations.Param.{Param}
+use Rattle.cif_ast.specs.declared.declarations.Param.TheVariants as param
 use Rattle.cif_expr.specs.Kinds.{code}
 
 abbrev pub bounds : Token × (Expr × (Token × (Expr × Token))) → Expr × Expr

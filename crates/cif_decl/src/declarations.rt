@@ -8,10 +8,10 @@ use crate::events::events;
 use crate::invariants::{invariants, kind_invariants};
 use crate::types::type_use;
 use crate::values::{Algebraic, Constant, Discrete, Input, Marking, NamedType};
+use cif_ast::Decl;
 use cif_base::Items;
 use cif_expr::{Read, expr, ident, ids, separated, sign, starts, word};
 use cif_lex::{Mark, Token, TokenKind, Word};
-use cif_tree::Decl;
 use std::alloc::Global;
 
 #[tactic(auto, unfolding(crate::specs::Reading::type_declaration_at))]

@@ -7,10 +7,10 @@ ghost use Rattle.cif_decl.specs.Trees as tree;
 
 use crate::sight::is_bare;
 use crate::types::channel;
+use cif_ast::{Chan, Class, Decl, Param};
 use cif_base::Items;
 use cif_expr::{Part, Read, any_of, code, ident, separated};
 use cif_lex::{Mark, Token, TokenKind, Word};
-use cif_tree::{Chan, Class, Decl, Param};
 use std::alloc::Global;
 
 /// The class that a word says.

@@ -7,12 +7,12 @@ ghost use Rattle.cif_expr.specs.Reading as expressions;
 ghost use Rattle.cif_decl.specs.Reading as reading;
 
 use crate::sight::is_labelled;
+use cif_ast::{Decl, Inv, Name};
 use cif_base::{Items, Memory};
 use cif_expr::{
     Part, Read, ReadError, any_of, expr, ident, name, names, separated, sign, starts, word,
 };
 use cif_lex::{Mark, Token, TokenKind, Word};
-use cif_tree::{Decl, Inv, Name};
 use std::alloc::Global;
 
 /// `plant`, `requirement` or `supervisor`.

@@ -7,10 +7,10 @@ ghost use Rattle.cif_decl.specs.Trees as tree;
 
 use crate::events::event_parameters;
 use crate::types::type_use;
+use cif_ast::{Param, TypeUse};
 use cif_base::Items;
 use cif_expr::{Part, Read, ident, joined_list, optional, separated, sign, starts, word};
 use cif_lex::{Mark, Token, TokenKind, Word};
-use cif_tree::{Param, TypeUse};
 use std::alloc::Global;
 
 /// An algebraic parameter of a type.

@@ -4,10 +4,10 @@ use crate::{
     component_kind, declaration, disc_declaration, given, is_component, kind_invariants,
     parameters, plain_declaration,
 };
+use cif_ast::{Chan, Class, Decl, Inv, Param, TypeUse};
 use cif_base::Items;
 use cif_expr::{ReadError, code};
 use cif_lex::{Token, TokenKind, Word, lex};
-use cif_tree::{Chan, Class, Decl, Inv, Param, TypeUse};
 use std::alloc::Global;
 use std::process::Abort;
 use std::test::Fail;

@@ -4,9 +4,9 @@ ghost use Rattle.std.specs.Prelude.{◌≡◌};
 ghost use Rattle.cif_expr.specs.Gives.{Gives};
 ghost use Rattle.cif_decl.specs.Reading as reading;
 
+use cif_ast::{Chan, Expr, TypeUse};
 use cif_expr::{Read, expr, name, sign, starts, word};
 use cif_lex::{Mark, Token, TokenKind, Word};
-use cif_tree::{Chan, Expr, TypeUse};
 use std::alloc::Global;
 
 /// The bounds of a range, in brackets.

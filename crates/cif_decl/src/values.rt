@@ -5,9 +5,9 @@ ghost use Rattle.cif_expr.specs.Gives.{Gives};
 ghost use Rattle.cif_decl.specs.Reading as reading;
 
 use crate::types::type_use;
+use cif_ast::{Decl, Expr, Ident, TypeUse};
 use cif_expr::{Part, Read, expr, ident, sign, starts};
 use cif_lex::{Mark, Token, TokenKind};
-use cif_tree::{Decl, Expr, Ident, TypeUse};
 use std::alloc::Global;
 
 /// `=` and an expression.

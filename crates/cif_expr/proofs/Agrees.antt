@@ -13,7 +13,7 @@ use Rattle.cif_lex.specs.declared.token.Word.{Word}
 use Rattle.cif_lex.specs.declared.token.Word.TheVariants as w
 use Rattle.cif_lex.specs.declared.token.Mark.{Mark}
 use Rattle.cif_lex.specs.declared.token.Mark.TheVariants as m
-use Rattle.cif_tree.specs.declared.expressions.Expr.{Expr}
+use Rattle.cif_ast.specs.declared.expressions.Expr.{Expr}
 use Rattle.cif_expr.specs.Kinds.{sort, codes_of, kind, word, sign}
 use Rattle.cif_expr.specs.Spelling.{is_small}
 use Rattle.cif_expr.specs.Trees as tree

@@ -1,5 +1,5 @@
 -- An expression at the front, at most so deep, is what the grammar derives there.
-use Rattle.std.proofs.Common.{◌+◌, ◌≤◌, ◌<◌, false, refl, arith}
+use Rattle.std.proofs.Common.{◌+◌, ◌≤◌, ◌<◌, false, arith}
 use Rattle.grammar.specs.Pieces.{Text}
 use Rattle.grammar.proofs.Laws.{Takes}
 use Rattle.grammar.proofs.Depth.{Nests, whole_takes}

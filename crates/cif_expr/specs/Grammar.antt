@@ -7,10 +7,10 @@ use Rattle.cif_lex.specs.declared.token.TokenKind.TheVariants.{Id, Reserved, Num
 use Rattle.cif_lex.specs.declared.token.Word.TheVariants as w
 use Rattle.cif_lex.specs.declared.token.Mark.{Mark}
 use Rattle.cif_lex.specs.declared.token.Mark.TheVariants as m
-use Rattle.cif_tree.specs.declared.names.Ident.{Ident}
-use Rattle.cif_tree.specs.declared.names.Name.{Name}
-use Rattle.cif_tree.specs.declared.expressions.Expr.{Expr}
-use Rattle.cif_tree.specs.declared.expressions.Branch.{Branch}
+use Rattle.cif_ast.specs.declared.names.Ident.{Ident}
+use Rattle.cif_ast.specs.declared.names.Name.{Name}
+use Rattle.cif_ast.specs.declared.expressions.Expr.{Expr}
+use Rattle.cif_ast.specs.declared.expressions.Branch.{Branch}
 use Rattle.cif_expr.specs.Kinds.{kind, word, sign, any_of}
 use Rattle.cif_expr.specs.Spelling.{is_small}
 use Rattle.cif_expr.specs.Trees as tree

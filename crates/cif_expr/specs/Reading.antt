@@ -9,12 +9,12 @@ use Rattle.cif_lex.specs.declared.token.Word.{Word}
 use Rattle.cif_lex.specs.declared.token.Word.TheVariants as w
 use Rattle.cif_lex.specs.declared.token.Mark.{Mark}
 use Rattle.cif_lex.specs.declared.token.Mark.TheVariants as m
-use Rattle.cif_tree.specs.declared.names.Ident.{Ident}
-use Rattle.cif_tree.specs.declared.names.Name.{Name}
-use Rattle.cif_tree.specs.declared.expressions.Expr.{Expr}
-use Rattle.cif_tree.specs.declared.expressions.Term.{Term}
-use Rattle.cif_tree.specs.declared.expressions.Factor.{Factor}
-use Rattle.cif_tree.specs.declared.expressions.Branch.{Branch}
+use Rattle.cif_ast.specs.declared.names.Ident.{Ident}
+use Rattle.cif_ast.specs.declared.names.Name.{Name}
+use Rattle.cif_ast.specs.declared.expressions.Expr.{Expr}
+use Rattle.cif_ast.specs.declared.expressions.Term.{Term}
+use Rattle.cif_ast.specs.declared.expressions.Factor.{Factor}
+use Rattle.cif_ast.specs.declared.expressions.Branch.{Branch}
 use Rattle.cif_expr.specs.Kinds.{sort, codes_of}
 use Rattle.cif_expr.specs.Spelling.{is_small}
 use Rattle.cif_expr.specs.Trees as tree

@@ -4,7 +4,7 @@ use Rattle.std.specs.declared.alloc.Global.{Global}
 use denote.Ref.{Bor}
 use Rattle.grammar.specs.Pieces.{Text}
 use Rattle.cif_lex.specs.declared.token.Token.{Token}
-use Rattle.cif_tree.specs.declared.expressions.Expr.{Expr}
+use Rattle.cif_ast.specs.declared.expressions.Expr.{Expr}
 use Rattle.cif_expr.specs.declared.error.ReadError.{ReadError}
 use Rattle.cif_expr.specs.Gives.{Gives}
 use Rattle.cif_expr.specs.Reading.{un_at}

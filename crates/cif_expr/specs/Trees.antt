@@ -6,18 +6,18 @@ use Rattle.cif_lex.specs.declared.token.TokenKind.{TokenKind}
 use Rattle.cif_lex.specs.declared.token.TokenKind.TheVariants.{Reserved, Sign}
 use Rattle.cif_lex.specs.declared.token.Word.TheVariants as w
 use Rattle.cif_lex.specs.declared.token.Mark.TheVariants as m
-use Rattle.cif_tree.specs.declared.names.Ident.{Ident}
-use Rattle.cif_tree.specs.declared.names.Name.{Name}
-use Rattle.cif_tree.specs.declared.expressions.MulOp.{MulOp}
-use Rattle.cif_tree.specs.declared.expressions.MulOp.TheVariants as mul
-use Rattle.cif_tree.specs.declared.expressions.CmpOp.{CmpOp}
-use Rattle.cif_tree.specs.declared.expressions.CmpOp.TheVariants as cmp
-use Rattle.cif_tree.specs.declared.expressions.Form.{Form}
-use Rattle.cif_tree.specs.declared.expressions.Form.TheVariants as f
-use Rattle.cif_tree.specs.declared.expressions.Expr.{Expr, out-Expr, roll-Expr}
-use Rattle.cif_tree.specs.declared.expressions.Term.{Term, roll-Term}
-use Rattle.cif_tree.specs.declared.expressions.Factor.{Factor, roll-Factor}
-use Rattle.cif_tree.specs.declared.expressions.Branch.{Branch, roll-Branch}
+use Rattle.cif_ast.specs.declared.names.Ident.{Ident}
+use Rattle.cif_ast.specs.declared.names.Name.{Name}
+use Rattle.cif_ast.specs.declared.expressions.MulOp.{MulOp}
+use Rattle.cif_ast.specs.declared.expressions.MulOp.TheVariants as mul
+use Rattle.cif_ast.specs.declared.expressions.CmpOp.{CmpOp}
+use Rattle.cif_ast.specs.declared.expressions.CmpOp.TheVariants as cmp
+use Rattle.cif_ast.specs.declared.expressions.Form.{Form}
+use Rattle.cif_ast.specs.declared.expressions.Form.TheVariants as f
+use Rattle.cif_ast.specs.declared.expressions.Expr.{Expr, out-Expr, roll-Expr}
+use Rattle.cif_ast.specs.declared.expressions.Term.{Term, roll-Term}
+use Rattle.cif_ast.specs.declared.expressions.Factor.{Factor, roll-Factor}
+use Rattle.cif_ast.specs.declared.expressions.Branch.{Branch, roll-Branch}
 use Rattle.cif_expr.specs.Kinds.{code}
 use Rattle.cif_expr.specs.Spelling.{spelling, value}
 

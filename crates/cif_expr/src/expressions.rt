@@ -10,9 +10,9 @@ use crate::levels::{Grammar, MAX_DEPTH};
 use crate::operands::un;
 use crate::parts::{Part, separated};
 use crate::tokens::Read;
+use cif_ast::Expr;
 use cif_base::Items;
 use cif_lex::{Mark, Token};
-use cif_tree::Expr;
 use std::alloc::Global;
 
 /// An expression at the front, of depth at most 100. Where it is deeper, its first token is told.

@@ -1,13 +1,13 @@
 //! The trees of the forms of expressions, from their parts.
 
 ghost use Rattle.std.specs.Prelude.{◌≡◌, ◌∷◌, IfOk};
-ghost use Rattle.cif_tree.specs.declared.expressions.Form.TheVariants as f;
+ghost use Rattle.cif_ast.specs.declared.expressions.Form.TheVariants as f;
 ghost use Rattle.cif_expr.specs.Trees as tree;
 
 use crate::tokens::code;
+use cif_ast::{Branch, CmpOp, Expr, Factor, Form, MulOp, Term};
 use cif_base::{Boxed, Items, Memory};
 use cif_lex::{Mark, Token, TokenKind, Word};
-use cif_tree::{Branch, CmpOp, Expr, Factor, Form, MulOp, Term};
 use std::alloc::Global;
 
 // ---- operators

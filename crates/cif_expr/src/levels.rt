@@ -13,9 +13,9 @@ use crate::forms::{
     comparison, conjunction, disjunction, implication, is_minus, mul_op, product, sum,
 };
 use crate::tokens::{Read, any_of, starts, word};
+use cif_ast::{Expr, Factor, Term};
 use cif_base::Items;
 use cif_lex::{Mark, Token, TokenKind, Word};
-use cif_tree::{Expr, Factor, Term};
 use std::alloc::Global;
 
 /// The greatest depth of an expression.

@@ -9,9 +9,9 @@ ghost use Rattle.cif_expr.specs.Trees as tree;
 use crate::parts::{Part, separated};
 use crate::spelling::spelling;
 use crate::tokens::{Read, kind, sign, starts};
+use cif_ast::{Ident, Name};
 use cif_base::{Items, Text};
 use cif_lex::{Mark, Token, TokenKind};
-use cif_tree::{Ident, Name};
 use std::alloc::Global;
 
 /// An identifier.

@@ -18,9 +18,9 @@ use crate::levels::{Grammar, level};
 use crate::naming::name;
 use crate::spelling::value;
 use crate::tokens::{Read, kind, sign, starts, word};
+use cif_ast::{Branch, Expr, Form};
 use cif_base::Items;
 use cif_lex::{Mark, Token, TokenKind, Word};
-use cif_tree::{Branch, Expr, Form};
 use std::alloc::Global;
 
 /// `true` or `false`.

@@ -1,8 +1,8 @@
 //! What is read and what is refused, as tables.
 
 use crate::{ReadError, expr, expr_list, ids, names};
+use cif_ast::{CmpOp, Expr, Form, MulOp};
 use cif_lex::{Token, lex};
-use cif_tree::{CmpOp, Expr, Form, MulOp};
 use std::alloc::Global;
 use std::process::Abort;
 use std::test::Fail;

@@ -2,8 +2,8 @@
 use Rattle.std.proofs.Common.{◌≡◌, ℕ, ◌+◌, ◌-◌, ◌<◌, ◌≤◌, true, false, cond, List, length, drop, get_or, drop_of_length-le, sym, ap, ◌∙◌, arith}
 use Rattle.std.specs.Prelude.{nat_lt}
 use Rattle.std.proofs.lemmas.Bool.Decides.{nat_tests}
-use Rattle.cif_ast.specs.declared.plant.Location.{Location}
-use Rattle.cif_ast.specs.Plant.{most_objects}
+use Rattle.cif_plant.specs.declared.plant.Location.{Location}
+use Rattle.cif_plant.specs.Plant.{most_objects}
 use Rattle.cif_form.specs.Checking.{few_from}
 use Rattle.cif_form.proofs.Naming.{drop_item}
 

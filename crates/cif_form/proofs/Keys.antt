@@ -4,10 +4,10 @@ use Rattle.std.specs.Prelude.{map, nat_eq, position}
 use Rattle.std.specs.List.{list_any, position_or_len}
 use Rattle.std.specs.Cmp.Lexicographic.{pointwise}
 use Rattle.std.proofs.lemmas.Bool.Decides.{nat_tests}
-use Rattle.cif_ast.specs.Tokens.{same}
-use Rattle.cif_ast.specs.Numbers.{number_of}
+use Rattle.grammar.specs.Pieces.{same}
+use Rattle.cif_plant.specs.Numbers.{number_of}
 use Rattle.cif_form.specs.Checking.{place_in}
-use Rattle.cif_form.proofs.Sameness.{same_is}
+use Rattle.grammar.proofs.Texts.{same_is}
 
 flip : (a b : ℕ) → (a == b) ≡ (b == a)
 flip a b = go (a == b) refl (b == a) refl

@@ -1,14 +1,9 @@
-pub mod Sameness
-pub mod Flat
-pub mod Agrees
-pub mod Pieces
-pub mod LexSteps
-pub mod Runs
 pub mod Members
 pub mod Keys
 pub mod Keeping
-pub mod Whole
 pub mod Naming
 pub mod Counting
 pub mod Placed
 pub mod Moving
+pub mod Every
+pub mod Whole

@@ -1,35 +1,14 @@
 -- Names in lists, and their numbers.
-use Rattle.std.proofs.Common.{◌≡◌, ◌==◌, suc, ◌+◌, ◌<◌, ◌≤◌, Bool, true, false, cond, ◌&&◌, ◌||◌, List, [], ◌∷◌, ◌++◌, length, Option, Some, None, refl, sym, ap, subst, ◌∙◌, arith, inl, inr, ◌⊎◌, append_assoc, append-nil, eqb-true, eq-eqb}
+use Rattle.std.proofs.Common.{◌≡◌, suc, ◌+◌, ◌<◌, ◌≤◌, Bool, true, false, cond, ◌||◌, List, [], ◌∷◌, ◌++◌, length, Option, Some, None, refl, sym, ap, subst, ◌∙◌, arith, inl, inr, ◌⊎◌, append_assoc, append-nil}
 use Rattle.std.specs.List.{list_any}
-use Rattle.grammar.specs.Pieces.{Text}
+use Rattle.grammar.specs.Pieces.{Text, same}
+use Rattle.grammar.proofs.Texts.{same_self, same_equal}
 use Rattle.cif_system.specs.Words.{Member}
-use Rattle.cif_ast.specs.Tokens.{same}
-use Rattle.cif_ast.specs.Plant.{AreDistinct}
-use Rattle.cif_ast.specs.Numbers.{number_of}
+use Rattle.cif_plant.specs.Plant.{AreDistinct}
+use Rattle.cif_plant.specs.Numbers.{number_of}
 use Rattle.cif_form.specs.Checking.{added}
 
 -- ---- equal texts
-
-pub same_self : (x : Text) → same x x ≡ true
-same_self [] = refl
-same_self (b ∷ x) = let head : (b == b) ≡ true = eq-eqb b b refl in rw (head, same_self x) refl
-
-and_left : (a b : Bool) → (a && b) ≡ true → a ≡ true
-and_left true b e = refl
-and_left false b e = e
-
-and_right : (a b : Bool) → (a && b) ≡ true → b ≡ true
-and_right true b e = e
-and_right false b e = absurd cc
-
-pub same_equal : (x y : Text) → same x y ≡ true → x ≡ y
-same_equal [] [] e = refl
-same_equal [] (b ∷ y) e = absurd cc
-same_equal (a ∷ x) [] e = absurd cc
-same_equal (a ∷ x) (b ∷ y) e =
-    let heads : a ≡ b = eqb-true a b (and_left (a == b) (same x y) e) in
-    let tails : x ≡ y = same_equal x y (and_right (a == b) (same x y) e) in
-    cc
 
 -- ---- membership
 

@@ -2,10 +2,10 @@
 use Rattle.std.proofs.Common.{◌≡◌, ℕ, zero, suc, ◌+◌, ◌<◌, ◌≤◌, List, [], ◌∷◌, ◌++◌, length, drop, get_or, drop_of_length-le, append_assoc, append-nil, sym, ap, ◌∙◌, arith, inl, inr}
 use Rattle.std.specs.Prelude.{map}
 use Rattle.cif_system.specs.Words.{Member}
-use Rattle.cif_ast.specs.declared.plant.Location.{Location}
-use Rattle.cif_ast.specs.declared.plant.Plant.{Plant}
-use Rattle.cif_ast.specs.declared.numbered.Move.{Move}
-use Rattle.cif_ast.specs.Numbers.{move_of, moves_from}
+use Rattle.cif_plant.specs.declared.plant.Location.{Location}
+use Rattle.cif_plant.specs.declared.plant.Plant.{Plant}
+use Rattle.cif_plant.specs.declared.numbered.Move.{Move}
+use Rattle.cif_plant.specs.Numbers.{move_of, moves_from}
 use Rattle.cif_form.proofs.Naming.{drop_item}
 
 pub member_at : {A : Type 0} (xs : List A) (i : ℕ) (x : A) → i < length xs → x ≡ get_or xs i x → Member x xs

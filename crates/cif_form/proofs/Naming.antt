@@ -2,8 +2,7 @@
 use Rattle.std.proofs.Common.{◌≡◌, ℕ, suc, ◌+◌, ◌<◌, ◌≤◌, Bool, true, false, cond, not, List, [], ◌∷◌, ◌++◌, length, drop, get_or, drop-cons, drop_of_length-le, add-one, Some, None, refl, sym, ap, ◌∙◌}
 use Rattle.std.specs.Prelude.{map}
 use Rattle.std.specs.List.{list_any}
-use Rattle.cif_ast.specs.Tokens.{same}
-use Rattle.grammar.specs.Pieces.{Text}
+use Rattle.grammar.specs.Pieces.{Text, same}
 use Rattle.cif_form.specs.Checking.{added}
 use Rattle.cif_form.proofs.Members.{then_added, added-append}
 

@@ -1,23 +1,23 @@
 -- The numbers of a plant's names.
 use Rattle.std.proofs.Common.{◌≡◌, ℕ, suc, ◌+◌, ◌<◌, ◌≤◌, Bool, true, false, cond, not, List, [], ◌∷◌, length, Option, Some, None, refl, sym, ap, subst, ◌∙◌, arith, inl, inr}
-use Rattle.std.specs.Prelude.{Result, Ok, Err, IfOk, map, filter, position, unwrap_or}
+use Rattle.std.specs.Prelude.{Result, Ok, Err, IfOk, map, filter, position, unwrap_or, nat_lt, if◌then◌else◌}
 use Rattle.std.specs.List.{prefix_len, position_or_len}
+use Rattle.std.proofs.lemmas.Bool.Decides.{nat_tests}
 use Rattle.std.proofs.lemmas.List.Sums.{prefix_len-le-length}
 use Rattle.grammar.specs.Pieces.{Text}
 use Rattle.cif_system.specs.Words.{Member}
-use Rattle.cif_ast.specs.declared.plant.Event.{Event}
-use Rattle.cif_ast.specs.declared.plant.Edge.{Edge}
-use Rattle.cif_ast.specs.declared.plant.Location.{Location}
-use Rattle.cif_ast.specs.declared.plant.Plant.{Plant}
-use Rattle.cif_ast.specs.declared.numbered.Move.{Move}
-use Rattle.cif_ast.specs.declared.numbered.NumberedPlant.{NumberedPlant}
-use Rattle.cif_ast.specs.Meaning.{IsNumbered}
-use Rattle.cif_ast.specs.Plant.{event_names, location_names, LeadsTo, EdgeFits, IsPlant}
-use Rattle.cif_ast.specs.Numbers.{number_of, target_of, move_of, moves_from, first_initial, numbered}
+use Rattle.cif_plant.specs.declared.plant.Event.{Event}
+use Rattle.cif_plant.specs.declared.plant.Edge.{Edge}
+use Rattle.cif_plant.specs.declared.plant.Location.{Location}
+use Rattle.cif_plant.specs.declared.plant.Plant.{Plant}
+use Rattle.cif_plant.specs.declared.numbered.Move.{Move}
+use Rattle.cif_plant.specs.declared.numbered.NumberedPlant.{NumberedPlant}
+use Rattle.cif_plant.specs.Meaning.{IsNumbered}
+use Rattle.cif_plant.specs.Plant.{event_names, location_names, LeadsTo, EdgeFits, IsPlant}
+use Rattle.cif_plant.specs.Numbers.{number_of, target_of, move_of, moves_from, first_initial, numbered}
 use Rattle.cif_form.specs.Checking.{added, event_name, location_name, names_of, place_in}
 use Rattle.cif_form.proofs.Members.{number-below, member_left, member_right, member_split}
 use Rattle.cif_form.proofs.Keeping.{place-event, place-location, length-names, plant-added, edges_in}
-use Rattle.cif_form.proofs.Runs.{or_length}
 
 pub event_placed : (p : Plant) (names : List Text) (x : Text) → names ≡ names_of p → Member x (event_names p) → place_in names x ≡ Some (number_of (event_names p) x)
 unfolding names_of
@@ -47,6 +47,14 @@ first_prefix (l ∷ ls) = go l.initial (first_prefix ls)
     go : (b : Bool) → prefix_len (λ (l : Location). not l.initial) ls ≡ first_initial ls → cond (not b) (1 + prefix_len (λ (l : Location). not l.initial) ls) 0 ≡ cond b 0 (suc (first_initial ls))
     go true e = refl
     go false e = omega (arith, e)
+
+-- the place of the first that passes a test, or how many there are
+or_length : (n m : ℕ) → n ≤ m → unwrap_or (if◌then◌else◌ (nat_lt n m) (Some n) None) m ≡ n
+or_length n m l = go (nat_lt n m) refl
+  where
+    go : (b : Bool) → nat_lt n m ≡ b → unwrap_or (if◌then◌else◌ b (Some n) None) m ≡ n
+    go true e = refl
+    go false e = grind (arith, nat_tests)
 
 pub first_is : (ls : List Location) → unwrap_or (position (λ (l : Location). l.initial) ls) (length ls) ≡ first_initial ls
 first_is ls = or_length (position_or_len (λ (l : Location). l.initial) ls) (length ls) (prefix_len-le-length (λ (l : Location). not l.initial) ls) ∙ first_prefix ls

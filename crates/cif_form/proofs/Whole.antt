@@ -1,66 +1,78 @@
--- What is read from a text is what it reads as.
-use Rattle.std.proofs.Common.{◌≡◌, ℕ, ◌≤◌, Bool, true, false, cond, List, Option, Some, None, Result, Ok, Err, refl, sym, ap, subst, ◌∙◌}
+-- The tests give the plant whose form a tree has.
+use Rattle.std.proofs.Common.{◌≡◌, ℕ, Bool, true, false, cond, ◌&&◌, [], ◌∷◌, Option, Some, None, Result, Ok, Err, refl, sym, ap, subst, ◌∙◌}
 use Rattle.std.specs.Prelude.{IfOk}
-use Rattle.cif_form.specs.declared.error.ReadError.{ReadError}
-use Rattle.cif_form.specs.declared.error.ReadError.TheVariants.{Memory, NotRead}
-use Rattle.cif_form.specs.Told.{Refuses, Tells}
-use Rattle.grammar.specs.Pieces.{Text}
-use Rattle.cif_ast.specs.declared.plant.Plant.{Plant}
-use Rattle.cif_ast.specs.declared.tokens.Token.{Token}
-use Rattle.cif_ast.specs.Plant.{ReadsAsPlant}
-use Rattle.cif_form.specs.Lexing.{lexed}
-use Rattle.cif_form.specs.Reading.{all_of}
+use Rattle.std.specs.List.{list_all}
+use Rattle.grammar.specs.Pieces.{Text, AllAre}
+use Rattle.grammar.proofs.Texts.{and_left, and_right}
+use Rattle.cif_ast.specs.declared.components.Spec.{Spec}
+use Rattle.cif_parse.specs.Grammar.{Reads}
+use Rattle.cif_plant.specs.declared.plant.Plant.{Plant}
+use Rattle.cif_plant.specs.Named.{is_letter, IsNameText}
+use Rattle.cif_form.specs.declared.error.FormErr.{FormErr}
+use Rattle.cif_form.specs.declared.error.FormErr.TheVariants.{Memory, NotBuilt}
+use Rattle.cif_form.specs.Gives.{Fails, Gives}
+use Rattle.cif_form.specs.Form.{items_of, is_word, has_words}
 use Rattle.cif_form.specs.Checking.{keeps}
-use Rattle.cif_form.specs.Whole.{derived_from, kept, read_of}
-use Rattle.cif_form.proofs.Pieces.{lexed-tokens, tokens-lexed}
-use Rattle.cif_form.proofs.Agrees.{read_derives, derived_reads}
+use Rattle.cif_form.specs.Source.{HasForm, ReadsAsPlant}
+use Rattle.cif_form.specs.Whole.{kept, plant_in}
 use Rattle.cif_form.proofs.Keeping.{keeps-plant, plant-keeps}
 
-kept_some : (o : Option Plant) (p : Plant) → kept o ≡ Some p → (o ≡ Some p) × (keeps p ≡ true)
+kept_some : (o : Option Plant) (p : Plant) → kept o ≡ Some p → (o ≡ Some p) × ((has_words p && keeps p) ≡ true)
 kept_some None p e = absurd cc
-kept_some (Some q) p e = go (keeps q) refl e
+kept_some (Some q) p e = go (has_words q && keeps q) refl e
   where
-    go : (b : Bool) → keeps q ≡ b → cond b (Some q) None ≡ Some p → (Some q ≡ Some p) × (keeps p ≡ true)
-    go true is e = let same : q ≡ p = cc in (e, ap keeps (sym same) ∙ is)
+    go : (b : Bool) → (has_words q && keeps q) ≡ b → cond b (Some q) None ≡ Some p → (Some q ≡ Some p) × ((has_words p && keeps p) ≡ true)
+    go true is e = let same : q ≡ p = cc in (e, ap (λ x. has_words x && keeps x) (sym same) ∙ is)
     go false is e = absurd cc
 
-derived_some : (o : Option (List Token)) (p : Plant) → derived_from o ≡ Some p → (ts : List Token) × (o ≡ Some ts) × (all_of ts ≡ Some p)
-derived_some None p e = absurd cc
-derived_some (Some ts) p e = (ts, refl, e)
+-- the plant that is found is that of the form
+found_form : (tree : Spec) (p : Plant) → plant_in tree ≡ Some p → HasForm tree p
+unfolding plant_in
+found_form tree p e =
+    let k = kept_some (items_of tree.items) p e in
+    record { shown = k.0; words = and_left (has_words p) (keeps p) k.1; keeps = keeps-plant p (and_right (has_words p) (keeps p) k.1) }
 
-pub read_reads : (text : Text) (p : Plant) → read_of text ≡ Some p → ReadsAsPlant text p
-unfolding read_of
-read_reads text p e =
-    let k = kept_some (derived_from (lexed text)) p e in
-    let d = derived_some (lexed text) p k.0 in
-    record { tokens = d.0; are_tokens = lexed-tokens text d.0 d.1; derived = read_derives d.0 p d.2; keeps = keeps-plant p k.1 }
+form_found : (tree : Spec) (p : Plant) → HasForm tree p → plant_in tree ≡ Some p
+unfolding plant_in
+form_found tree p h =
+    let words = h.words in
+    let keep = plant-keeps p h.keeps in
+    let both : (has_words p && keeps p) ≡ true = rw (words, keep) refl in
+    ap kept h.shown ∙ ap (λ b. cond b (Some p) None) both
 
-pub reads_read : (text : Text) (p : Plant) → ReadsAsPlant text p → read_of text ≡ Some p
-unfolding read_of
-reads_read text p d =
-    let found = tokens-lexed text d.tokens d.are_tokens in
-    let tree = derived_reads d.tokens p d.derived in
-    let keep = plant-keeps p d.keeps in
-    ap (λ o. kept (derived_from o)) found ∙ ap kept tree ∙ ap (λ b. cond b (Some p) None) keep
+-- ---- what is told of a tree
 
--- a text that reads as a plant is not refused
-pub none_reads : (text : Text) → read_of text ≡ None → (p : Plant) → ReadsAsPlant text p → ⊥
-none_reads text e p d = let found = reads_read text p d in absurd cc
+pub built_has_form : (tree : Spec) (r : Result Plant FormErr) → Gives (λ p. p) r (plant_in tree) → IfOk r (λ p. HasForm tree p)
+built_has_form tree (Ok p) g = found_form tree p g
+built_has_form tree (Err e) g = tt
 
--- a text reads as at most one plant
-pub one_reading : (text : Text) (p q : Plant) → ReadsAsPlant text p → ReadsAsPlant text q → p ≡ q
-one_reading text p q d e = let a = reads_read text p d in let b = reads_read text q e in cc
+refused : (tree : Spec) (at : ℕ) (e : FormErr) → Fails e (plant_in tree) → e ≡ NotBuilt at → (p : Plant) → HasForm tree p → ⊥
+refused tree at Memory f e p h = cc
+refused tree at (NotBuilt place) f e p h = let found = form_found tree p h in cc
 
--- ---- what is told of a text
+pub built_refused : (tree : Spec) (r : Result Plant FormErr) → Gives (λ p. p) r (plant_in tree) → (at : ℕ) → r ≡ Err (NotBuilt at) → (p : Plant) → HasForm tree p → ⊥
+built_refused tree (Ok q) g at e p h = absurd cc
+built_refused tree (Err w) g at e p h = let same : w ≡ NotBuilt at = cc in refused tree at w g same p h
 
-pub told_read : (text : Text) (end : ℕ) (r : Result Plant ReadError) → Tells end (λ p. p) r (read_of text) → IfOk r (λ p. ReadsAsPlant text p)
-told_read text end (Ok p) t = read_reads text p t
-told_read text end (Err e) t = tt
+-- ---- laws of texts
 
-refused : (text : Text) (end at : ℕ) (e : ReadError) → Refuses end e (read_of text) → e ≡ NotRead at → (at ≤ end) × ((p : Plant) → ReadsAsPlant text p → ⊥)
-refused text end at Memory t e = absurd cc
-refused text end at (NotRead place) t e = let same : place ≡ at = cc in (subst (λ n. n ≤ end) same t.0, none_reads text t.1)
+-- a tree has the form of at most one plant
+one_form : (tree : Spec) (p q : Plant) → HasForm tree p → HasForm tree q → p ≡ q
+one_form tree p q h k = let a = h.shown in let b = k.shown in cc
 
-pub told_refused : (text : Text) (end : ℕ) (r : Result Plant ReadError) → Tells end (λ p. p) r (read_of text) → (at : ℕ) → r ≡ Err (NotRead at) → (at ≤ end) × ((p : Plant) → ReadsAsPlant text p → ⊥)
-told_refused text end (Ok p) t at e = absurd cc
-told_refused text end (Err w) t at e = let same : w ≡ NotRead at = cc in refused text end at w t same
+pub one_reading : ((text : Text) (a b : Spec) → Reads text a → Reads text b → a ≡ b) → (text : Text) (p q : Plant) → ReadsAsPlant text p → ReadsAsPlant text q → p ≡ q
+one_reading one text p q h k = one_form h.tree p q h.form (subst (λ tree. HasForm tree q) (one text k.tree h.tree k.read h.read) k.form)
+
+all_letters : (w : Text) → list_all is_letter w ≡ true → AllAre is_letter w
+all_letters [] e = tt
+all_letters (b ∷ w) e = (and_left (is_letter b) (list_all is_letter w) e, all_letters w (and_right (is_letter b) (list_all is_letter w) e))
+
+word_letters : (w : Text) → is_word w ≡ true → IsNameText w
+unfolding is_word
+word_letters [] e = absurd cc
+word_letters (b ∷ w) e = record { some = tt; letters = all_letters (b ∷ w) (and_left _ _ (and_right _ _ (and_right _ _ e))) }
+
+-- the name of a plant that is read consists of letters
+pub read_is_named : (text : Text) (p : Plant) → ReadsAsPlant text p → IsNameText p.name
+unfolding has_words
+read_is_named text p h = word_letters p.name (and_left _ _ h.form.words)

@@ -1,14 +1,13 @@
 -- The rules of a plant as tests, over one list of its names.
 use Rattle.std.specs.Prelude.{ℕ, ◌+◌, ◌-◌, Bool, true, false, ◌&&◌, ◌==◌, nat_lt, nat_le, List, [], ◌∷◌, ◌++◌, length, filter, Option, Some, None, if◌then◌else◌}
 use Rattle.std.specs.List.{list_any, list_all}
-use Rattle.grammar.specs.Pieces.{Text}
-use Rattle.cif_ast.specs.declared.plant.Event.{Event}
-use Rattle.cif_ast.specs.declared.plant.Edge.{Edge}
-use Rattle.cif_ast.specs.declared.plant.Location.{Location}
-use Rattle.cif_ast.specs.declared.plant.Plant.{Plant}
-use Rattle.cif_ast.specs.Tokens.{same}
-use Rattle.cif_ast.specs.Plant.{event_names, location_names, most_objects}
-use Rattle.cif_ast.specs.Numbers.{number_of}
+use Rattle.grammar.specs.Pieces.{Text, same}
+use Rattle.cif_plant.specs.declared.plant.Event.{Event}
+use Rattle.cif_plant.specs.declared.plant.Edge.{Edge}
+use Rattle.cif_plant.specs.declared.plant.Location.{Location}
+use Rattle.cif_plant.specs.declared.plant.Plant.{Plant}
+use Rattle.cif_plant.specs.Plant.{event_names, location_names, most_objects}
+use Rattle.cif_plant.specs.Numbers.{number_of}
 
 -- names added one by one to a front, where none stands twice
 unfoldable pub added : List Text → List Text → Option (List Text)

@@ -1,12 +1,12 @@
--- What a reader of the code ensures: what reading the list gives, unless memory runs out.
+-- What a part of the code gives: what the definition has, unless memory runs out.
 use Rattle.std.specs.Prelude.{◌≡◌, Option, Some, None, Result, Ok, Err}
-use Rattle.cif_form.specs.declared.error.Stop.{Stop}
-use Rattle.cif_form.specs.declared.error.Stop.TheVariants.{NoMemory, NotTaken}
+use Rattle.cif_form.specs.declared.error.FormErr.{FormErr}
+use Rattle.cif_form.specs.declared.error.FormErr.TheVariants.{Memory, NotBuilt}
 
-abbrev pub Fails : {Y : Type 0} → Stop → Option Y → Type 0
-Fails NoMemory read = Unit {0}
-Fails (NotTaken left) read = read ≡ None
+abbrev pub Fails : {Y : Type 0} → FormErr → Option Y → Type 0
+Fails Memory shown = Unit {0}
+Fails (NotBuilt at) shown = shown ≡ None
 
-abbrev pub Gives : {X Y : Type 0} → (X → Y) → Result X Stop → Option Y → Type 0
-Gives view (Ok x) read = read ≡ Some (view x)
-Gives view (Err e) read = Fails e read
+abbrev pub Gives : {X Y : Type 0} → (X → Y) → Result X FormErr → Option Y → Type 0
+Gives view (Ok x) shown = shown ≡ Some (view x)
+Gives view (Err e) shown = Fails e shown

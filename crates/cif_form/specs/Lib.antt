@@ -1,8 +1,5 @@
-pub mod Lexing
-pub mod Reading
+pub mod Form
+pub mod Source
 pub mod Gives
-pub mod Flat
-pub mod Kinds
 pub mod Checking
 pub mod Whole
-pub mod Told

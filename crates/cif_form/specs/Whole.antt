@@ -1,20 +1,14 @@
--- A text as the plant that it reads as.
-use Rattle.std.specs.Prelude.{List, Option, Some, None, if◌then◌else◌}
-use Rattle.grammar.specs.Pieces.{Text}
-use Rattle.cif_ast.specs.declared.plant.Plant.{Plant}
-use Rattle.cif_ast.specs.declared.tokens.Token.{Token}
-use Rattle.cif_form.specs.Lexing.{lexed}
-use Rattle.cif_form.specs.Reading.{all_of}
+-- A tree as the plant whose form it has, by tests.
+use Rattle.std.specs.Prelude.{◌&&◌, Option, Some, None, if◌then◌else◌}
+use Rattle.cif_ast.specs.declared.components.Spec.{Spec}
+use Rattle.cif_plant.specs.declared.plant.Plant.{Plant}
+use Rattle.cif_form.specs.Form.{items_of, has_words}
 use Rattle.cif_form.specs.Checking.{keeps}
-
-abbrev pub derived_from : Option (List Token) → Option Plant
-derived_from None = None
-derived_from (Some ts) = all_of ts
 
 abbrev pub kept : Option Plant → Option Plant
 kept None = None
-kept (Some p) = if keeps p then Some p else None
+kept (Some p) = if has_words p && keeps p then Some p else None
 
--- the plant that is read from a text, where there is one
-unfoldable pub read_of : Text → Option Plant
-read_of text = kept (derived_from (lexed text))
+-- the plant of a tree, where there is one
+unfoldable pub plant_in : Spec → Option Plant
+plant_in tree = kept (items_of tree.items)

@@ -1,20 +1,22 @@
-//! Reading the form of a source: one plant automaton without data.
+//! The form of a source that programs are generated from: one plant automaton without data. A tree that has the form is turned
+//! into the plant, and the plant's names into numbers.
 #![tactic(auto)]
 
+mod automaton;
+mod edge;
 mod error;
-mod faults;
-mod kinds;
-mod lexing;
+mod form;
+mod misfit;
 mod names;
 mod numbering;
-mod read;
-mod reading;
+mod part;
+mod places;
 mod rules;
 mod words;
 
-pub use error::ReadError;
+pub use error::FormErr;
+pub use form::{names_are_letters, one_plant, plant_of};
 pub use numbering::{number_plant, numbers_name_things};
-pub use read::{one_plant, read_plant};
 
 #[cfg(test)]
 mod tests;

@@ -2,7 +2,7 @@
 
 ghost use Rattle.std.specs.Prelude.{◌≡◌, [], ◌∷◌, ◌++◌, not, IfOk, if◌then◌else◌};
 ghost use Rattle.std.specs.List.{list_any};
-ghost use Rattle.cif_ast.specs.Tokens.{same};
+ghost use Rattle.grammar.specs.Pieces.{same};
 ghost use Rattle.cif_form.specs.Checking.{place_in};
 
 use cif_base::{Memory, Text};

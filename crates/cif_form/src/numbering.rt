@@ -2,17 +2,17 @@
 
 ghost use Rattle.std.specs.Prelude.{◌≡◌, ◌++◌, ℕ, map, position, length, IfOk};
 ghost use Rattle.cif_system.specs.Words.{Member};
-ghost use Rattle.cif_ast.specs.declared.plant.Edge.{Edge};
-ghost use Rattle.cif_ast.specs.declared.plant.Plant.{Plant};
-ghost use Rattle.cif_ast.specs.Meaning.{IsNumbered};
-ghost use Rattle.cif_ast.specs.Numbers as numbers;
-ghost use Rattle.cif_ast.specs.Plant.{IsPlant, EdgeFits, LeadsTo, event_names, location_names};
+ghost use Rattle.cif_plant.specs.declared.plant.Edge.{Edge};
+ghost use Rattle.cif_plant.specs.declared.plant.Plant.{Plant};
+ghost use Rattle.cif_plant.specs.Meaning.{IsNumbered};
+ghost use Rattle.cif_plant.specs.Numbers as numbers;
+ghost use Rattle.cif_plant.specs.Plant.{IsPlant, EdgeFits, LeadsTo, event_names, location_names};
 ghost use Rattle.cif_form.specs.Checking as checking;
 
 use crate::names::Names;
 use crate::rules::names_of;
-use cif_ast::{Class, Edge, Event, Location, Move, NumberedPlant, Plant};
 use cif_base::{Items, Memory, Text};
+use cif_plant::{Class, Edge, Event, Location, Move, NumberedPlant, Plant};
 use std::alloc::{AllocError, Global};
 
 /// The number of an event.

@@ -5,12 +5,12 @@ ghost use Rattle.std.specs.List.{list_all};
 ghost use Rattle.cif_form.specs.Checking as checking;
 
 use crate::names::Names;
-use cif_ast::{Edge, Event, Location, Plant};
 use cif_base::{Memory, Text};
+use cif_plant::{Edge, Event, Location, Plant};
 use std::alloc::Global;
 
 /// The most events, locations and edges of a plant.
-const MOST_OBJECTS: usize = 1000;
+pub const MOST_OBJECTS: usize = 1000;
 
 fn add_events(alloc: Global, mut names: Names, events: &[Event]) -> Result<Option<Names>, Memory>
     ensures { IfOk result (λ o. o ≡ checking.added names (map checking.event_name events.now)) }

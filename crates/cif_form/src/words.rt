@@ -1,60 +1,59 @@
-//! Tokens one by one.
+//! Names of the form: words of at most 40 letters that aren't reserved.
 
-ghost use Rattle.std.specs.Prelude.{◌≡◌, [], ◌∷◌};
-ghost use Rattle.grammar.specs.Lang as lang;
-ghost use Rattle.grammar.specs.Reader as reader;
-ghost use Rattle.cif_ast.specs.Grammar as grammar;
-ghost use Rattle.cif_form.specs.Gives.{Gives};
+ghost use Rattle.std.specs.Prelude.{◌≡◌};
+ghost use Rattle.std.specs.List.{list_all};
+ghost use Rattle.cif_plant.specs.Named.{is_letter};
+ghost use Rattle.cif_form.specs.Form as form;
 
-use crate::error::Stop;
-use cif_ast::{Kind, Token};
+use cif_base::Text;
+use cif_lex::reserved_word;
+use cif_plant::{Event, Location, Plant};
 
-/// What is read from the front, and what is left.
-pub type Read<'a, T> = Result<(T, &'a [Token]), Stop>;
+/// The most letters of a name.
+const MOST_LETTERS: usize = 40;
 
-/// The number of a kind.
-pub fn code(kind: Kind) -> u8
-    ensures { result ≡ grammar.code kind }
+fn is_letter(byte: u8) -> bool
+    ensures { result ≡ is_letter byte }
 {
-    kind as u8
+    byte.is_ascii_uppercase() || byte.is_ascii_lowercase()
 }
 
-/// Whether a kind is among these.
-fn has(among: &[Kind], kind: Kind) -> bool
-    ensures { result ≡ lang.has (grammar.codes_of among.now) (grammar.code kind) }
+fn are_letters(word: &[u8]) -> bool
+    ensures { result ≡ list_all is_letter word.now }
 {
-    for one in among {
-        if code(*one) == code(kind) {
-            return true;
-        }
-    }
-    false
+    word.iter().all(|byte| is_letter(*byte))
 }
 
-/// Whether the next token is of one of these kinds.
-pub fn starts(tokens: &[Token], among: &[Kind]) -> bool
-    ensures { result ≡ reader.starts grammar.sort (grammar.codes_of among.now) tokens.now }
+/// Whether a text is a name of the form.
+#[tactic(auto, unfolding(crate::specs::Form::is_word, cif_lex::specs::Cutting::reserved_word))]
+pub fn is_word(word: &Text) -> bool
+    ensures { result ≡ form.is_word word.now }
 {
-    match tokens {
-        [] => false,
-        [token, ..] => has(among, token.kind),
-    }
+    let word = word.as_slice();
+    !word.is_empty()
+        && word.len() <= MOST_LETTERS
+        && are_letters(word)
+        && reserved_word(word).is_none()
 }
 
-/// A token of one of these kinds.
-#[tactic(auto, unfolding(grammar::specs::Reader::one_at))]
-pub fn any_of<'a>(tokens: &'a [Token], among: &[Kind]) -> Read<'a, &'a Token>
-    ensures { Gives (λ x. (x.0.now, x.1.now)) result (reader.one_at grammar.sort (grammar.codes_of among.now) tokens.now) }
+fn are_events(events: &[Event]) -> bool
+    ensures { result ≡ list_all (λ e. form.is_word e.name) events.now }
 {
-    match tokens {
-        [token, rest @ ..] if has(among, token.kind) => Ok((token, rest)),
-        _ => Err(Stop::NotTaken(tokens.len())),
-    }
+    events.iter().all(|event| is_word(&event.name))
 }
 
-/// A token of this kind.
-pub fn word(tokens: &[Token], kind: Kind) -> Read<'_, &Token>
-    ensures { Gives (λ x. (x.0.now, x.1.now)) result (reader.one_at grammar.sort (grammar.codes_of (kind ∷ [])) tokens.now) }
+fn are_locations(locations: &[Location]) -> bool
+    ensures { result ≡ list_all (λ l. form.is_word l.name) locations.now }
 {
-    any_of(tokens, &[kind])
+    locations.iter().all(|location| is_word(&location.name))
+}
+
+/// Whether the names of a plant, its events and its locations are names of the form.
+#[tactic(auto, unfolding(crate::specs::Form::has_words))]
+pub fn has_words(plant: &Plant) -> bool
+    ensures { result ≡ form.has_words plant.now }
+{
+    is_word(&plant.name)
+        && are_events(plant.events.as_slice())
+        && are_locations(plant.locations.as_slice())
 }

@@ -1,21 +1,20 @@
 -- What is read is what the grammar of a source derives.
-use Rattle.std.proofs.Common.{◌≡◌, ℕ, zero, suc, List, [], ◌∷◌, ◌++◌, Bool, true, false, ◌||◌, map, Option, Some, None, refl, sym, ap, subst, ◌∙◌, append_assoc, inl, inr}
+use Rattle.std.proofs.Common.{◌≡◌, ℕ, zero, suc, List, [], ◌∷◌, ◌++◌, Bool, true, false, ◌||◌, map, Some, None, refl, sym, ap, subst, ◌∙◌, append_assoc, inl, inr}
 use Rattle.grammar.specs.Pieces.{Text}
 use Rattle.grammar.specs.Lang.{Lang, ◌&◌, ◌∣◌, ◌<$>◌, many, list, such_that, nothing, optional, has, flat}
 use Rattle.grammar.specs.Reader.{Reader, none_at, starts}
-use Rattle.grammar.proofs.Laws.{Takes, Begins, Stops, covers-has}
+use Rattle.grammar.proofs.Laws.{Takes, Begins, covers-has}
 use Rattle.grammar.proofs.Plain.{one_takes, map_takes, both_takes, either_takes, when_takes, optional_takes, many_takes, list_takes, such_takes, nothing_takes, same, wider, begins_more, begins_wider, starts_with}
 use Rattle.cif_lex.specs.declared.token.Token.{Token}
 use Rattle.cif_lex.specs.declared.token.TokenKind.TheVariants.{Id, Reserved, Sign}
 use Rattle.cif_lex.specs.declared.token.Word.TheVariants as w
 use Rattle.cif_lex.specs.declared.token.Mark.TheVariants as m
-use Rattle.cif_tree.specs.declared.declarations.Decl.{Decl}
-use Rattle.cif_tree.specs.declared.edges.Update.{Update}
-use Rattle.cif_tree.specs.declared.edges.Role.TheVariants as roles
-use Rattle.cif_tree.specs.declared.edges.Loc.{Loc}
-use Rattle.cif_tree.specs.declared.components.Body.{Body}
-use Rattle.cif_tree.specs.declared.components.Item.{Item}
-use Rattle.cif_tree.specs.declared.components.Item.TheVariants as item
+use Rattle.cif_ast.specs.declared.edges.Update.{Update}
+use Rattle.cif_ast.specs.declared.edges.Role.TheVariants as roles
+use Rattle.cif_ast.specs.declared.edges.Loc.{Loc}
+use Rattle.cif_ast.specs.declared.components.Body.{Body}
+use Rattle.cif_ast.specs.declared.components.Item.{Item}
+use Rattle.cif_ast.specs.declared.components.Item.TheVariants as item
 use Rattle.cif_expr.specs.Kinds.{sort, codes_of, word, sign}
 use Rattle.cif_expr.specs.Trees.{second}
 use Rattle.cif_expr.specs.Grammar.{ident, names, separated}
@@ -25,7 +24,7 @@ use Rattle.cif_expr.proofs.Whole.{expr_takes}
 use Rattle.cif_expr.proofs.PartLaws.{separated_takes, names_takes, expr_list_takes}
 use Rattle.cif_decl.specs.Trees.{single, given}
 use Rattle.cif_decl.specs.Grammar.{declaration, plain_declaration, kind_invariants, disc_declaration, parameters}
-use Rattle.cif_decl.specs.Reading.{kind_first, plain_first, is_labelled, is_component}
+use Rattle.cif_decl.specs.Reading.{kind_first, is_labelled, is_component}
 use Rattle.cif_decl.proofs.SightLaws.{labelled}
 use Rattle.cif_decl.proofs.Agrees.{kind_takes, plain_declaration_takes, kind_invariants_takes, declaration_takes, disc_declaration_takes, parameters_takes, invariants_no_component}
 use Rattle.cif_parse.specs.declared.elements.Element.TheVariants as elements

@@ -1,15 +1,15 @@
 -- Readers that don't ask how deep they are where nothing nests.
-use Rattle.std.proofs.Common.{◌≡◌, ℕ, zero, suc, List, Bool, true, false, map, None, refl}
+use Rattle.std.proofs.Common.{◌≡◌, ℕ, zero, suc, List, true, false, map, None, refl}
 use Rattle.grammar.specs.Pieces.{Text}
 use Rattle.grammar.specs.Reader.{map_at, starts}
 use Rattle.cif_lex.specs.declared.token.Token.{Token}
 use Rattle.cif_lex.specs.declared.token.TokenKind.TheVariants.{Id}
-use Rattle.cif_tree.specs.declared.components.Item.TheVariants as item
+use Rattle.cif_ast.specs.declared.components.Item.TheVariants as item
 use Rattle.cif_expr.specs.Kinds.{sort}
 use Rattle.cif_expr.specs.Reading.{first}
 use Rattle.cif_decl.specs.Trees.{single}
 use Rattle.cif_decl.specs.Reading.{plain_first, is_component, plain_declaration_at, kind_invariants_at}
-use Rattle.cif_parse.specs.Reading.{name_first, set_at, choice_at, update_at, one_update_at, updates_at, instance_at, nested_at, all_items_at, item_over, item_at}
+use Rattle.cif_parse.specs.Reading.{name_first, set_at, choice_at, update_at, one_update_at, updates_at, instance_at, item_over, item_at}
 
 pub set_read : (text : Text) (n : ℕ) (ts : List Token) → starts sort name_first ts ≡ true → one_update_at text n ts ≡ set_at text ts
 unfolding one_update_at update_at
@@ -39,11 +39,6 @@ pub kind_read : (text : Text) (n : ℕ) (ts : List Token) → starts sort plain_
 unfolding item_at item_over
 kind_read text zero ts d e f = rw (d, e, f) refl
 kind_read text (suc n) ts d e f = rw (d, e, f) refl
-
-pub nested_read : (text : Text) (n k : ℕ) (ts : List Token) → n ≡ suc k → starts sort plain_first ts ≡ false → starts sort (first Id) ts ≡ false
-    → is_component ts ≡ true → item_at text n ts ≡ map_at single (nested_at text (all_items_at (item_at text k))) ts
-unfolding item_at item_over
-nested_read text n k ts is d e f = rw (is, d, e, f) refl
 
 pub no_nested_read : (text : Text) (n : ℕ) (ts : List Token) → n ≡ 0 → starts sort plain_first ts ≡ false → starts sort (first Id) ts ≡ false
     → is_component ts ≡ true → item_at text n ts ≡ None

@@ -1,13 +1,13 @@
 -- A text reads as the tree that is read, and as no other.
-use Rattle.std.proofs.Common.{◌≡◌, ℕ, ◌≤◌, length, List, [], ◌∷◌, ◌++◌, Option, Some, None, refl, sym, ap, subst, ◌∙◌, append-nil}
+use Rattle.std.proofs.Common.{◌≡◌, ℕ, ◌≤◌, length, List, [], ◌∷◌, Option, Some, None, refl, sym, ap, subst, ◌∙◌, append-nil}
 use Rattle.grammar.specs.Pieces.{Text}
 use Rattle.grammar.specs.Lang.{many, flat}
 use Rattle.grammar.specs.Reader.{Read}
 use Rattle.cif_lex.specs.Tokens.{Tokens}
 use Rattle.cif_lex.specs.declared.token.Token.{Token}
 use Rattle.cif_lex.proofs.TokenLaws.{token_lists_agree}
-use Rattle.cif_tree.specs.declared.components.Item.{Item}
-use Rattle.cif_tree.specs.declared.components.Spec.{Spec}
+use Rattle.cif_ast.specs.declared.components.Item.{Item}
+use Rattle.cif_ast.specs.declared.components.Spec.{Spec}
 use Rattle.cif_expr.specs.declared.error.ReadError.{ReadError}
 use Rattle.cif_expr.specs.declared.error.ReadError.TheVariants.{NotRead, TooDeep}
 use Rattle.cif_expr.specs.Gives.{Fails}

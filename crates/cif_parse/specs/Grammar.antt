@@ -1,29 +1,28 @@
 -- The grammar of a source, a line for each production (CIF 3 language reference), over that of expressions and that of
 -- declarations.
-use Rattle.std.specs.Prelude.{◌≤◌, ℕ, zero, suc, length, List, [], ◌∷◌, map, Option}
+use Rattle.std.specs.Prelude.{◌≤◌, ℕ, zero, suc, length, List, [], map, Option}
 use Rattle.grammar.specs.Pieces.{Text}
 use Rattle.grammar.specs.Lang.{Lang, ◌&◌, ◌∣◌, ◌<$>◌, many, list, optional, such_that, flat}
 use Rattle.cif_lex.specs.Tokens.{Tokens}
 use Rattle.cif_lex.specs.declared.token.Token.{Token}
 use Rattle.cif_lex.specs.declared.token.Word.TheVariants as w
 use Rattle.cif_lex.specs.declared.token.Mark.TheVariants as m
-use Rattle.cif_tree.specs.declared.names.Ident.{Ident}
-use Rattle.cif_tree.specs.declared.expressions.Expr.{Expr}
-use Rattle.cif_tree.specs.declared.declarations.Decl.{Decl}
-use Rattle.cif_tree.specs.declared.edges.Update.{Update}
-use Rattle.cif_tree.specs.declared.edges.UpdateBranch.{UpdateBranch}
-use Rattle.cif_tree.specs.declared.edges.EventUse.{EventUse}
-use Rattle.cif_tree.specs.declared.edges.Role.{Role}
-use Rattle.cif_tree.specs.declared.edges.Role.TheVariants as roles
-use Rattle.cif_tree.specs.declared.edges.Edge.{Edge}
-use Rattle.cif_tree.specs.declared.edges.Loc.{Loc}
-use Rattle.cif_tree.specs.declared.components.AutoBody.{AutoBody}
-use Rattle.cif_tree.specs.declared.components.Body.{Body}
-use Rattle.cif_tree.specs.declared.components.Item.{Item}
-use Rattle.cif_tree.specs.declared.components.Item.TheVariants as items
-use Rattle.cif_tree.specs.declared.components.Spec.{Spec}
+use Rattle.cif_ast.specs.declared.names.Ident.{Ident}
+use Rattle.cif_ast.specs.declared.expressions.Expr.{Expr}
+use Rattle.cif_ast.specs.declared.edges.Update.{Update}
+use Rattle.cif_ast.specs.declared.edges.UpdateBranch.{UpdateBranch}
+use Rattle.cif_ast.specs.declared.edges.EventUse.{EventUse}
+use Rattle.cif_ast.specs.declared.edges.Role.{Role}
+use Rattle.cif_ast.specs.declared.edges.Role.TheVariants as roles
+use Rattle.cif_ast.specs.declared.edges.Edge.{Edge}
+use Rattle.cif_ast.specs.declared.edges.Loc.{Loc}
+use Rattle.cif_ast.specs.declared.components.AutoBody.{AutoBody}
+use Rattle.cif_ast.specs.declared.components.Body.{Body}
+use Rattle.cif_ast.specs.declared.components.Item.{Item}
+use Rattle.cif_ast.specs.declared.components.Item.TheVariants as items
+use Rattle.cif_ast.specs.declared.components.Spec.{Spec}
 use Rattle.cif_expr.specs.Kinds.{word, sign}
-use Rattle.cif_expr.specs.Trees.{second, middle}
+use Rattle.cif_expr.specs.Trees.{second}
 use Rattle.cif_expr.specs.Grammar.{ident, name, names, separated, IsExpr, expr_list}
 use Rattle.cif_decl.specs.Trees.{single, given}
 use Rattle.cif_decl.specs.Grammar.{kind, declaration, disc_declaration, parameters}

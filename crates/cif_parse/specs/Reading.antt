@@ -7,24 +7,22 @@ use Rattle.cif_lex.specs.declared.token.Token.{Token}
 use Rattle.cif_lex.specs.declared.token.TokenKind.TheVariants.{Id, Reserved, Number, Sign}
 use Rattle.cif_lex.specs.declared.token.Word.TheVariants as w
 use Rattle.cif_lex.specs.declared.token.Mark.TheVariants as m
-use Rattle.cif_tree.specs.declared.names.Ident.{Ident}
-use Rattle.cif_tree.specs.declared.expressions.Expr.{Expr}
-use Rattle.cif_tree.specs.declared.declarations.Decl.{Decl}
-use Rattle.cif_tree.specs.declared.declarations.Param.{Param}
-use Rattle.cif_tree.specs.declared.edges.Update.{Update}
-use Rattle.cif_tree.specs.declared.edges.UpdateBranch.{UpdateBranch}
-use Rattle.cif_tree.specs.declared.edges.EventUse.{EventUse}
-use Rattle.cif_tree.specs.declared.edges.Role.{Role}
-use Rattle.cif_tree.specs.declared.edges.Role.TheVariants as roles
-use Rattle.cif_tree.specs.declared.edges.Edge.{Edge}
-use Rattle.cif_tree.specs.declared.edges.Loc.{Loc}
-use Rattle.cif_tree.specs.declared.components.AutoBody.{AutoBody}
-use Rattle.cif_tree.specs.declared.components.Body.{Body}
-use Rattle.cif_tree.specs.declared.components.Item.{Item}
-use Rattle.cif_tree.specs.declared.components.Item.TheVariants as item
-use Rattle.cif_tree.specs.declared.components.Spec.{Spec}
+use Rattle.cif_ast.specs.declared.names.Ident.{Ident}
+use Rattle.cif_ast.specs.declared.expressions.Expr.{Expr}
+use Rattle.cif_ast.specs.declared.edges.Update.{Update}
+use Rattle.cif_ast.specs.declared.edges.UpdateBranch.{UpdateBranch}
+use Rattle.cif_ast.specs.declared.edges.EventUse.{EventUse}
+use Rattle.cif_ast.specs.declared.edges.Role.{Role}
+use Rattle.cif_ast.specs.declared.edges.Role.TheVariants as roles
+use Rattle.cif_ast.specs.declared.edges.Edge.{Edge}
+use Rattle.cif_ast.specs.declared.edges.Loc.{Loc}
+use Rattle.cif_ast.specs.declared.components.AutoBody.{AutoBody}
+use Rattle.cif_ast.specs.declared.components.Body.{Body}
+use Rattle.cif_ast.specs.declared.components.Item.{Item}
+use Rattle.cif_ast.specs.declared.components.Item.TheVariants as item
+use Rattle.cif_ast.specs.declared.components.Spec.{Spec}
 use Rattle.cif_expr.specs.Kinds.{sort, codes_of}
-use Rattle.cif_expr.specs.Trees.{second, middle}
+use Rattle.cif_expr.specs.Trees.{second}
 use Rattle.cif_expr.specs.Reading.{word_at, sign_at, first, first_word, first_sign, ident_at, name_at, expr_at, separated_at}
 use Rattle.cif_expr.specs.Parts.{names_at, expr_list_at}
 use Rattle.cif_decl.specs.Trees.{single, given}

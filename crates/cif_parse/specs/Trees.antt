@@ -1,30 +1,29 @@
 -- The tree that each form of an update, an edge, a location, an automaton or a component stands for.
-use Rattle.std.specs.Prelude.{Bool, true, false, ◌&&◌, ◌||◌, nat_le, ℕ, suc, List, [], ◌∷◌, ◌++◌, length, Option, Some, None}
+use Rattle.std.specs.Prelude.{Bool, true, false, ◌&&◌, ◌||◌, nat_le, List, [], ◌∷◌, ◌++◌, length, Option, Some, None}
 use Rattle.std.specs.List.{list_all}
 use Rattle.cif_lex.specs.declared.token.Token.{Token}
-use Rattle.cif_tree.specs.declared.names.Ident.{Ident}
-use Rattle.cif_tree.specs.declared.names.Name.{Name}
-use Rattle.cif_tree.specs.declared.expressions.Expr.{Expr}
-use Rattle.cif_tree.specs.declared.declarations.Decl.{Decl}
-use Rattle.cif_tree.specs.declared.declarations.Param.{Param}
-use Rattle.cif_tree.specs.declared.edges.Update.{Update}
-use Rattle.cif_tree.specs.declared.edges.Update.TheVariants as update
-use Rattle.cif_tree.specs.declared.edges.UpdateBranch.{UpdateBranch, roll-UpdateBranch}
-use Rattle.cif_tree.specs.declared.edges.EventUse.{EventUse}
-use Rattle.cif_tree.specs.declared.edges.Role.{Role}
-use Rattle.cif_tree.specs.declared.edges.Role.TheVariants as role
-use Rattle.cif_tree.specs.declared.edges.Edge.{Edge}
-use Rattle.cif_tree.specs.declared.edges.Loc.{Loc}
-use Rattle.cif_tree.specs.declared.edges.LocEquation.{LocEquation}
-use Rattle.cif_tree.specs.declared.components.AutoBody.{AutoBody}
-use Rattle.cif_tree.specs.declared.components.Body.{Body}
-use Rattle.cif_tree.specs.declared.components.Body.TheVariants as body
-use Rattle.cif_tree.specs.declared.components.Comp.{Comp, roll-Comp}
-use Rattle.cif_tree.specs.declared.components.Def.{Def, roll-Def}
-use Rattle.cif_tree.specs.declared.components.Inst.{Inst}
-use Rattle.cif_tree.specs.declared.components.Item.{Item}
-use Rattle.cif_tree.specs.declared.components.Item.TheVariants as item
-use Rattle.cif_tree.specs.declared.components.Spec.{Spec}
+use Rattle.cif_ast.specs.declared.names.Ident.{Ident}
+use Rattle.cif_ast.specs.declared.names.Name.{Name}
+use Rattle.cif_ast.specs.declared.expressions.Expr.{Expr}
+use Rattle.cif_ast.specs.declared.declarations.Decl.{Decl}
+use Rattle.cif_ast.specs.declared.declarations.Param.{Param}
+use Rattle.cif_ast.specs.declared.edges.Update.{Update}
+use Rattle.cif_ast.specs.declared.edges.Update.TheVariants as update
+use Rattle.cif_ast.specs.declared.edges.UpdateBranch.{UpdateBranch, roll-UpdateBranch}
+use Rattle.cif_ast.specs.declared.edges.EventUse.{EventUse}
+use Rattle.cif_ast.specs.declared.edges.Role.{Role}
+use Rattle.cif_ast.specs.declared.edges.Role.TheVariants as role
+use Rattle.cif_ast.specs.declared.edges.Edge.{Edge}
+use Rattle.cif_ast.specs.declared.edges.Loc.{Loc}
+use Rattle.cif_ast.specs.declared.edges.LocEquation.{LocEquation}
+use Rattle.cif_ast.specs.declared.components.AutoBody.{AutoBody}
+use Rattle.cif_ast.specs.declared.components.Body.{Body}
+use Rattle.cif_ast.specs.declared.components.Body.TheVariants as body
+use Rattle.cif_ast.specs.declared.components.Comp.{Comp, roll-Comp}
+use Rattle.cif_ast.specs.declared.components.Def.{Def, roll-Def}
+use Rattle.cif_ast.specs.declared.components.Item.{Item}
+use Rattle.cif_ast.specs.declared.components.Item.TheVariants as item
+use Rattle.cif_ast.specs.declared.components.Spec.{Spec}
 use Rattle.cif_parse.specs.declared.elements.Element.{Element}
 use Rattle.cif_parse.specs.declared.elements.Element.TheVariants as element
 use Rattle.cif_parse.specs.declared.bodies.Piece.{Piece}

@@ -8,11 +8,12 @@ ghost use Rattle.cif_parse.specs.Trees as tree;
 
 use crate::bodies::Piece;
 use crate::locations::LocationPart;
+use crate::places::told_in_automaton;
+use cif_ast::{AutoBody, Body, Decl, Loc, Name};
 use cif_base::{Items, Memory};
 use cif_decl::{component_kind, declaration, disc_declaration, given};
 use cif_expr::{NamesPart, Part, Read, ReadError, optional, repeated, sign, starts, word};
 use cif_lex::{Mark, Token, TokenKind, Word};
-use cif_tree::{AutoBody, Body, Decl, Loc, Name};
 use std::alloc::Global;
 
 /// `alphabet` and its events.
@@ -174,8 +175,19 @@ fn gathered(alloc: Global, pieces: Items<Piece>, locs: Items<Loc>) -> Result<Aut
 }
 
 /// The body of an automaton.
-#[tactic(auto, unfolding(crate::specs::Reading::automaton_body_at, crate::specs::Reading::body_parts_at))]
+#[tactic(auto, using(crate::proofs::Failing::still_fails))]
 fn automaton_body<'a>(alloc: Global, text: &[u8], tokens: &'a [Token]) -> Read<'a, AutoBody>
+    ensures { Gives (λ x. (x.0, x.1.now)) result (reading.automaton_body_at text.now tokens.now) }
+{
+    match body_parts(alloc, text, tokens) {
+        Ok(found) => Ok(found),
+        Err(error) => Err(told_in_automaton(tokens, error)),
+    }
+}
+
+/// The body of an automaton by its parts.
+#[tactic(auto, unfolding(crate::specs::Reading::automaton_body_at, crate::specs::Reading::body_parts_at))]
+fn body_parts<'a>(alloc: Global, text: &[u8], tokens: &'a [Token]) -> Read<'a, AutoBody>
     ensures { Gives (λ x. (x.0, x.1.now)) result (reading.automaton_body_at text.now tokens.now) }
 {
     let (pieces, rest) = repeated(

@@ -1,7 +1,7 @@
 //! Bodies of automata.
 
+use cif_ast::{Decl, Name};
 use cif_base::Items;
-use cif_tree::{Decl, Name};
 
 /// What stands before the locations of an automaton: declarations, its alphabet, or what it monitors.
 #[derive(Drop)]

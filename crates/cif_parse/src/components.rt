@@ -3,7 +3,7 @@
 
 ghost use Rattle.std.specs.Prelude.{◌≡◌, IfOk, map, [], ◌∷◌};
 ghost use Rattle.grammar.specs.Reader as reader;
-ghost use Rattle.cif_tree.specs.declared.components.Item.TheVariants as item;
+ghost use Rattle.cif_ast.specs.declared.components.Item.TheVariants as item;
 ghost use Rattle.cif_expr.specs.Gives.{Gives};
 ghost use Rattle.cif_expr.specs.Kinds as kinds;
 ghost use Rattle.cif_decl.specs.Reading as declarations;
@@ -11,11 +11,12 @@ ghost use Rattle.cif_parse.specs.Reading as reading;
 ghost use Rattle.cif_parse.specs.ReadsItem.{ReadsItem};
 
 use crate::automata::{AutomatonEndPart, automaton_words};
+use crate::places::told_at_item;
+use cif_ast::{Body, Comp, Decl, Def, Expr, Inst, Item};
 use cif_base::{Items, Memory};
 use cif_decl::{given, is_component, kind_invariants, parameters, plain_declaration};
 use cif_expr::{ExprListPart, Part, Read, ReadError, ident, name, optional, sign, starts, word};
 use cif_lex::{Mark, Token, TokenKind, Word};
-use cif_tree::{Body, Comp, Decl, Def, Expr, Inst, Item};
 use std::alloc::Global;
 
 /// How deep components may nest, the outermost counted.
@@ -287,6 +288,17 @@ fn begins_item(tokens: &[Token]) -> bool
     )
 }
 
+/// Invariants after a kind.
+#[tactic(auto, using(crate::proofs::Failing::still_fails))]
+pub fn invariants<'a>(alloc: Global, text: &[u8], tokens: &'a [Token]) -> Read<'a, Items<Decl>>
+    ensures { Gives (λ x. (x.0, x.1.now)) result (declarations.kind_invariants_at text.now tokens.now) }
+{
+    match kind_invariants(alloc, text, tokens) {
+        Ok(found) => Ok(found),
+        Err(error) => Err(told_at_item(tokens, error)),
+    }
+}
+
 /// A component or a definition, in which others may nest so often less once.
 #[tactic(auto, using(crate::proofs::Depths::plain_read, crate::proofs::Depths::instance_read, crate::proofs::Depths::kind_read, crate::proofs::Depths::no_nested_read), unfolding(crate::specs::Reading::item_at, crate::specs::Reading::item_over))]
 fn item<'a>(
@@ -306,7 +318,7 @@ fn item<'a>(
         return Ok((single(alloc, found)?, rest));
     }
     if !is_component(tokens) {
-        let (decls, rest) = kind_invariants(alloc, text, tokens)?;
+        let (decls, rest) = invariants(alloc, text, tokens)?;
         return Ok((declared(alloc, decls)?, rest));
     }
     if depth == 0 {

@@ -6,13 +6,13 @@ ghost use Rattle.cif_parse.specs.Reading as reading;
 ghost use Rattle.cif_parse.specs.Trees as tree;
 
 use crate::updating::updates;
+use cif_ast::{Edge, EventUse, Expr, Ident, Role, Update};
 use cif_base::Items;
 use cif_decl::given;
 use cif_expr::{
     ExprPart, Part, Read, expr_list, ident, name, optional, separated, sign, starts, word,
 };
 use cif_lex::{Mark, Token, TokenKind, Word};
-use cif_tree::{Edge, EventUse, Expr, Ident, Role, Update};
 use std::alloc::Global;
 
 /// `!`, and a value where one is sent.

@@ -1,7 +1,7 @@
 //! What stands in a location.
 
+use cif_ast::{Edge, Expr, LocEquation};
 use cif_base::Items;
-use cif_tree::{Edge, Expr, LocEquation};
 
 /// An element of a location: `initial`, marking predicates, an equation, or an edge.
 #[derive(Drop)]

@@ -2,7 +2,7 @@
 
 ghost use Rattle.std.specs.Prelude.{◌≡◌};
 ghost use Rattle.grammar.specs.Pieces.{Text};
-ghost use Rattle.cif_tree.specs.declared.components.Spec.{Spec};
+ghost use Rattle.cif_ast.specs.declared.components.Spec.{Spec};
 ghost use Rattle.cif_parse.specs.Grammar.{Reads};
 
 /// A text reads as at most one tree.

@@ -10,6 +10,7 @@ mod error;
 mod laws;
 mod locations;
 mod parsing;
+mod places;
 mod updating;
 
 pub use bodies::Piece;

@@ -7,13 +7,13 @@ ghost use Rattle.cif_parse.specs.Trees as tree;
 
 use crate::edges::edge;
 use crate::elements::Element;
+use cif_ast::{Edge, Expr, Ident, Loc, LocEquation};
 use cif_base::{Items, Memory};
 use cif_decl::given;
 use cif_expr::{
     ExprListPart, IdentPart, Part, Read, expr, ident, optional, repeated, sign, starts, word,
 };
 use cif_lex::{Mark, Token, TokenKind, Word};
-use cif_tree::{Edge, Expr, Ident, Loc, LocEquation};
 use std::alloc::Global;
 
 /// `initial`, which may have `true` behind it.

@@ -2,7 +2,7 @@
 
 ghost use Rattle.std.specs.Prelude.{◌≡◌, ◌≤◌, length, IfOk, IfErr, MatchResult};
 ghost use Rattle.cif_lex.specs.Tokens.{Tokens};
-ghost use Rattle.cif_tree.specs.declared.components.Spec.{Spec};
+ghost use Rattle.cif_ast.specs.declared.components.Spec.{Spec};
 ghost use Rattle.cif_expr.specs.Gives.{Gives};
 ghost use Rattle.cif_parse.specs.Grammar.{Reads, ParseRefusalDue};
 ghost use Rattle.cif_parse.specs.Reading as reading;
@@ -10,9 +10,9 @@ ghost use Rattle.cif_parse.specs.declared.error.ParseErr.TheVariants.{Memory as 
 
 use crate::components::items;
 use crate::error::ParseErr;
+use cif_ast::Spec;
 use cif_expr::ReadError;
 use cif_lex::Token;
-use cif_tree::Spec;
 use std::alloc::Global;
 
 /// The specification that all the tokens are.
@@ -39,8 +39,8 @@ fn place(text: &[u8], tokens: &[Token], left: usize) -> u32
     }
 }
 
-/// The tree of a text, by its tokens. Where it has none, the place told is that of the first token with which the tokens up
-/// to it can't be gone on, or of what is too deep; "What is not done" in the README has the cases in which it is another.
+/// The tree of a text, by its tokens (CIF 3 language reference). Where it has none, the place told is that of the first token
+/// with which the tokens before it can't be gone on, the end of the text where all can, or the place of what is too deep.
 #[tactic(auto, using(crate::proofs::Whole::tree_read, crate::proofs::Whole::none_read, crate::proofs::Whole::other_read))]
 pub fn parse(alloc: Global, text: &[u8], tokens: &[Token]) -> Result<Spec, ParseErr>
     requires { Tokens text.now tokens.now }

@@ -1,11 +1,11 @@
 //! What is read and what is refused, as tables.
 
 use crate::{ParseErr, one_tree, parse};
-use cif_base::Items;
-use cif_lex::lex;
-use cif_tree::{
+use cif_ast::{
     AutoBody, Body, Class, Decl, Edge, EventUse, Form, Ident, Inv, Item, Loc, Role, Spec, Update,
 };
+use cif_base::Items;
+use cif_lex::lex;
 use std::alloc::Global;
 use std::process::Abort;
 use std::test::Fail;
@@ -517,7 +517,7 @@ fn a_cell_is_read(rt: HostRuntime) -> Result<(), Fail> {
 
 #[test]
 fn refusals_tell_their_place(rt: HostRuntime) {
-    let rows: [(&[u8], u32); 38] = [
+    let rows: [(&[u8], u32); 51] = [
         (b"event e", 7),
         (b"event e // no end ", 18),
         (b"event e; end", 9),
@@ -559,28 +559,32 @@ fn refusals_tell_their_place(rt: HostRuntime) {
         (b"alphabet e;", 0),
         (b"location p;", 0),
         (b"edge e;", 0),
+        (b"group", 5),
+        (b"group 5", 6),
+        (b"group g 5", 8),
+        (b"group g: group; end", 14),
+        (b"plant a: alphabet e; alphabet f; location; end", 21),
+        (b"plant a: alphabet; event e; alphabet; location; end", 28),
+        (
+            b"plant a: monitor e; alphabet e; monitor f; location; end",
+            32,
+        ),
+        (b"plant a: alphabet e; alphabet f; 5", 21),
+        (b"plant a: location; location; end", 19),
+        (b"plant a: location: initial; location q; end", 28),
+        (
+            b"plant a: location p: edge e goto q; location q; location; end",
+            56,
+        ),
+        (b"plant a: location p; location: initial; 5", 29),
+        (b"plant a: location; location p; plant b: end", 19),
     ];
     for (text, at) in rows.iter() {
         refused(&rt, rt.alloc(), *text, *at);
     }
-}
-
-#[test]
-fn automata_keep_their_form(rt: HostRuntime) {
-    let rows: [&[u8]; 6] = [
-        b"plant a: alphabet e; alphabet f; location; end",
-        b"plant a: alphabet; event e; alphabet; location; end",
-        b"plant a: monitor e; alphabet e; monitor f; location; end",
-        b"plant a: location; location; end",
-        b"plant a: location: initial; location q; end",
-        b"plant a: location p: edge e goto q; location q; location; end",
-    ];
-    for text in rows.iter() {
-        match parsed(&rt, rt.alloc(), *text) {
-            Err(ParseErr::NotRead { .. }) => (),
-            _ => panic!(rt; "not refused"),
-        }
-    }
+    // The innermost `if` update has none.
+    let parts: [&[u8]; 5] = [b"plant a: location: edge e do ", b"if b: ", b"5", b"", b""];
+    refused(&rt, rt.alloc(), &nested(&rt, rt.alloc(), 100, parts), 629);
 }
 
 fn put(rt: &impl Abort, into: &mut Vec<u8>, times: usize, text: &[u8]) {

@@ -12,10 +12,10 @@ ghost use Rattle.cif_decl.specs.Trees.{given};
 ghost use Rattle.cif_parse.specs.Reading as reading;
 ghost use Rattle.cif_parse.specs.ReadsUpdate.{ReadsUpdate};
 
+use cif_ast::{Update, UpdateBranch};
 use cif_base::Items;
 use cif_expr::{Read, ReadError, expr, expr_list, name, sign, starts, word};
 use cif_lex::{Mark, Token, TokenKind, Word};
-use cif_tree::{Update, UpdateBranch};
 use std::alloc::Global;
 
 /// The greatest depth of an update.
@@ -200,6 +200,7 @@ fn update<'a>(
         return set(alloc, text, tokens);
     }
     if depth == 0 {
+        let (_if, _rest) = word(tokens, Word::If)?;
         return Err(ReadError::TooDeep);
     }
     Choices {

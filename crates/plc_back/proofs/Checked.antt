@@ -2,10 +2,10 @@
 use Rattle.std.proofs.Common.{◌≡◌, ◌==◌, ℕ, ◌+◌, ◌-◌, pos, true, ◌&&◌, List, [], ◌∷◌, ◌++◌, Some, refl, ap, ◌∙◌, arith, eq-eqb, le-leb}
 use Rattle.std.specs.Prelude.{int_le}
 use Rattle.grammar.specs.Pieces.{Text}
-use Rattle.cif_ast.specs.Meaning.{IsNumbered}
-use Rattle.cif_ast.specs.declared.plant.Class.TheVariants as c
-use Rattle.cif_ast.specs.declared.numbered.Move.{Move}
-use Rattle.cif_ast.specs.declared.numbered.NumberedPlant.{NumberedPlant}
+use Rattle.cif_plant.specs.Meaning.{IsNumbered}
+use Rattle.cif_plant.specs.declared.plant.Class.TheVariants as c
+use Rattle.cif_plant.specs.declared.numbered.Move.{Move}
+use Rattle.cif_plant.specs.declared.numbered.NumberedPlant.{NumberedPlant}
 use Rattle.st_ast.specs.Names.{folded, same_name, declared}
 use Rattle.st_ast.specs.Checks.{stm_faults, stms_faults, branches_faults, variables_faults, stms_count, stm_count, knows_conditions, boolean_conditions, check_faults}
 use Rattle.st_ast.specs.Tree.{truth, number, named, Stms, assign, choice, no_stms, stms, no_other, append}

@@ -4,10 +4,10 @@ use Rattle.std.specs.Prelude.{codes}
 use Rattle.std.specs.List.{list_all}
 use Rattle.std.proofs.lemmas.Bool.Decides.{nat_tests}
 use Rattle.grammar.specs.Pieces.{Text, AllAre}
-use Rattle.cif_ast.specs.Tokens as source
+use Rattle.cif_plant.specs.Named as source
 use Rattle.st_ast.specs.Tokens.{name, is_wordy, is_identifier, kind_of_word}
 use Rattle.st_print.specs.Marks.{is_word_text}
-use Rattle.cif_ast.specs.Named.{IsNameText}
+use Rattle.cif_plant.specs.Named.{IsNameText}
 
 letter-wordy : (b : ℕ) → source.is_letter b ≡ true → is_wordy b ≡ true
 letter-wordy b e = grind (arith, nat_tests)

@@ -1,8 +1,8 @@
 -- The printed program of a plant reads as the program, shows the plant's output and starts in its initial state.
 use Rattle.std.proofs.Common.{ℕ, refl, arith}
 use Rattle.cif_system.specs.System.{initial}
-use Rattle.cif_ast.specs.Meaning.{IsNumbered, system_of_numbered}
-use Rattle.cif_ast.specs.declared.numbered.NumberedPlant.{NumberedPlant}
+use Rattle.cif_plant.specs.Meaning.{IsNumbered, system_of_numbered}
+use Rattle.cif_plant.specs.declared.numbered.NumberedPlant.{NumberedPlant}
 use Rattle.st_ast.specs.Scan.{start_memory}
 use Rattle.st_ast.specs.ReadsAs.{ReadsAsProgram}
 use Rattle.st_print.specs.Layout.{printed, program_marks}

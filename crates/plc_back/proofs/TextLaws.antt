@@ -4,8 +4,8 @@ use Rattle.cif_system.specs.System.{State, initial}
 use Rattle.cif_system.specs.Scan.{exact_scan}
 use Rattle.cif_system.proofs.FirstRunLaws.{exact_scan-runs}
 use Rattle.cif_system.proofs.ScanLaws.{exact_scan-legal}
-use Rattle.cif_ast.specs.Meaning.{system_of_numbered}
-use Rattle.cif_ast.specs.declared.numbered.NumberedPlant.{NumberedPlant}
+use Rattle.cif_plant.specs.Meaning.{system_of_numbered}
+use Rattle.cif_plant.specs.declared.numbered.NumberedPlant.{NumberedPlant}
 use Rattle.st_ast.specs.Tree.{Program}
 use Rattle.st_ast.specs.Values.{Memory}
 use Rattle.st_ast.specs.Scan.{turns_of_scan, start_memory, later_memories}

@@ -4,9 +4,9 @@ use Rattle.std.specs.Prelude.{codes}
 use Rattle.grammar.specs.Lang.{many, flat}
 use Rattle.grammar.specs.Pieces.{Text}
 use Rattle.cif_system.specs.Words.{Member}
-use Rattle.cif_ast.specs.declared.plant.Class.TheVariants as c
-use Rattle.cif_ast.specs.declared.numbered.Move.{Move}
-use Rattle.cif_ast.specs.declared.numbered.NumberedPlant.{NumberedPlant}
+use Rattle.cif_plant.specs.declared.plant.Class.TheVariants as c
+use Rattle.cif_plant.specs.declared.numbered.Move.{Move}
+use Rattle.cif_plant.specs.declared.numbered.NumberedPlant.{NumberedPlant}
 use Rattle.st_ast.specs.Tokens.{Token, name, program, end_program, var, var_output, end_var, bool, lint, colon, assigns, semicolon, open_sign, close_sign, dots, false_word, greatest, kind_of_word}
 use Rattle.st_ast.specs.Grammar.{middle, expression, below, max_depth, signed, first_value, subrange_of, type_use, value_of_init, declaration, block, statement, whole}
 use Rattle.st_ast.specs.Tree.{truth, number, named, Stm, Stms, assign, no_stms, stms, append, stms_of, Program}
@@ -17,7 +17,7 @@ use Rattle.st_ast.specs.declared.tree.StLit.{StLit}
 use Rattle.st_ast.specs.declared.tree.StLit.TheVariants as lit
 use Rattle.st_ast.specs.declared.tree.StClass.{StClass}
 use Rattle.st_ast.specs.declared.tree.StClass.TheVariants as class
-use Rattle.st_print.specs.Layout.{Mark, expr_marks, stms_marks, number_marks, type_marks, literal_marks, init_marks, declaration_marks, variables_marks, program_marks}
+use Rattle.st_print.specs.Layout.{expr_marks, stms_marks, number_marks, type_marks, literal_marks, declaration_marks, variables_marks, program_marks}
 use Rattle.st_print.specs.Layout as mark
 use Rattle.st_print.specs.Marks.{tokens_of, is_word_text, AreMarks}
 use Rattle.plc_gen.specs.Frame.{fired, rounds_made, tries_of, goes_on, one_more_round, one_round, loop_of}

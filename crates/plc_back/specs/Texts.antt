@@ -3,8 +3,8 @@ use Rattle.std.specs.Prelude.{◌≡◌, ℕ, ℤ, List, length}
 use Rattle.grammar.specs.Pieces.{Text}
 use Rattle.cif_system.specs.System.{initial}
 use Rattle.cif_system.specs.Scan.{ScanIsLegal, ScanRunsFirstSteps, exact_scan}
-use Rattle.cif_ast.specs.declared.numbered.NumberedPlant.{NumberedPlant}
-use Rattle.cif_ast.specs.Meaning.{system_of_numbered}
+use Rattle.cif_plant.specs.declared.numbered.NumberedPlant.{NumberedPlant}
+use Rattle.cif_plant.specs.Meaning.{system_of_numbered}
 use Rattle.st_ast.specs.Tree.{Program}
 use Rattle.st_ast.specs.Scan.{start_memory, later_memories}
 use Rattle.st_ast.specs.ReadsAs.{ReadsAsProgram}

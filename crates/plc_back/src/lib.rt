@@ -2,14 +2,14 @@
 #![tactic(auto)]
 
 ghost use Rattle.std.specs.Prelude.{◌≡◌, ◌+◌, ◌≤◌, ◌<◌, IfOk};
-ghost use Rattle.cif_ast.specs.Meaning.{IsNumbered};
-ghost use Rattle.cif_ast.specs.Named.{IsNameText};
+ghost use Rattle.cif_plant.specs.Meaning.{IsNumbered};
+ghost use Rattle.cif_plant.specs.Named.{IsNameText};
 ghost use Rattle.st_print.specs.Layout.{printed};
 ghost use Rattle.plc_gen.specs.Emitted.{program_of};
 ghost use Rattle.plc_back.specs.Texts.{TheProgram, IsProgramOf, NeverFaults, RunsFirstSteps, ScansLegally, ScansExactly};
 
-use cif_ast::NumberedPlant;
 use cif_base::Memory;
+use cif_plant::NumberedPlant;
 use plc_gen::Bounds;
 use std::alloc::Global;
 

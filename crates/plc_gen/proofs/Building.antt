@@ -2,7 +2,7 @@
 use Rattle.std.proofs.Common.{◌≡◌, ℕ, ◌+◌, ◌<◌, ◌≤◌, List, [], ◌∷◌, ◌++◌, length, get_or, drop, refl, ap, sym, ◌∙◌}
 use Rattle.std.proofs.lemmas.List.{drop_more, drop_all}
 use Rattle.grammar.specs.Pieces.{Text}
-use Rattle.cif_ast.specs.declared.numbered.Move.{Move}
+use Rattle.cif_plant.specs.declared.numbered.Move.{Move}
 use Rattle.st_ast.specs.Tree.{Expr, Stms, Branches, no_stms, stms, no_branches, branches, append}
 use Rattle.st_ast.specs.View.{view_stmts, view_stmt, view_branches, view_branch}
 use Rattle.st_ast.specs.declared.tree.Stmt.{Stmt}

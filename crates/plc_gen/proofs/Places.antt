@@ -1,7 +1,7 @@
 -- Where the emitted variables stand.
 use Rattle.std.proofs.Common.{◌≡◌, ◌==◌, true, [], ◌∷◌, Some, refl, arith, eq-eqb}
 use Rattle.grammar.specs.Pieces.{Text}
-use Rattle.cif_ast.specs.declared.numbered.NumberedPlant.{NumberedPlant}
+use Rattle.cif_plant.specs.declared.numbered.NumberedPlant.{NumberedPlant}
 use Rattle.st_ast.specs.Names.{folded, same_name, place_of, declared}
 use Rattle.plc_gen.specs.Emitted.{place_name, output_name, place_variable, place_output, variables_of}
 use Rattle.plc_gen.proofs.FrameLaw.{LoopVars}

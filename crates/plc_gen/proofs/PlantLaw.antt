@@ -8,11 +8,11 @@ use Rattle.cif_system.specs.System.{State}
 use Rattle.cif_system.specs.Step.{is_of, has_class}
 use Rattle.cif_system.specs.Choices.{first_step, count_from}
 use Rattle.cif_system.specs.Scan.{fire, of_class}
-use Rattle.cif_ast.specs.declared.plant.Class as source
-use Rattle.cif_ast.specs.declared.plant.Class.TheVariants as c
-use Rattle.cif_ast.specs.declared.numbered.Move.{Move}
-use Rattle.cif_ast.specs.declared.numbered.NumberedPlant.{NumberedPlant}
-use Rattle.cif_ast.specs.Meaning.{class_of, event_of, system_of_numbered, IsNumbered}
+use Rattle.cif_plant.specs.declared.plant.Class as source
+use Rattle.cif_plant.specs.declared.plant.Class.TheVariants as c
+use Rattle.cif_plant.specs.declared.numbered.Move.{Move}
+use Rattle.cif_plant.specs.declared.numbered.NumberedPlant.{NumberedPlant}
+use Rattle.cif_plant.specs.Meaning.{class_of, event_of, system_of_numbered, IsNumbered}
 use Rattle.st_ast.specs.Tree.{truth, number, assign, choice, no_stms, stms, no_other}
 use Rattle.st_ast.specs.Values.{Memory, of_bool, is_true, same_number, value_of, with_value}
 use Rattle.st_ast.specs.Exec.{Outcome, Ended, Faulted, Act, is_within, exec, exec_choice, exec_other}
@@ -20,7 +20,7 @@ use Rattle.st_ast.specs.declared.tree.StTy.TheVariants as ty
 use Rattle.st_ast.proofs.Runs.{cons_runs, assign_runs}
 use Rattle.plc_gen.specs.Frame.{fired}
 use Rattle.plc_gen.specs.Emitted as emitted
-use Rattle.plc_gen.specs.Emitted.{place_name, output_name, events_from, events_of, moves_of, stands_at, taking, move_branches, body_of, variables_of, outputs_of}
+use Rattle.plc_gen.specs.Emitted.{place_name, events_from, events_of, moves_of, stands_at, taking, move_branches, body_of, variables_of}
 use Rattle.plc_gen.proofs.FrameLaw.{Marked, Tried, Frames}
 use Rattle.plc_gen.proofs.Places.{place_stands_at, loop_vars}
 use Rattle.plc_gen.proofs.PlantSteps.{at, next_of, first_step-is}

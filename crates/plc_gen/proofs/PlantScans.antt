@@ -4,9 +4,9 @@ use Rattle.std.specs.Prelude.{slice_get, slice_set}
 use Rattle.std.proofs.lemmas.List.{get_or-set_same}
 use Rattle.cif_system.specs.System.{State, AllFit, IsState, initial, con, unc}
 use Rattle.cif_system.specs.Scan.{of_class, with_inputs, exact_scan}
-use Rattle.cif_ast.specs.declared.plant.Class.TheVariants as c
-use Rattle.cif_ast.specs.declared.numbered.NumberedPlant.{NumberedPlant}
-use Rattle.cif_ast.specs.Meaning.{system_of_numbered, IsNumbered}
+use Rattle.cif_plant.specs.declared.plant.Class.TheVariants as c
+use Rattle.cif_plant.specs.declared.numbered.NumberedPlant.{NumberedPlant}
+use Rattle.cif_plant.specs.Meaning.{system_of_numbered, IsNumbered}
 use Rattle.st_ast.specs.Tree.{named, assign, no_stms}
 use Rattle.st_ast.specs.Values.{Memory, of_bool, value_of}
 use Rattle.st_ast.specs.Exec.{Ended, exec}

@@ -5,11 +5,11 @@ use Rattle.std.specs.List.{list_any, enumerate_from}
 use Rattle.cif_system.specs.System.{System, State, Arc, Part, syncing, sending, receiving}
 use Rattle.cif_system.specs.Step.{Choice, same_part, is_for, is_channel_of, makes_step, after}
 use Rattle.cif_system.specs.Choices.{number_if, first_step}
-use Rattle.cif_ast.specs.declared.plant.Class.{Class}
-use Rattle.cif_ast.specs.declared.plant.Class.TheVariants as c
-use Rattle.cif_ast.specs.declared.numbered.Move.{Move}
-use Rattle.cif_ast.specs.declared.numbered.NumberedPlant.{NumberedPlant}
-use Rattle.cif_ast.specs.Meaning.{arc_of, event_of, system_of_numbered}
+use Rattle.cif_plant.specs.declared.plant.Class.{Class}
+use Rattle.cif_plant.specs.declared.plant.Class.TheVariants as c
+use Rattle.cif_plant.specs.declared.numbered.Move.{Move}
+use Rattle.cif_plant.specs.declared.numbered.NumberedPlant.{NumberedPlant}
+use Rattle.cif_plant.specs.Meaning.{arc_of, event_of, system_of_numbered}
 use Rattle.plc_gen.specs.Emitted.{moves_of}
 
 -- the state in which the automaton is in a place

@@ -6,9 +6,9 @@ use Rattle.std.specs.Fmt.{digits}
 use Rattle.st_ast.specs.Exec.{repeated}
 use Rattle.cif_system.specs.System.{initial}
 use Rattle.cif_system.specs.Scan.{exact_scan}
-use Rattle.cif_ast.specs.declared.plant.Class.TheVariants as c
-use Rattle.cif_ast.specs.declared.numbered.NumberedPlant.{NumberedPlant}
-use Rattle.cif_ast.specs.Meaning.{system_of_numbered}
+use Rattle.cif_plant.specs.declared.plant.Class.TheVariants as c
+use Rattle.cif_plant.specs.declared.numbered.NumberedPlant.{NumberedPlant}
+use Rattle.cif_plant.specs.Meaning.{system_of_numbered}
 use Rattle.st_ast.specs.Scan.{scans_of}
 use Rattle.st_ast.specs.Checks.{check_faults}
 use Rattle.st_print.specs.Layout.{printed}

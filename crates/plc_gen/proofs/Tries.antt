@@ -4,9 +4,9 @@ use Rattle.std.specs.Prelude.{if◌then◌else◌}
 use Rattle.std.proofs.lemmas.List.{drop_more, drop_all}
 use Rattle.std.proofs.lemmas.Option.{slice_get-get_or}
 use Rattle.grammar.specs.Pieces.{Text}
-use Rattle.cif_ast.specs.declared.plant.Class.{Class}
-use Rattle.cif_ast.specs.declared.numbered.Move.{Move}
-use Rattle.cif_ast.specs.declared.numbered.NumberedPlant.{NumberedPlant}
+use Rattle.cif_plant.specs.declared.plant.Class.{Class}
+use Rattle.cif_plant.specs.declared.numbered.Move.{Move}
+use Rattle.cif_plant.specs.declared.numbered.NumberedPlant.{NumberedPlant}
 use Rattle.st_ast.specs.Tree.{Stms, append}
 use Rattle.st_ast.specs.View.{view_stmts}
 use Rattle.st_ast.specs.declared.tree.Stmt.{Stmt}

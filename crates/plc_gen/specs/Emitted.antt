@@ -6,10 +6,10 @@ use Rattle.st_ast.specs.declared.tree.StVar.{StVar}
 use Rattle.st_ast.specs.declared.tree.StTy.TheVariants as ty
 use Rattle.st_ast.specs.declared.tree.StLit.TheVariants as lit
 use Rattle.st_ast.specs.declared.tree.StClass.TheVariants as class
-use Rattle.cif_ast.specs.declared.plant.Class.{Class}
-use Rattle.cif_ast.specs.declared.plant.Class.TheVariants as c
-use Rattle.cif_ast.specs.declared.numbered.Move.{Move}
-use Rattle.cif_ast.specs.declared.numbered.NumberedPlant.{NumberedPlant}
+use Rattle.cif_plant.specs.declared.plant.Class.{Class}
+use Rattle.cif_plant.specs.declared.plant.Class.TheVariants as c
+use Rattle.cif_plant.specs.declared.numbered.Move.{Move}
+use Rattle.cif_plant.specs.declared.numbered.NumberedPlant.{NumberedPlant}
 use Rattle.plc_gen.specs.Frame.{fired, rounds_made, frame}
 
 -- A variable's name: a letter, the number of what it stands for, `_` and the path. A path of letters alone, at most 40 of

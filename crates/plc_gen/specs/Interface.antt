@@ -9,8 +9,8 @@ use Rattle.st_ast.specs.declared.tree.StVar.{StVar}
 use Rattle.st_ast.specs.declared.tree.StTy.TheVariants as ty
 use Rattle.st_ast.specs.declared.tree.StClass.TheVariants as class
 use Rattle.cif_system.specs.System.{State, IsState}
-use Rattle.cif_ast.specs.declared.numbered.NumberedPlant.{NumberedPlant}
-use Rattle.cif_ast.specs.Meaning.{system_of_numbered}
+use Rattle.cif_plant.specs.declared.numbered.NumberedPlant.{NumberedPlant}
+use Rattle.cif_plant.specs.Meaning.{system_of_numbered}
 use Rattle.plc_gen.specs.Emitted.{place_name, place_output}
 
 -- no inputs, and the place of the automaton as the one output

@@ -9,8 +9,8 @@ use Rattle.st_ast.specs.declared.tree.StVar.{StVar}
 use Rattle.st_ast.specs.declared.tree.StTy.{StTy}
 use Rattle.st_ast.specs.declared.tree.StTy.TheVariants as ty
 use Rattle.cif_system.specs.System.{System, State, AllFit, Pairwise, initial, outputs}
-use Rattle.cif_ast.specs.declared.numbered.NumberedPlant.{NumberedPlant}
-use Rattle.cif_ast.specs.Meaning.{system_of_numbered}
+use Rattle.cif_plant.specs.declared.numbered.NumberedPlant.{NumberedPlant}
+use Rattle.cif_plant.specs.Meaning.{system_of_numbered}
 use Rattle.plc_gen.specs.Emitted.{output_name}
 use Rattle.plc_gen.specs.Interface.{StateOf}
 

@@ -1,11 +1,11 @@
 //! The edges of an automaton, put together by their events.
 
 ghost use Rattle.std.specs.Prelude.{◌≡◌, [], replicate, IfOk};
-ghost use Rattle.cif_ast.specs.Meaning.{IsNumbered};
+ghost use Rattle.cif_plant.specs.Meaning.{IsNumbered};
 ghost use Rattle.plc_gen.specs.Buckets.{AreBuckets};
 
-use cif_ast::{Move, NumberedPlant};
 use cif_base::{Items, Memory};
+use cif_plant::{Move, NumberedPlant};
 use std::alloc::Global;
 
 /// Lists without an edge, as many as that.

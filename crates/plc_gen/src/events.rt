@@ -5,8 +5,8 @@ ghost use Rattle.st_ast.specs.View.{view_expr, view_stmts, view_branch, view_bra
 ghost use Rattle.plc_gen.specs.Emitted.{stands_at, taking, move_branches, event_of};
 
 use crate::frame::marking;
-use cif_ast::Move;
 use cif_base::{Boxed, Items, Memory, Text};
+use cif_plant::Move;
 use st_ast::{StBranch, StExpr, Stmt};
 use std::alloc::Global;
 

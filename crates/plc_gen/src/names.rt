@@ -4,8 +4,8 @@ ghost use Rattle.std.specs.Prelude.{◌≡◌, IfOk};
 ghost use Rattle.plc_gen.specs.Frame.{fired, rounds_made};
 ghost use Rattle.plc_gen.specs.Emitted.{place_name, output_name};
 
-use cif_ast::NumberedPlant;
 use cif_base::{Memory, Text};
+use cif_plant::NumberedPlant;
 use std::alloc::Global;
 
 /// The variable that holds the location of the automaton.

@@ -1,15 +1,15 @@
 //! The program of a plant automaton.
 
 ghost use Rattle.std.specs.Prelude.{◌≡◌, IfOk};
-ghost use Rattle.cif_ast.specs.Meaning.{IsNumbered};
+ghost use Rattle.cif_plant.specs.Meaning.{IsNumbered};
 ghost use Rattle.st_ast.specs.View.{view};
 ghost use Rattle.plc_gen.specs.Emitted.{program_of};
 
 use crate::edges::edges_by_event;
 use crate::scan::statements;
 use crate::variables::variables;
-use cif_ast::NumberedPlant;
 use cif_base::{Memory, Text};
+use cif_plant::NumberedPlant;
 use st_ast::Program;
 use std::alloc::Global;
 

@@ -1,7 +1,7 @@
 //! The statements of a scan.
 
 ghost use Rattle.std.specs.Prelude.{◌≡◌, ◌<◌, length, IfOk};
-ghost use Rattle.cif_ast.specs.declared.plant.Class.TheVariants as class;
+ghost use Rattle.cif_plant.specs.declared.plant.Class.TheVariants as class;
 ghost use Rattle.st_ast.specs.Tree.{no_stms};
 ghost use Rattle.st_ast.specs.View.{view_stmts};
 ghost use Rattle.plc_gen.specs.Frame.{tries_of, loop_of, frame};
@@ -12,8 +12,8 @@ use crate::Bounds;
 use crate::events::trying;
 use crate::frame::rounds;
 use crate::names::{name_of_output, name_of_place};
-use cif_ast::{Class, Move, NumberedPlant};
 use cif_base::{Items, Memory};
+use cif_plant::{Class, Move, NumberedPlant};
 use st_ast::{StExpr, Stmt};
 use std::alloc::Global;
 

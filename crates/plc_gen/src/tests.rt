@@ -1,11 +1,11 @@
 //! The shape of emitted programs.
 
 ghost use Rattle.std.specs.Prelude.{IsTrue};
-ghost use Rattle.cif_ast.specs.Meaning.{IsNumbered};
+ghost use Rattle.cif_plant.specs.Meaning.{IsNumbered};
 
 use super::*;
-use cif_ast::{Class, Move, NumberedPlant};
 use cif_base::{Items, Text};
+use cif_plant::{Class, Move, NumberedPlant};
 use st_ast::{Program, StBranch, StClass, StExpr, StLit, StTy, Stmt};
 use std::alloc::Global;
 use std::process::Abort;

@@ -6,8 +6,8 @@ ghost use Rattle.st_ast.specs.declared.tree.StLit.TheVariants as lit;
 ghost use Rattle.plc_gen.specs.Emitted.{variables_of};
 
 use crate::names::{name_of_counter, name_of_mark, name_of_output, name_of_place};
-use cif_ast::NumberedPlant;
 use cif_base::{Items, Memory, Text};
+use cif_plant::NumberedPlant;
 use st_ast::{StClass, StLit, StTy, StVar};
 use std::alloc::Global;
 

@@ -1,6 +1,6 @@
 use Rattle.std.proofs.Common.{◌≡◌, ◌++◌, drop}
 use Rattle.std.specs.Prelude.{map}
-use Rattle.cif_ast.specs.Numbers.{move_of}
+use Rattle.cif_plant.specs.Numbers.{move_of}
 use Rattle.cif_form.proofs.numbering.add_moves.Given as goal
 
 abbrev pub invariant-loop-edge : goal.invariant-loop-edge

@@ -1,7 +1,7 @@
 use Rattle.std.proofs.Common.{subst, List}
 use Rattle.cif_system.specs.Words.{Member}
-use Rattle.cif_ast.specs.declared.plant.Edge.{Edge}
-use Rattle.cif_ast.specs.declared.plant.Location.{Location}
+use Rattle.cif_plant.specs.declared.plant.Edge.{Edge}
+use Rattle.cif_plant.specs.declared.plant.Location.{Location}
 use Rattle.cif_form.proofs.Keeping.{edge_in}
 use Rattle.cif_form.proofs.Moving.{member_at}
 use Rattle.cif_form.proofs.numbering.moves_of.Goals as goal

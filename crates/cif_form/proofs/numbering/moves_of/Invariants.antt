@@ -1,5 +1,5 @@
 use Rattle.std.proofs.Common.{◌≡◌, ◌++◌, drop}
-use Rattle.cif_ast.specs.Numbers.{moves_from}
+use Rattle.cif_plant.specs.Numbers.{moves_from}
 use Rattle.cif_form.proofs.numbering.moves_of.Given as goal
 
 abbrev pub invariant-loop-from : goal.invariant-loop-from

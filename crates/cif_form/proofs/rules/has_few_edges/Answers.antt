@@ -1,5 +1,5 @@
 use Rattle.std.proofs.Common.{◌≡◌, ◌-◌, ◌<◌, ◌≤◌, ◌∙◌, sym, arith, length}
-use Rattle.cif_ast.specs.Plant.{most_objects}
+use Rattle.cif_plant.specs.Plant.{most_objects}
 use Rattle.cif_form.proofs.Counting.{few_more, few_full, few_end}
 use Rattle.cif_form.proofs.rules.has_few_edges.Goals as goal
 

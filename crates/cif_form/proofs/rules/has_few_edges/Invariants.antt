@@ -1,5 +1,5 @@
 use Rattle.std.proofs.Common.{◌≡◌, ◌≤◌, drop}
-use Rattle.cif_ast.specs.Plant.{most_objects}
+use Rattle.cif_plant.specs.Plant.{most_objects}
 use Rattle.cif_form.specs.Checking.{few_from}
 use Rattle.cif_form.proofs.rules.has_few_edges.Given as goal
 

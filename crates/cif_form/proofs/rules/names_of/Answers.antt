@@ -1,8 +1,8 @@
 use Rattle.std.proofs.Common.{◌≡◌, ◌∙◌, sym, ap, subst, List, ℕ, Option, Some, []}
 use Rattle.std.specs.Prelude.{map, IfOk}
-use Rattle.cif_ast.specs.declared.plant.Event.{Event}
-use Rattle.cif_ast.specs.declared.plant.Location.{Location}
-use Rattle.cif_ast.specs.Plant.{event_names, location_names}
+use Rattle.cif_plant.specs.declared.plant.Event.{Event}
+use Rattle.cif_plant.specs.declared.plant.Location.{Location}
+use Rattle.cif_plant.specs.Plant.{event_names, location_names}
 use Rattle.cif_form.specs.Checking.{added, event_name, location_name, names_of}
 use Rattle.cif_form.proofs.Naming.{all_added}
 use Rattle.cif_form.proofs.rules.names_of.Goals as goal

@@ -1,6 +1,6 @@
-use Rattle.std.proofs.Common.{◌≡◌, ◌+◌, length, drop}
+use Rattle.std.proofs.Common.{◌≡◌, drop}
 use Rattle.std.specs.List.{list_all}
-use Rattle.cif_parse.specs.Trees.{alphabets_of, monitors_of, is_named}
+use Rattle.cif_parse.specs.Trees.{is_named}
 use Rattle.cif_parse.proofs.automata.are_named.Given as goal
 
 abbrev pub invariant-loop-loc : goal.invariant-loop-loc

@@ -1,5 +1,4 @@
 use Rattle.std.proofs.Common.{rules}
-use Rattle.cif_parse.specs.Grammar.{NotReadDue}
 use Rattle.cif_parse.proofs.Whole.{same_tree, none_read, not_read_none, too_deep_none}
 use Rattle.cif_parse.proofs.parsing.parse.Goals as goal
 

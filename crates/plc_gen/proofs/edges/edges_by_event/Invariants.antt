@@ -1,6 +1,6 @@
 use Rattle.std.proofs.Common.{◌≡◌, ℕ, ◌<◌, [], ◌++◌, length, get_or, drop, nat_eq}
 use Rattle.std.specs.List.{filter}
-use Rattle.cif_ast.specs.declared.numbered.Move.{Move}
+use Rattle.cif_plant.specs.declared.numbered.Move.{Move}
 use Rattle.plc_gen.specs.Emitted.{moves_of}
 use Rattle.plc_gen.proofs.edges.edges_by_event.Given as goal
 

@@ -1,7 +1,7 @@
 use Rattle.std.proofs.Common.{◌⊎◌, ℕ, ◌+◌, ◌<◌, ◌≤◌, List, length, get_or, drop, sym, subst, inl, inr, arith}
 use Rattle.std.proofs.lemmas.List.{drop_more, drop_all}
 use Rattle.cif_system.specs.Words.{Member}
-use Rattle.cif_ast.specs.declared.numbered.Move.{Move}
+use Rattle.cif_plant.specs.declared.numbered.Move.{Move}
 use Rattle.plc_gen.proofs.tests.is_numbered.Goals as goal
 
 -- a fact of the next edge, which is no longer among those that are to be seen

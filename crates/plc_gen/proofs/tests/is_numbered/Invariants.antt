@@ -1,6 +1,6 @@
 use Rattle.std.proofs.Common.{◌≡◌, ◌⊎◌, ◌<◌, length, drop}
 use Rattle.cif_system.specs.Words.{Member}
-use Rattle.cif_ast.specs.declared.numbered.Move.{Move}
+use Rattle.cif_plant.specs.declared.numbered.Move.{Move}
 use Rattle.plc_gen.proofs.tests.is_numbered.Given as goal
 
 -- each edge is still to be seen, or its numbers name something

@@ -1,7 +1,7 @@
 use Rattle.std.proofs.Common.{◌≡◌, ◌∙◌, ap, [], ◌∷◌, ◌++◌, not, if◌then◌else◌, ℕ, List}
 use Rattle.std.specs.Prelude.{map}
 use Rattle.std.specs.List.{list_any}
-use Rattle.cif_ast.specs.Tokens.{same}
+use Rattle.grammar.specs.Pieces.{same}
 use Rattle.cif_form.proofs.Keys.{any_is, keys_after}
 use Rattle.cif_form.proofs.names.Names.add.Goals as goal
 

@@ -1,0 +1,4 @@
+pub mod Plant
+pub mod Numbers
+pub mod Meaning
+pub mod Named

@@ -1,4 +1,0 @@
-pub mod Countable
-pub mod Depth
-pub mod Tree
-pub mod View
