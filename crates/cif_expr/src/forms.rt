@@ -4,6 +4,7 @@ ghost use Rattle.std.specs.Prelude.{◌≡◌, ◌∷◌, IfOk};
 ghost use Rattle.cif_ast.specs.declared.expressions.Form.TheVariants as f;
 ghost use Rattle.cif_expr.specs.Trees as tree;
 
+use crate::parts::fitted;
 use crate::tokens::code;
 use cif_ast::{Branch, CmpOp, Expr, Factor, Form, MulOp, Term};
 use cif_base::{Boxed, Items, Memory};
@@ -62,6 +63,7 @@ pub fn product(alloc: Global, first: Expr, rest: Items<Factor>) -> Result<Expr, 
 {
     let at = place(&first);
     let first = Boxed::new(alloc, first)?;
+    let rest = fitted(rest);
     let form = Form::Product { first, rest };
     Ok(Expr { form, at })
 }
@@ -71,6 +73,7 @@ pub fn sum(alloc: Global, first: Expr, rest: Items<Term>) -> Result<Expr, Memory
 {
     let at = place(&first);
     let first = Boxed::new(alloc, first)?;
+    let rest = fitted(rest);
     let form = Form::Sum { first, rest };
     Ok(Expr { form, at })
 }
@@ -92,7 +95,7 @@ fn joined(alloc: Global, first: Expr, rest: Items<Expr>) -> Result<Items<Expr>, 
     let mut all = Items::new(alloc);
     all.push(first)?;
     all.append(rest)?;
-    Ok(all)
+    Ok(fitted(all))
 }
 
 pub fn conjunction(alloc: Global, first: Expr, rest: Items<Expr>) -> Result<Expr, Memory>

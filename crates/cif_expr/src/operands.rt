@@ -16,6 +16,7 @@ use crate::error::ReadError;
 use crate::forms::{absolute, choice, greatest, least, negation, negative, paren, positive};
 use crate::levels::{Grammar, level};
 use crate::naming::name;
+use crate::parts::only;
 use crate::spelling::value;
 use crate::tokens::{Read, kind, sign, starts, word};
 use cif_ast::{Branch, Expr, Form};
@@ -127,8 +128,7 @@ impl<
         ensures { Gives (λ x. (x.0, x.1.now)) result (reading.exprs_at (reading.whole_at self.now.text.now self.now.fuel) tokens.now) }
     {
         let ((first, depth), rest) = self.inner_expr(tokens)?;
-        let mut found = Items::new(self.alloc);
-        found.push(first)?;
+        let found = only(self.alloc, first)?;
         self.exprs_more(rest, found, depth)
     }
 
@@ -184,8 +184,7 @@ impl<
         ensures { Gives (λ x. (x.0, x.1.now)) result (reading.branches_at (reading.whole_at self.now.text.now self.now.fuel) tokens.now) }
     {
         let ((first, depth), rest) = self.branch(tokens)?;
-        let mut found = Items::new(self.alloc);
-        found.push(first)?;
+        let found = only(self.alloc, first)?;
         self.others(rest, found, depth)
     }
 

@@ -1,6 +1,6 @@
 //! Parts of a source that are read one after the other.
 
-ghost use Rattle.std.specs.Prelude.{◌≡◌, [], IfOk};
+ghost use Rattle.std.specs.Prelude.{◌≡◌, [], ◌∷◌, IfOk};
 ghost use Rattle.grammar.specs.Lang.{flat};
 ghost use Rattle.grammar.specs.Reader as reader;
 ghost use Rattle.grammar.specs.Loops.{after, flat_after};
@@ -28,6 +28,24 @@ pub trait Part {
     /// The part at the front.
     fn read<'a>(&self, alloc: Global, text: &[u8], tokens: &'a [Token]) -> Read<'a, Self::Tree>
         ensures { Gives (λ x. (x.0, x.1.now)) result (tree_at self.now text.now tokens.now) };
+}
+
+/// A list of one item, in the memory of that item alone: most lists of a source have no more.
+pub fn only<T: Drop>(alloc: Global, item: T) -> Result<Items<T>, Memory>
+    ensures { IfOk result (λ all. all ≡ item ∷ []) }
+{
+    let mut all = Items::from_vec(Vec::with_capacity(alloc, 1)?);
+    all.push(item)?;
+    Ok(all)
+}
+
+/// A list without memory for more items than it has.
+pub fn fitted<T>(list: Items<T>) -> Items<T>
+    ensures { result ≡ list }
+{
+    let mut all = list.into_vec();
+    all.shrink_to_fit();
+    Items::from_vec(all)
 }
 
 /// A sign and a part.
@@ -81,9 +99,9 @@ pub fn separated<'a, P: Part>(
     ensures { Gives (λ x. (x.0, x.1.now)) result (reading.separated_at mark (P.tree_at part.now text.now) tokens.now) }
 {
     let (first, rest) = part.read(alloc, text, tokens)?;
-    let mut found = Items::new(alloc);
-    found.push(first)?;
-    more(part, alloc, text, mark, rest, found)
+    let found = only(alloc, first)?;
+    let (found, rest) = more(part, alloc, text, mark, rest, found)?;
+    Ok((fitted(found), rest))
 }
 
 /// A part where the next token is one of those that begin it.

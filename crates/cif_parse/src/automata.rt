@@ -12,7 +12,7 @@ use crate::places::told_in_automaton;
 use cif_ast::{AutoBody, Body, Decl, Loc, Name};
 use cif_base::{Items, Memory};
 use cif_decl::{component_kind, declaration, disc_declaration, given};
-use cif_expr::{NamesPart, Part, Read, ReadError, optional, repeated, sign, starts, word};
+use cif_expr::{NamesPart, Part, Read, ReadError, fitted, optional, repeated, sign, starts, word};
 use cif_lex::{Mark, Token, TokenKind, Word};
 use std::alloc::Global;
 
@@ -167,10 +167,10 @@ fn gathered(alloc: Global, pieces: Items<Piece>, locs: Items<Loc>) -> Result<Aut
         }
     }
     Ok(AutoBody {
-        decls,
+        decls: fitted(decls),
         alphabet,
         monitor,
-        locs,
+        locs: fitted(locs),
     })
 }
 

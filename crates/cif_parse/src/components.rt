@@ -1,7 +1,7 @@
 //! Components, definitions and instances. The reader of an item one level down is a parameter, so that each rule is proved by
 //! itself.
 
-ghost use Rattle.std.specs.Prelude.{◌≡◌, IfOk, map, [], ◌∷◌};
+ghost use Rattle.std.specs.Prelude.{◌≡◌, IfOk, map};
 ghost use Rattle.grammar.specs.Reader as reader;
 ghost use Rattle.cif_ast.specs.declared.components.Item.TheVariants as item;
 ghost use Rattle.cif_expr.specs.Gives.{Gives};
@@ -15,7 +15,9 @@ use crate::places::told_at_item;
 use cif_ast::{Body, Comp, Decl, Def, Expr, Inst, Item};
 use cif_base::{Items, Memory};
 use cif_decl::{given, is_component, kind_invariants, parameters, plain_declaration};
-use cif_expr::{ExprListPart, Part, Read, ReadError, ident, name, optional, sign, starts, word};
+use cif_expr::{
+    ExprListPart, Part, Read, ReadError, ident, name, only, optional, sign, starts, word,
+};
 use cif_lex::{Mark, Token, TokenKind, Word};
 use std::alloc::Global;
 
@@ -30,15 +32,6 @@ pub fn declared(alloc: Global, decls: Items<Decl>) -> Result<Items<Item>, Memory
     for decl in decls.into_vec() {
         all.push(Item::Decl(decl))?;
     }
-    Ok(all)
-}
-
-/// One item as a list.
-pub fn single(alloc: Global, found: Item) -> Result<Items<Item>, Memory>
-    ensures { IfOk result (λ all. all ≡ found ∷ []) }
-{
-    let mut all = Items::new(alloc);
-    all.push(found)?;
     Ok(all)
 }
 
@@ -315,7 +308,7 @@ fn item<'a>(
     }
     if starts(tokens, &[TokenKind::Id]) {
         let (found, rest) = instance(alloc, text, tokens)?;
-        return Ok((single(alloc, found)?, rest));
+        return Ok((only(alloc, found)?, rest));
     }
     if !is_component(tokens) {
         let (decls, rest) = invariants(alloc, text, tokens)?;
@@ -331,7 +324,7 @@ fn item<'a>(
         item,
     };
     let (found, rest) = inside.nested(tokens)?;
-    Ok((single(alloc, found)?, rest))
+    Ok((only(alloc, found)?, rest))
 }
 
 /// The items of a specification.

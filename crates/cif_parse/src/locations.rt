@@ -11,7 +11,8 @@ use cif_ast::{Edge, Expr, Ident, Loc, LocEquation};
 use cif_base::{Items, Memory};
 use cif_decl::given;
 use cif_expr::{
-    ExprListPart, IdentPart, Part, Read, expr, ident, optional, repeated, sign, starts, word,
+    ExprListPart, IdentPart, Part, Read, expr, fitted, ident, optional, repeated, sign, starts,
+    word,
 };
 use cif_lex::{Mark, Token, TokenKind, Word};
 use std::alloc::Global;
@@ -147,7 +148,7 @@ fn assembled(alloc: Global, elements: Items<Element>) -> Result<Loc, Memory>
         initial: is_initial,
         marked,
         equations,
-        edges,
+        edges: fitted(edges),
     })
 }
 

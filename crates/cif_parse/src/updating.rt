@@ -14,7 +14,7 @@ ghost use Rattle.cif_parse.specs.ReadsUpdate.{ReadsUpdate};
 
 use cif_ast::{Update, UpdateBranch};
 use cif_base::Items;
-use cif_expr::{Read, ReadError, expr, expr_list, name, sign, starts, word};
+use cif_expr::{Read, ReadError, expr, expr_list, name, only, sign, starts, word};
 use cif_lex::{Mark, Token, TokenKind, Word};
 use std::alloc::Global;
 
@@ -90,8 +90,7 @@ impl<
         ensures { Gives (λ x. (x.0, x.1.now)) result (reading.updates_at self.now.text.now self.now.depth tokens.now) }
     {
         let (first, rest) = self.one(tokens)?;
-        let mut found = Items::new(self.alloc);
-        found.push(first)?;
+        let found = only(self.alloc, first)?;
         self.more(rest, found)
     }
 
@@ -146,8 +145,7 @@ impl<
         ensures { Gives (λ x. (x.0, x.1.now)) result (reading.update_branches_at self.now.text.now (reading.updates_at self.now.text.now self.now.depth) tokens.now) }
     {
         let (first, rest) = self.branch(tokens)?;
-        let mut found = Items::new(self.alloc);
-        found.push(first)?;
+        let found = only(self.alloc, first)?;
         self.other_branches(rest, found)
     }
 
