@@ -3,3 +3,8 @@ pub mod Whole
 pub mod Sorting
 pub mod Depths
 pub mod Failing
+pub mod Counted
+pub mod CountedExpressions
+pub mod CountedDeclarations
+pub mod CountedAutomata
+pub mod CountedSources

@@ -19,8 +19,8 @@ use Rattle.cif_ast.specs.declared.edges.LocEquation.{LocEquation}
 use Rattle.cif_ast.specs.declared.components.AutoBody.{AutoBody}
 use Rattle.cif_ast.specs.declared.components.Body.{Body}
 use Rattle.cif_ast.specs.declared.components.Body.TheVariants as body
-use Rattle.cif_ast.specs.declared.components.Comp.{Comp, roll-Comp}
-use Rattle.cif_ast.specs.declared.components.Def.{Def, roll-Def}
+use Rattle.cif_ast.specs.declared.components.Comp.{roll-Comp}
+use Rattle.cif_ast.specs.declared.components.Def.{roll-Def}
 use Rattle.cif_ast.specs.declared.components.Item.{Item}
 use Rattle.cif_ast.specs.declared.components.Item.TheVariants as item
 use Rattle.cif_ast.specs.declared.components.Spec.{Spec}

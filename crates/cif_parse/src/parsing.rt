@@ -1,7 +1,8 @@
 //! A list of tokens as one specification.
 
-ghost use Rattle.std.specs.Prelude.{◌≡◌, ◌≤◌, length, IfOk, IfErr, MatchResult};
+ghost use Rattle.std.specs.Prelude.{◌≡◌, ◌+◌, ◌<◌, ◌≤◌, ◌^◌, length, IfOk, IfErr, MatchResult};
 ghost use Rattle.cif_lex.specs.Tokens.{Tokens};
+ghost use Rattle.cif_ast.specs.Countable.{IsCountable};
 ghost use Rattle.cif_ast.specs.declared.components.Spec.{Spec};
 ghost use Rattle.cif_expr.specs.Gives.{Gives};
 ghost use Rattle.cif_parse.specs.Grammar.{Reads, ParseRefusalDue};
@@ -45,6 +46,7 @@ fn place(text: &[u8], tokens: &[Token], left: usize) -> u32
 pub fn parse(alloc: Global, text: &[u8], tokens: &[Token]) -> Result<Spec, ParseErr>
     requires { Tokens text.now tokens.now }
     ensures tree { IfOk result (Reads text.now) }
+    ensures countable { length text.now + 1 < 2 ^ 31 → IfOk result IsCountable }
     ensures refused { IfErr result (ParseRefusalDue text.now) }
     // A text that has a tree is refused for want of memory alone.
     ensures complete { (spec : Spec) → Reads text.now spec

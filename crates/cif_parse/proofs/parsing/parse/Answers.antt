@@ -1,6 +1,11 @@
 use Rattle.std.proofs.Common.{rules}
 use Rattle.cif_parse.proofs.Whole.{same_tree, none_read, not_read_none, too_deep_none}
+use Rattle.cif_parse.proofs.CountedSources.{read_countable}
 use Rattle.cif_parse.proofs.parsing.parse.Goals as goal
+
+pub returns-in-Ok-clause-countable : goal.returns-in-Ok-clause-countable
+returns-in-Ok-clause-countable c short =
+    read_countable c.args.text.now c.args.tokens.now c.in-Ok.spec c.requires c.in-Ok.ensures short
 
 pub returns-in-Ok-clause-complete : goal.returns-in-Ok-clause-complete
 returns-in-Ok-clause-complete c spec r =
