@@ -612,7 +612,8 @@ fn depth_is_at_most_100(rt: HostRuntime) -> Result<(), Fail> {
     let inside: &[u8] = b"event e; x: D(); requirement e;";
     let plant: &[u8] = b"plant a: location; end ";
     let pattern: &[u8] = b"plant def D(): location; end ";
-    let rows: [([&[u8]; 5], usize, u32); 12] = [
+    let second: &[u8] = b"plant a: location: edge e do y := 1, ";
+    let rows: [([&[u8]; 5], usize, u32); 13] = [
         ([b"alg bool b = ", b"(", b"true", b")", b";"], 100, 13),
         ([b"alg int i = ", b"-", b"1", b"", b";"], 100, 12),
         ([b"equation x = ", b"not ", b"b", b"", b";"], 100, 13),
@@ -622,6 +623,7 @@ fn depth_is_at_most_100(rt: HostRuntime) -> Result<(), Fail> {
         ([b"", b"group g: ", pattern, b"end ", b""], 100, 909),
         ([b"", b"group def D(): ", b"", b"end ", b""], 101, 1515),
         ([edge, b"if b: ", b"x := 1 ", b"end ", b"; end"], 100, 29),
+        ([second, b"if b: ", b"x := 1 ", b"end ", b"; end"], 100, 37),
         (
             [edge, b"if b: x := 1 else ", b"x := 2 ", b"end ", b"; end"],
             100,

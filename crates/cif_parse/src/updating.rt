@@ -1,4 +1,4 @@
-//! Choices. The reader of an update one level down is a parameter, so that each rule is proved by itself.
+//! Updates. The reader of an update one level down is a parameter, so that each rule is proved by itself.
 
 ghost use Rattle.std.specs.Prelude.{◌≡◌};
 ghost use Rattle.cif_lex.specs.declared.token.Mark.TheVariants as m;
@@ -65,7 +65,7 @@ impl<
         self.one(rest)
     }
 
-    /// Choices, each after a comma, behind those that are found.
+    /// Updates, each after a comma, behind those that are found.
     #[tactic(auto, using(grammar::proofs::Loops::after_step, grammar::proofs::Loops::after_stop, grammar::proofs::Loops::after_fail, grammar::proofs::Loops::after_end))]
     fn more<'a>(&self, tokens: &'a [Token], mut found: Items<Update>) -> Read<'a, Items<Update>>
         requires { ReadsUpdate self.now.text self.now.depth (F.pre self.now.update) (F.post self.now.update) }
@@ -83,7 +83,7 @@ impl<
         Ok((found, rest))
     }
 
-    /// Choices with commas between them.
+    /// Updates with commas between them.
     #[tactic(auto, using(grammar::proofs::Loops::list_after), unfolding(crate::specs::Reading::updates_at, cif_expr::specs::Reading::separated_at))]
     fn all<'a>(&self, tokens: &'a [Token]) -> Read<'a, Items<Update>>
         requires { ReadsUpdate self.now.text self.now.depth (F.pre self.now.update) (F.post self.now.update) }
@@ -210,7 +210,23 @@ fn update<'a>(
     .choice(tokens)
 }
 
-/// Choices with commas between them, each of depth at most 100. Where one is deeper, the first token of all is told.
+/// An update of an edge, in which `if` updates may nest so often. Where they nest more often, its first token is told.
+fn outermost<'a>(
+    alloc: Global,
+    text: &[u8],
+    tokens: &'a [Token],
+    depth: u8,
+) -> Result<(Update, &'a [Token]), ReadError>
+    ensures { Gives (λ x. (x.0, x.1.now)) result (reading.one_update_at text.now depth tokens.now) }
+{
+    match update(alloc, text, tokens, depth) {
+        Ok(found) => Ok(found),
+        Err(ReadError::TooDeep) => Err(ReadError::NotRead(tokens.len())),
+        Err(error) => Err(error),
+    }
+}
+
+/// Updates with commas between them, each of depth at most 100.
 pub fn updates<'a>(alloc: Global, text: &[u8], tokens: &'a [Token]) -> Read<'a, Items<Update>>
     ensures { Gives (λ x. (x.0, x.1.now)) result (reading.updates_at text.now 100 tokens.now) }
 {
@@ -218,11 +234,7 @@ pub fn updates<'a>(alloc: Global, text: &[u8], tokens: &'a [Token]) -> Read<'a, 
         alloc,
         text,
         depth: MAX_DEPTH,
-        update,
+        update: outermost,
     };
-    match all.all(tokens) {
-        Ok(found) => Ok(found),
-        Err(ReadError::TooDeep) => Err(ReadError::NotRead(tokens.len())),
-        Err(error) => Err(error),
-    }
+    all.all(tokens)
 }
