@@ -11,13 +11,12 @@ ghost use Rattle.cif_parse.specs.Reading as reading;
 ghost use Rattle.cif_parse.specs.ReadsItem.{ReadsItem};
 
 use crate::automata::{AutomatonEndPart, automaton_words};
+use crate::expressions::perhaps;
 use crate::places::told_at_item;
 use cif_ast::{Body, Comp, Decl, Def, Expr, Inst, Item};
 use cif_base::{Items, Memory};
 use cif_decl::{given, is_component, kind_invariants, parameters, plain_declaration};
-use cif_expr::{
-    ExprListPart, Part, Read, ReadError, ident, name, only, optional, sign, starts, word,
-};
+use cif_expr::{ExprListPart, Part, Read, ReadError, ident, name, only, sign, starts, word};
 use cif_lex::{Mark, Token, TokenKind, Word};
 use std::alloc::Global;
 
@@ -40,28 +39,7 @@ pub fn declared(alloc: Global, decls: Items<Decl>) -> Result<Items<Item>, Memory
 fn arguments<'a>(alloc: Global, text: &[u8], tokens: &'a [Token]) -> Read<'a, Items<Expr>>
     ensures { Gives (λ x. (x.0, x.1.now)) result (reading.arguments_at text.now tokens.now) }
 {
-    let (found, rest) = optional(
-        &ExprListPart,
-        alloc,
-        text,
-        &[
-            TokenKind::Sign(Mark::Minus),
-            TokenKind::Sign(Mark::Plus),
-            TokenKind::Reserved(Word::Not),
-            TokenKind::Reserved(Word::True),
-            TokenKind::Reserved(Word::False),
-            TokenKind::Number,
-            TokenKind::Sign(Mark::Dot),
-            TokenKind::Id,
-            TokenKind::Sign(Mark::Question),
-            TokenKind::Sign(Mark::OpenParen),
-            TokenKind::Reserved(Word::Abs),
-            TokenKind::Reserved(Word::Min),
-            TokenKind::Reserved(Word::Max),
-            TokenKind::Reserved(Word::If),
-        ],
-        tokens,
-    )?;
+    let (found, rest) = perhaps(&ExprListPart, alloc, text, tokens)?;
     let (_close, rest) = sign(rest, Mark::CloseParen)?;
     let (_end, rest) = sign(rest, Mark::Semicolon)?;
     Ok((given(alloc, found), rest))

@@ -5,6 +5,7 @@ ghost use Rattle.cif_expr.specs.Gives.{Gives};
 ghost use Rattle.cif_parse.specs.Reading as reading;
 ghost use Rattle.cif_parse.specs.Trees as tree;
 
+use crate::expressions::perhaps;
 use crate::updating::updates;
 use cif_ast::{Edge, EventUse, Expr, Ident, Role, Update};
 use cif_base::Items;
@@ -21,28 +22,7 @@ fn send<'a>(alloc: Global, text: &[u8], tokens: &'a [Token]) -> Read<'a, Role>
     ensures { Gives (λ x. (x.0, x.1.now)) result (reading.send_at text.now tokens.now) }
 {
     let (_sends, rest) = sign(tokens, Mark::Exclamation)?;
-    let (value, rest) = optional(
-        &ExprPart,
-        alloc,
-        text,
-        &[
-            TokenKind::Sign(Mark::Minus),
-            TokenKind::Sign(Mark::Plus),
-            TokenKind::Reserved(Word::Not),
-            TokenKind::Reserved(Word::True),
-            TokenKind::Reserved(Word::False),
-            TokenKind::Number,
-            TokenKind::Sign(Mark::Dot),
-            TokenKind::Id,
-            TokenKind::Sign(Mark::Question),
-            TokenKind::Sign(Mark::OpenParen),
-            TokenKind::Reserved(Word::Abs),
-            TokenKind::Reserved(Word::Min),
-            TokenKind::Reserved(Word::Max),
-            TokenKind::Reserved(Word::If),
-        ],
-        rest,
-    )?;
+    let (value, rest) = perhaps(&ExprPart, alloc, text, rest)?;
     Ok((Role::Send(value), rest))
 }
 

@@ -7,6 +7,7 @@ mod components;
 mod edges;
 mod elements;
 mod error;
+mod expressions;
 mod laws;
 mod locations;
 mod parsing;

@@ -7,6 +7,7 @@ ghost use Rattle.cif_parse.specs.Trees as tree;
 
 use crate::edges::edge;
 use crate::elements::Element;
+use crate::expressions::perhaps;
 use cif_ast::{Edge, Expr, Ident, Loc, LocEquation};
 use cif_base::{Items, Memory};
 use cif_decl::given;
@@ -38,28 +39,7 @@ fn marked<'a>(alloc: Global, text: &[u8], tokens: &'a [Token]) -> Read<'a, Eleme
     ensures { Gives (λ x. (x.0, x.1.now)) result (reading.marked_at text.now tokens.now) }
 {
     let (_marked, rest) = word(tokens, Word::Marked)?;
-    let (predicates, rest) = optional(
-        &ExprListPart,
-        alloc,
-        text,
-        &[
-            TokenKind::Sign(Mark::Minus),
-            TokenKind::Sign(Mark::Plus),
-            TokenKind::Reserved(Word::Not),
-            TokenKind::Reserved(Word::True),
-            TokenKind::Reserved(Word::False),
-            TokenKind::Number,
-            TokenKind::Sign(Mark::Dot),
-            TokenKind::Id,
-            TokenKind::Sign(Mark::Question),
-            TokenKind::Sign(Mark::OpenParen),
-            TokenKind::Reserved(Word::Abs),
-            TokenKind::Reserved(Word::Min),
-            TokenKind::Reserved(Word::Max),
-            TokenKind::Reserved(Word::If),
-        ],
-        rest,
-    )?;
+    let (predicates, rest) = perhaps(&ExprListPart, alloc, text, rest)?;
     let (_end, rest) = sign(rest, Mark::Semicolon)?;
     Ok((Element::Marked(given(alloc, predicates)), rest))
 }
