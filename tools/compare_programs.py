@@ -32,6 +32,8 @@ class Endless(Exception):
 
 
 class Maker:
+    """Makes random programs, whose operands have the kinds that are wanted but for some that are wrong on purpose."""
+
     def __init__(self, choose):
         self.choose = choose
         self.variables = []
@@ -231,6 +233,8 @@ def broken(variables, body):
 
 
 class Machine:
+    """The variables of a program with their values, by their names in small letters."""
+
     def __init__(self, variables):
         self.variables = {variable[0].lower(): variable for variable in variables}
         self.memory = {name: first_value(variable) for name, variable in self.variables.items()}
