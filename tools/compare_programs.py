@@ -4,7 +4,7 @@
     tools/compare_programs.py PROGRAM [PROGRAMS [SEED]]
 
 The programs have no inputs, and stand in the part of Structured Text that is read today. Some break a check, leave a
-subrange, pass 64 bits or do not end; most do not. Compared are the table, or else the line that is told. The status is 1
+subrange, pass 64 bits or loop without end; most do not. Compared are the table, or else the line that is told. The status is 1
 where the two differ.
 """
 import os
@@ -14,8 +14,8 @@ import sys
 import tempfile
 
 GREATEST = 2 ** 63 - 1
-TURNS = 1000000
-# More turns than these are simulated only for a loop without a body.
+# A program whose scan takes more turns is not tried, but for a loop that is empty and has no end: it runs out of the 1,000,000
+# turns of a scan. So how many these are is not compared.
 MOST_TURNS = 2000
 NAMES = ["a", "B", "c1", "_d", "Ee", "VALUE"]
 
@@ -268,7 +268,7 @@ class Machine:
 
     def loop(self, condition, body):
         while self.value(condition):
-            if self.turns == TURNS or condition == ("truth", True) and not body:
+            if condition == ("truth", True) and not body:
                 raise Stopped("43 Budget")
             self.turns += 1
             if self.turns > MOST_TURNS:
