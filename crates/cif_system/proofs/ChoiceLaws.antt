@@ -4,30 +4,30 @@ use Rattle.std.specs.Prelude.{slice_get, ◌&&◌, ◌||◌, flat_map, filter_ma
 use Rattle.std.specs.List.{list_all, list_any, enumerate_from}
 use Rattle.std.proofs.lemmas.Bool.{eqb-true, ne_eqb, eq-eqb}
 use Rattle.cif_system.specs.Words.{Member}
-use Rattle.cif_system.specs.System.{Arc, Part, State, System, receiving, sending, syncing}
-use Rattle.cif_system.specs.Step.{Choice, Numbered, agrees, makes_step, fits, has_arc, is_channel, is_for, is_open, is_party, moves, numbered, partners, passes, place_of, same_part, stays, takes}
-use Rattle.cif_system.specs.Choices.{arcs_for, channel_choices, choices, having, number_if, options, options_between, plain_choices, product_of, stay}
+use Rattle.cif_system.specs.System.{Edge, Role, State, System, receiving, sending, syncing}
+use Rattle.cif_system.specs.Step.{Choice, Numbered, agrees, makes_step, fits, has_edge, is_channel, is_for, is_enabled, is_party, moves, numbered, partners, passes, place_of, same_role, stays, takes}
+use Rattle.cif_system.specs.Choices.{edges_for, channel_choices, choices, having, number_if, options, options_between, plain_choices, product_of, stay}
 use Rattle.cif_system.proofs.Lists.{some-same, none-some, false-true, filter-member, map-length}
 use Rattle.cif_system.proofs.Picks.{and-left, and-right, or-cases, all-at, any-at, none-at, One, one-of, append-left, append-right, flat_map-member, at-member, product_of-member, map-at, enumerate_from-at, at-enumerate_from, zip-at, at-zip}
 
 -- what an automaton takes is one of its edges
-pub record Taken (role : Part) (e : ℕ) (a : Numbered) (m : Option ℕ) : Type 0 where
+pub record Taken (role : Role) (e : ℕ) (a : Numbered) (m : Option ℕ) : Type 0 where
   pub number : ℕ
-  pub way : Arc
+  pub way : Edge
   pub is : m ≡ Some number
-  pub stands : slice_get a.1.arcs number ≡ Some way
+  pub stands : slice_get a.1.edges number ≡ Some way
   pub in_role : is_for role e way ≡ true
 
-pub takes-edge : (role : Part) (e : ℕ) (s : State) (a : Numbered) (m : Option ℕ) → takes role e s (a, m) ≡ true → Taken role e a m
+pub takes-edge : (role : Role) (e : ℕ) (s : State) (a : Numbered) (m : Option ℕ) → takes role e s (a, m) ≡ true → Taken role e a m
 takes-edge role e s a None h = absurd (false-true refl h)
 takes-edge role e s a (Some k) h =
-    (elim (slice_get a.1.arcs k) as (λ o. slice_get a.1.arcs k ≡ o → passes (is_open role e s a) o ≡ true → Taken role e a (Some k)) [
+    (elim (slice_get a.1.edges k) as (λ o. slice_get a.1.edges k ≡ o → passes (is_enabled role e s a) o ≡ true → Taken role e a (Some k)) [
       | None ↦ λ g p. absurd (false-true refl p)
       | Some w ↦ λ g p. record { number = k; way = w; is = refl; stands = g; in_role = and-left (is_for role e w) _ (and-left (is_for role e w && nat_eq w.from (place_of s a)) _ p) }
     ]) refl h
 
 -- an edge that passes stands among the numbers of those that do
-pub numbered-member : (p : Arc → Bool) (xs : List Arc) (n k j : ℕ) (w : Arc) → slice_get xs k ≡ Some w → p w ≡ true → j ≡ n + k → Member (Some j) (filter_map (number_if p) (enumerate_from n xs))
+pub numbered-member : (p : Edge → Bool) (xs : List Edge) (n k j : ℕ) (w : Edge) → slice_get xs k ≡ Some w → p w ≡ true → j ≡ n + k → Member (Some j) (filter_map (number_if p) (enumerate_from n xs))
 numbered-member p [] n k j w g h i = absurd (none-some w g)
 numbered-member p (x ∷ xs) n zero j w g h i =
     (elim (p x) as (λ b. p x ≡ b → Member (Some j) (filter_map (number_if p) (enumerate_from n (x ∷ xs)))) [
@@ -42,9 +42,9 @@ numbered-member p (x ∷ xs) n (suc k) j w g h i =
     ]) refl
 
 -- an edge that is taken is one of those for e
-pub taken-edge : (role : Part) (e : ℕ) (a : Numbered) (m : Option ℕ) → Taken role e a m → Member m (arcs_for role e a.1)
+pub taken-edge : (role : Role) (e : ℕ) (a : Numbered) (m : Option ℕ) → Taken role e a m → Member m (edges_for role e a.1)
 taken-edge role e a m x =
-    subst (λ o. Member o (arcs_for role e a.1)) (sym x.is) (numbered-member (is_for role e) a.1.arcs 0 x.number x.number x.way x.stands x.in_role (omega arith))
+    subst (λ o. Member o (edges_for role e a.1)) (sym x.is) (numbered-member (is_for role e) a.1.edges 0 x.number x.number x.way x.stands x.in_role (omega arith))
 
 pub stays-none : (a : Numbered) (m : Option ℕ) → stays (a, m) ≡ true → m ≡ None
 stays-none a None h = refl
@@ -54,14 +54,14 @@ stays-none a (Some k) h = absurd (false-true refl h)
 pub fits-options : (e : ℕ) (s : State) (a : Numbered) (m : Option ℕ) → fits e s (a, m) ≡ true → takes sending e s (a, m) ≡ false → takes receiving e s (a, m) ≡ false → Member m (options e a.1)
 fits-options e s a m h no_send no_receive =
     (elim (a.1.synchronises e) as (λ b.
-    (if b then takes syncing e s (a, m) || (stays (a, m) && a.1.monitors e && not (list_any (is_open syncing e s a) a.1.arcs))
+    (if b then takes syncing e s (a, m) || (stays (a, m) && a.1.monitors e && not (list_any (is_enabled syncing e s a) a.1.edges))
     else takes sending e s (a, m) || takes receiving e s (a, m) || stays (a, m)) ≡ true
-    → Member m (if b then arcs_for syncing e a.1 ++ stay (a.1.monitors e) else None ∷ [])) [
+    → Member m (if b then edges_for syncing e a.1 ++ stay (a.1.monitors e) else None ∷ [])) [
       | true ↦ λ g. elim (or-cases (takes syncing e s (a, m)) _ g) [
-        | inl t ↦ append-left m (arcs_for syncing e a.1) (stay (a.1.monitors e)) (taken-edge syncing e a m (takes-edge syncing e s a m t))
+        | inl t ↦ append-left m (edges_for syncing e a.1) (stay (a.1.monitors e)) (taken-edge syncing e a m (takes-edge syncing e s a m t))
         | inr r ↦
             let both : (stays (a, m) && a.1.monitors e) ≡ true = and-left (stays (a, m) && a.1.monitors e) _ r in
-            append-right m (arcs_for syncing e a.1) (stay (a.1.monitors e))
+            append-right m (edges_for syncing e a.1) (stay (a.1.monitors e))
             (subst (λ b. Member m (stay b)) (sym (and-right (stays (a, m)) (a.1.monitors e) both)) (inl (stays-none a m (and-left (stays (a, m)) (a.1.monitors e) both))))
       ]
       | false ↦ λ g. elim (or-cases (takes sending e s (a, m) || takes receiving e s (a, m)) (stays (a, m)) g) [
@@ -112,7 +112,7 @@ plain-member t s e ch h none =
         (none-at (takes sending e s) (moves t ch) k ((k, a.0), m) (h.sender ∙ none) z)
         (none-at (takes receiving e s) (moves t ch) k ((k, a.0), m) (h.receiver ∙ none) z))
 
-pub not-both : (p : Part) → same_part sending p ≡ true → same_part receiving p ≡ true → ⊥
+pub not-both : (p : Role) → same_role sending p ≡ true → same_role receiving p ≡ true → ⊥
 not-both syncing h g = false-true refl h
 not-both sending h g = false-true refl g
 not-both receiving h g = false-true refl h
@@ -123,12 +123,12 @@ not-both-taken e s a m h g =
     let x = takes-edge sending e s a m h in
     let y = takes-edge receiving e s a m g in
     let number : x.number ≡ y.number = some-same x.number y.number (sym x.is ∙ y.is) in
-    let way : x.way ≡ y.way = some-same x.way y.way (sym x.stands ∙ ap (slice_get a.1.arcs) number ∙ y.stands) in
-    not-both x.way.part (and-left _ _ x.in_role) (subst (λ (w : Arc). same_part receiving w.part ≡ true) (sym way) (and-left _ _ y.in_role))
+    let way : x.way ≡ y.way = some-same x.way y.way (sym x.stands ∙ ap (slice_get a.1.edges) number ∙ y.stands) in
+    not-both x.way.role (and-left _ _ x.in_role) (subst (λ (w : Edge). same_role receiving w.role ≡ true) (sym way) (and-left _ _ y.in_role))
 
 -- an automaton that takes an edge in a role has one
-pub taken-has : (role : Part) (e : ℕ) (a : Numbered) (m : Option ℕ) → Taken role e a m → has_arc role e a.1 ≡ true
-taken-has role e a m x = any-at (is_for role e) a.1.arcs x.number x.way x.stands x.in_role
+pub taken-has : (role : Role) (e : ℕ) (a : Numbered) (m : Option ℕ) → Taken role e a m → has_edge role e a.1 ≡ true
+taken-has role e a m x = any-at (is_for role e) a.1.edges x.number x.way x.stands x.in_role
 
 -- a choice for a channel, with the automaton that sends and the one that receives
 module _ (t : System) (s : State) (e : ℕ) (ch : Choice) (h : Agreed t s e ch) (from : One (takes sending e s) (moves t ch)) (to : One (takes receiving e s) (moves t ch)) where
@@ -146,12 +146,12 @@ module _ (t : System) (s : State) (e : ℕ) (ch : Choice) (h : Agreed t s e ch) 
 
   pub between-member : (k : ℕ) (a : Numbered) (m : Option ℕ) → slice_get (moves t ch) k ≡ Some (a, m) → Member m (options_between e from.at to.at (k, a.1))
   between-member k a m z =
-      (elim (nat_eq k from.at) as (λ b. nat_eq k from.at ≡ b → Member m (if b then arcs_for sending e a.1 else (if nat_eq k to.at then arcs_for receiving e a.1 else options e a.1))) [
+      (elim (nat_eq k from.at) as (λ b. nat_eq k from.at ≡ b → Member m (if b then edges_for sending e a.1 else (if nat_eq k to.at then edges_for receiving e a.1 else options e a.1))) [
         | true ↦ λ i.
             let here : (a, m) ≡ from.here = some-same (a, m) from.here (sym z ∙ ap (slice_get (moves t ch)) (eqb-true k from.at i) ∙ from.is) in
             taken-edge sending e a m (takes-edge sending e s a m (subst (λ x. takes sending e s x ≡ true) (sym here) from.passes))
         | false ↦ λ i.
-            (elim (nat_eq k to.at) as (λ b. nat_eq k to.at ≡ b → Member m (if b then arcs_for receiving e a.1 else options e a.1)) [
+            (elim (nat_eq k to.at) as (λ b. nat_eq k to.at ≡ b → Member m (if b then edges_for receiving e a.1 else options e a.1)) [
               | true ↦ λ j.
                   let here : (a, m) ≡ to.here = some-same (a, m) to.here (sym z ∙ ap (slice_get (moves t ch)) (eqb-true k to.at j) ∙ to.is) in
                   taken-edge receiving e a m (takes-edge receiving e s a m (subst (λ x. takes receiving e s x ≡ true) (sym here) to.passes))
@@ -160,7 +160,7 @@ module _ (t : System) (s : State) (e : ℕ) (ch : Choice) (h : Agreed t s e ch) 
             ]) refl
       ]) refl
     where
-      not_taken : (role : Part) → (one : One (takes role e s) (moves t ch)) → nat_eq k one.at ≡ false → takes role e s (a, m) ≡ false
+      not_taken : (role : Role) → (one : One (takes role e s) (moves t ch)) → nat_eq k one.at ≡ false → takes role e s (a, m) ≡ false
       not_taken role one i =
           (elim (takes role e s (a, m)) as (λ b. takes role e s (a, m) ≡ b → b ≡ false) [
             | true ↦ λ p. absurd (false-true i (ap (λ x. nat_eq x one.at) (one.alone k (a, m) z p) ∙ eq-eqb one.at one.at refl))
@@ -181,9 +181,9 @@ module _ (t : System) (s : State) (e : ℕ) (ch : Choice) (h : Agreed t s e ch) 
   pub number-at : (k : ℕ) (a : Numbered) (m : Option ℕ) → slice_get (moves t ch) k ≡ Some (a, m) → a.0 ≡ k
   number-at k a m z = (at-enumerate_from t.automata 0 k a (at-zip (numbered t) ch k (a, m) z).0).1 ∙ omega arith
 
-  pub having-member : (p : Part) (k : ℕ) (a : Numbered) (m : Option ℕ) → slice_get (moves t ch) k ≡ Some (a, m) → Taken p e a m → Member a (having p t e)
+  pub having-member : (p : Role) (k : ℕ) (a : Numbered) (m : Option ℕ) → slice_get (moves t ch) k ≡ Some (a, m) → Taken p e a m → Member a (having p t e)
   having-member p k a m z x =
-      filter-member (λ (b : Numbered). has_arc p e b.1) (numbered t) a (at-member (numbered t) k a (at-zip (numbered t) ch k (a, m) z).0) (taken-has p e a m x)
+      filter-member (λ (b : Numbered). has_edge p e b.1) (numbered t) a (at-member (numbered t) k a (at-zip (numbered t) ch k (a, m) z).0) (taken-has p e a m x)
 
   pub channel-member : Member ch (channel_choices t e)
   channel-member =

@@ -4,5 +4,12 @@ pub mod ScanLaws
 pub mod ChoiceLaws
 pub mod Picks
 pub mod Lists
+pub mod Makers
 pub mod Rows
+pub mod StepRows
+pub mod ScanRows
+pub mod RunRows
 pub mod FirstRunLaws
+pub mod RunLaws
+pub mod Distinct
+pub mod DistinctLaws

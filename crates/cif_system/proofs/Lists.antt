@@ -1,8 +1,8 @@
 -- Elements of lists, and what `find` finds.
 use Rattle.std.proofs.Common.{◌≡◌, ℕ, zero, suc, ◌+◌, ◌<◌, Bool, true, false, cond, inl, inr, List, [], ◌∷◌, length, map, filter, Some, None, find, refl, sym, ap, subst, arith}
+use Rattle.std.specs.List.{range_with_len}
 use Rattle.std.specs.Prelude.{unwrap_or, slice_get}
 use Rattle.cif_system.specs.Words.{Member}
-use Rattle.cif_system.specs.Choices.{count_from}
 
 pub some-same : {A : Type 0} → (x y : A) → Some x ≡ Some y → x ≡ y
 some-same x y h = ap (λ o. unwrap_or o x) h
@@ -45,10 +45,18 @@ filter-passes p (x ∷ xs) y m =
       | false ↦ λ e g. filter-passes p xs y g
     ]) refl m
 
-pub count_from-member : (k n j : ℕ) → j < n → Member (k + j) (count_from k n)
-count_from-member k zero j h = absurd (omega (arith, h))
-count_from-member k (suc n) zero h = inl (omega arith)
-count_from-member k (suc n) (suc j) h = inr (subst (λ i. Member i (count_from (suc k) n)) (omega arith) (count_from-member (suc k) n j (omega (arith, h))))
+pub filter-within : {A : Type 0} → (p : A → Bool) → (xs : List A) → (y : A) → Member y (filter p xs) → Member y xs
+filter-within p [] y m = m
+filter-within p (x ∷ xs) y m =
+    (elim (p x) as (λ b. Member y (cond b (x ∷ filter p xs) (filter p xs)) → Member y (x ∷ xs)) [
+      | true ↦ λ h. elim h [ inl e ↦ inl e | inr q ↦ inr (filter-within p xs y q) ]
+      | false ↦ λ h. inr (filter-within p xs y h)
+    ]) m
+
+pub range_with_len-member : (k n j : ℕ) → j < n → Member (k + j) (range_with_len k n)
+range_with_len-member k zero j h = absurd (omega (arith, h))
+range_with_len-member k (suc n) zero h = inl (omega arith)
+range_with_len-member k (suc n) (suc j) h = inr (subst (λ i. Member i (range_with_len (k + 1) n)) (omega arith) (range_with_len-member (k + 1) n j (omega (arith, h))))
 
 pub slice_get-below : {A : Type 0} → (xs : List A) → (k : ℕ) → (y : A) → slice_get xs k ≡ Some y → k < length xs
 slice_get-below [] k y h = absurd (none-some y h)

@@ -1,12 +1,13 @@
 -- The exact scan is a legal one.
 use Rattle.std.proofs.Common.{◌≡◌, ℕ, zero, suc, ◌<◌, ◌≤◌, ℤ, ◌⊎◌, inl, inr, List, [], ◌∷◌, ◌++◌, length, Some, None, find, refl, sym, ◌∙◌, ap, subst, arith, length-append}
+use Rattle.std.specs.List.{range_with_len}
 use Rattle.std.specs.Prelude.{unwrap_or, option_map, IsTrue, slice_get}
 use Rattle.cif_system.specs.Words.{Member}
 use Rattle.cif_system.specs.System.{Class, State, System, con, unc}
 use Rattle.cif_system.specs.Step.{Run, Step, after, has_class, is_of, makes_step}
 use Rattle.cif_system.specs.Choices.{choices, event_numbers, first_step}
-use Rattle.cif_system.specs.Scan.{Phase, ScanIsLegal, exact_scan, fire, fire_all, of_class, rounds, with_inputs}
-use Rattle.cif_system.proofs.Lists.{some-same, none-some, find-passes, find-none, filter-member, filter-passes, count_from-member, slice_get-below}
+use Rattle.cif_system.specs.Scan.{BoundedRun, ScanIsLegal, exact_scan, fire, fire_all, of_class, rounds, with_inputs}
+use Rattle.cif_system.proofs.Lists.{some-same, none-some, find-passes, find-none, filter-member, filter-passes, range_with_len-member, slice_get-below}
 use Rattle.cif_system.proofs.ChoiceLaws.{choices-listed, makes_step-agrees}
 
 -- a first step is a step
@@ -73,7 +74,7 @@ is_of-below t k e h =
 
 pub of_class-all : (t : System) (k : Class) (e : ℕ) → IsTrue (is_of t k e) → Member e (of_class t k)
 of_class-all t k e h =
-    filter-member (is_of t k) (event_numbers t) e (subst (λ i. Member i (event_numbers t)) (omega arith) (count_from-member 0 (length t.events) e (is_of-below t k e h))) h
+    filter-member (is_of t k) (event_numbers t) e (subst (λ i. Member i (event_numbers t)) (omega arith) (range_with_len-member 0 (length t.events) e (is_of-below t k e h))) h
 
 -- a round in which nothing fires leaves the state, and so does each later one
 pub rounds-still : (t : System) (k : Class) (n : ℕ) (s : State) → fire_all t s (of_class t k) ≡ s → rounds t k n s ≡ s
@@ -81,11 +82,11 @@ rounds-still t k zero s h = refl
 rounds-still t k (suc n) s h = ap (rounds t k n) h ∙ rounds-still t k n s h
 
 -- rounds fire so many events, or till none of the class is left
-pub rounds-phase : (t : System) (k : Class) (n : ℕ) (s : State) → Phase t k n s (rounds t k n s)
-rounds-phase t k zero s = record { fired = []; run = refl; enough = inl (omega arith) }
-rounds-phase t k (suc n) s =
+pub rounds-run : (t : System) (k : Class) (n : ℕ) (s : State) → BoundedRun t k n s (rounds t k n s)
+rounds-run t k zero s = record { fired = []; run = refl; enough = inl (omega arith) }
+rounds-run t k (suc n) s =
     let first : Fired t k s (of_class t k) = fire_all-fired t k s (of_class t k) (of_class-is t k) in
-    let rest : Phase t k n (fire_all t s (of_class t k)) (rounds t k n (fire_all t s (of_class t k))) = rounds-phase t k n (fire_all t s (of_class t k)) in
+    let rest : BoundedRun t k n (fire_all t s (of_class t k)) (rounds t k n (fire_all t s (of_class t k))) = rounds-run t k n (fire_all t s (of_class t k)) in
     elim first.some [
       | inl more ↦ record {
         fired = first.fired ++ rest.fired;
@@ -105,6 +106,6 @@ rounds-phase t k (suc n) s =
 pub exact_scan-legal : (t : System) (s : State) (row : List ℤ) (U C : ℕ) → ScanIsLegal t s row (exact_scan t s row U C) U C
 exact_scan-legal t s row U C = record {
   middle = rounds t unc U (with_inputs s row);
-  uncontrollable = rounds-phase t unc U (with_inputs s row);
-  controllable = rounds-phase t con C (rounds t unc U (with_inputs s row));
+  uncontrollable = rounds-run t unc U (with_inputs s row);
+  controllable = rounds-run t con C (rounds t unc U (with_inputs s row));
 }

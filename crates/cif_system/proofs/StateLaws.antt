@@ -1,10 +1,10 @@
 -- A step leads from a state to a state.
 use Rattle.std.proofs.Common.{◌≡◌, ℕ, suc, ◌+◌, ◌<◌, ◌≤◌, ℤ, Bool, true, false, cond, List, [], ◌∷◌, length, map, Option, Some, None, find, refl, sym, ◌∙◌, ap, subst, arith}
 use Rattle.std.specs.Prelude.{unwrap_or, option_map, slice_get, slice_index_or, nat_eq, zip, IsTrue}
-use Rattle.std.specs.List.{list_all, enumerate_from}
+use Rattle.std.specs.List.{list_all, enumerate_from, AllZip}
 use Rattle.std.proofs.lemmas.Bool.{eqb-true}
-use Rattle.cif_system.specs.System.{AllFit, Arc, Automaton, EndsInside, IsState, Pairwise, State, Stored, System, in_range}
-use Rattle.cif_system.specs.Step.{Choice, Step, arc_of, assigned, fits_variable, new_place, new_value, new_values, place_of}
+use Rattle.cif_system.specs.System.{AllFit, Edge, Automaton, EndsInside, IsState, State, Stored, System, in_range}
+use Rattle.cif_system.specs.Step.{Choice, Step, edge_taken, assigned, fits_variable, new_place, new_value, new_values, place_of}
 use Rattle.cif_system.proofs.Lists.{some-same, none-some, find-passes}
 use Rattle.cif_system.proofs.Picks.{and-left, and-right}
 use Rattle.cif_system.proofs.ChoiceLaws.{agrees-parts, makes_step-agrees, Agreed}
@@ -44,20 +44,20 @@ new_values-fit m ws all k (d ∷ ds) (z ∷ zs) same fit = (
 -- the places after a choice
 new_places-inside : (m : System) (s : State) → EndsInside m → (k : ℕ) (xs : List Automaton) (ls : List ℕ) (ch : Choice)
     → ((j : ℕ) → slice_get m.automata (k + j) ≡ slice_get xs j) → ((j : ℕ) → slice_index_or s.locs (k + j) 0 ≡ slice_index_or ls j 0)
-    → length ch ≡ length xs → Pairwise (λ (a : Automaton) l. suc l ≤ a.places) xs ls
-    → Pairwise (λ (a : Automaton) l. suc l ≤ a.places) xs (map (new_place s) (zip (enumerate_from k xs) ch))
+    → length ch ≡ length xs → AllZip (λ (a : Automaton) l. suc l ≤ a.places) xs ls
+    → AllZip (λ (a : Automaton) l. suc l ≤ a.places) xs (map (new_place s) (zip (enumerate_from k xs) ch))
 new_places-inside m s ends k [] ls ch same at len old = tt
 new_places-inside m s ends k (x ∷ xs) ls [] same at len old = absurd (omega (arith, len))
 new_places-inside m s ends k (x ∷ xs) [] (c ∷ ch) same at len old = absurd old
 new_places-inside m s ends k (x ∷ xs) (l ∷ ls) (c ∷ ch) same at len old = (
-  (elim (arc_of ((k, x), c)) as (λ o. arc_of ((k, x), c) ≡ o → suc (elim o [ None ↦ place_of s (k, x) | Some y ↦ y.to ]) ≤ x.places) [
+  (elim (edge_taken ((k, x), c)) as (λ o. edge_taken ((k, x), c) ≡ o → suc (elim o [ None ↦ place_of s (k, x) | Some y ↦ y.to ]) ≤ x.places) [
     | None ↦ λ h. subst (λ i. suc i ≤ x.places) (sym (at 0) ∙ ap (λ j. slice_index_or s.locs j 0) (omega arith)) old.0
     | Some y ↦ λ h. inside c y h
   ]) refl,
   new_places-inside m s ends (k + 1) xs ls ch (λ j. ap (slice_get m.automata) (omega arith) ∙ same (suc j)) (λ j. ap (λ i. slice_index_or s.locs i 0) (omega arith) ∙ at (suc j)) (omega (arith, len)) old.1,
 )
   where
-    inside : (c : Option ℕ) (y : Arc) → arc_of ((k, x), c) ≡ Some y → y.to < x.places
+    inside : (c : Option ℕ) (y : Edge) → edge_taken ((k, x), c) ≡ Some y → y.to < x.places
     inside None y h = absurd (none-some y h)
     inside (Some j) y h = ends k x (ap (slice_get m.automata) (omega arith) ∙ same 0) j y h
 
@@ -67,7 +67,7 @@ step-state m ends s e next h step =
     subst (λ r. IsState m r) (sym step.is_after) record {
       places = new_places-inside m s ends 0 m.automata s.locs step.choice (λ j. ap (slice_get m.automata) (omega arith)) (λ j. ap (λ i. slice_index_or s.locs i 0) (omega arith)) agreed.one_each h.places;
       values = new_values-fit m (assigned m s step.choice) (and-right _ _ (and-left _ _ (and-left _ _ step.makes))) 0 m.variables s.vals (λ j. ap (slice_get m.variables) (omega arith)) h.values;
-      rows = h.rows;
+      inputs = h.inputs;
     }
   where
     agreed : Agreed m s e step.choice

@@ -1,16 +1,16 @@
 -- The choices for an event in a fixed order, the first of them that makes a step, and how many there are. For a channel
 -- they go by the sender's number and then by the receiver's; then lexicographically by the automata in ascending number.
 use Rattle.std.specs.Prelude.{ℕ, zero, suc, ◌*◌, Bool, nat_eq, List, [], ◌∷◌, ◌++◌, map, length, filter, find, flat_map, filter_map, sum, Option, Some, None, option_map, if◌then◌else◌}
-use Rattle.std.specs.List.{list_any, enumerate_from}
-use Rattle.cif_system.specs.System.{Arc, Automaton, Part, State, System, receiving, sending, syncing}
-use Rattle.cif_system.specs.Step.{Choice, Numbered, after, has_arc, is_channel, is_for, is_party, makes_step, numbered}
+use Rattle.std.specs.List.{list_any, enumerate_from, range_with_len}
+use Rattle.cif_system.specs.System.{Edge, Automaton, Role, State, System, receiving, sending, syncing}
+use Rattle.cif_system.specs.Step.{Choice, Numbered, after, has_edge, is_channel, is_for, is_party, makes_step, numbered}
 
-abbrev pub number_if : (Arc → Bool) → ℕ × Arc → Option (Option ℕ)
+abbrev pub number_if : (Edge → Bool) → ℕ × Edge → Option (Option ℕ)
 number_if p (k, x) = if p x then Some (Some k) else None
 
 -- the edges of an automaton for e in a role, by number, in text order
-abbrev pub arcs_for : Part → ℕ → Automaton → List (Option ℕ)
-arcs_for p e a = filter_map (number_if (is_for p e)) (enumerate_from 0 a.arcs)
+abbrev pub edges_for : Role → ℕ → Automaton → List (Option ℕ)
+edges_for p e a = filter_map (number_if (is_for p e)) (enumerate_from 0 a.edges)
 
 -- to stay, where that is allowed
 abbrev pub stay : Bool → List (Option ℕ)
@@ -18,7 +18,7 @@ stay b = if b then None ∷ [] else []
 
 -- what an automaton may do for e; to stay is last
 abbrev pub options : ℕ → Automaton → List (Option ℕ)
-options e a = if a.synchronises e then arcs_for syncing e a ++ stay (a.monitors e) else None ∷ []
+options e a = if a.synchronises e then edges_for syncing e a ++ stay (a.monitors e) else None ∷ []
 
 -- one of each list, in lexicographic order
 abbrev pub product_of : {A : Type 0} → List (List A) → List (List A)
@@ -27,15 +27,15 @@ product_of (xs ∷ xss) = let rest = product_of xss in flat_map (λ x. map (λ y
 
 -- what an automaton may do where automaton i sends to automaton j
 abbrev pub options_between : ℕ → ℕ → ℕ → Numbered → List (Option ℕ)
-options_between e i j (k, a) = if nat_eq k i then arcs_for sending e a else (if nat_eq k j then arcs_for receiving e a else options e a)
+options_between e i j (k, a) = if nat_eq k i then edges_for sending e a else (if nat_eq k j then edges_for receiving e a else options e a)
 
 -- the choices for an event that is no channel: none where it has no party
 abbrev pub plain_choices : System → ℕ → List Choice
 plain_choices m e = if list_any (is_party e) m.automata then product_of (map (options e) m.automata) else []
 
 -- the automata with an edge for e in a role
-abbrev pub having : Part → System → ℕ → List Numbered
-having p m e = filter (λ (a : Numbered). has_arc p e a.1) (numbered m)
+abbrev pub having : Role → System → ℕ → List Numbered
+having p m e = filter (λ (a : Numbered). has_edge p e a.1) (numbered m)
 
 -- the choices for a channel, by sender and then by another automaton that receives
 abbrev pub channel_choices : System → ℕ → List Choice
@@ -68,13 +68,8 @@ channel_count m e =
 abbrev pub choice_count : System → ℕ → ℕ
 choice_count m e = if is_channel m e then channel_count m e else plain_count m e
 
--- n numbers from k on
-abbrev pub count_from : ℕ → ℕ → List ℕ
-count_from k zero = []
-count_from k (suc n) = k ∷ count_from (suc k) n
-
 abbrev pub event_numbers : System → List ℕ
-event_numbers m = count_from 0 (length m.events)
+event_numbers m = range_with_len 0 (length m.events)
 
 -- how many choices there are for all events together
 abbrev pub all_choices : System → ℕ

@@ -5,8 +5,8 @@ use Rattle.cif_system.specs.System.{Class, State, System, con, unc}
 use Rattle.cif_system.specs.Step.{Exhausted, Run, is_of}
 use Rattle.cif_system.specs.Choices.{event_numbers, first_step}
 
--- a run of one class that fires so many events, or after which none of the class is left
-pub record Phase (m : System) (k : Class) (bound : ℕ) (s next : State) : Type 0 where
+-- a run of one class that fires at least so many events, or after which no event of the class has a step
+pub record BoundedRun (m : System) (k : Class) (bound : ℕ) (s next : State) : Type 0 where
   pub fired : List ℕ
   pub run : Run m k s fired next
   pub enough : (bound ≤ length fired) ⊎ Exhausted m k next
@@ -19,8 +19,8 @@ with_inputs s row = record s { ins = row }
 -- left. Which events fire, and in which order, is not said.
 pub record ScanIsLegal (m : System) (s : State) (row : List ℤ) (next : State) (U C : ℕ) : Type 0 where
   pub middle : State
-  pub uncontrollable : Phase m unc U (with_inputs s row) middle
-  pub controllable : Phase m con C middle next
+  pub uncontrollable : BoundedRun m unc U (with_inputs s row) middle
+  pub controllable : BoundedRun m con C middle next
 
 -- the first step of e, if it has one
 abbrev pub fire : System → State → ℕ → State
