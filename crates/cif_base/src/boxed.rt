@@ -28,6 +28,14 @@ impl<T> Boxed<T> {
         &self.inner
     }
 
+    /// Puts a value in the place of the one in the box, which it gives back.
+    pub fn replace(&mut self, value: T) -> T
+        ensures was { result ≡ self.old }
+        ensures is { self.new ≡ value }
+    {
+        Box::replace(&mut self.inner, value)
+    }
+
     /// Takes the value out of its box.
     pub fn into_inner(self) -> T
         ensures { result ≡ self }

@@ -1,8 +1,9 @@
 //! A list of bytes that contracts see as such.
 
-ghost use Rattle.std.specs.Prelude.{◌≡◌, ◌++◌, ◌∷◌, [], ◌↔◌, length, IsTrue, IfOk, OnOk, OnErr};
+ghost use Rattle.std.specs.Prelude.{◌≡◌, List, ℕ, ◌++◌, ◌∷◌, [], ◌↔◌, length, take, slice_get, IsTrue, IfOk, OnOk, OnErr, MatchOption};
+ghost use Rattle.std.specs.Fmt.{signed_decimal};
 
-use crate::Memory;
+use crate::{Memory, put_int};
 use std::alloc::Global;
 use std::marker::Model;
 
@@ -72,6 +73,37 @@ impl Text {
         self.bytes.is_empty()
     }
 
+    pub fn get(&self, at: usize) -> Option<u8>
+        ensures { result ≡ slice_get self.now at }
+    {
+        self.bytes.get(at).copied()
+    }
+
+    pub fn starts_with(&self, front: &[u8]) -> bool
+        ensures { IsTrue result ↔ ((rest : List ℕ) × (self.now ≡ front.now ++ rest)) }
+    {
+        self.bytes.starts_with(front)
+    }
+
+    pub fn pop(&mut self) -> Option<u8>
+        ensures { MatchOption result ((self.old ≡ []) × (self.new ≡ [])) (λ last. self.old ≡ self.new ++ last ∷ []) }
+    {
+        self.bytes.pop()
+    }
+
+    /// Keeps the first `len` bytes.
+    pub fn truncate(&mut self, len: usize)
+        ensures { self.new ≡ take len self.old }
+    {
+        self.bytes.truncate(len);
+    }
+
+    pub fn clear(&mut self)
+        ensures { self.new ≡ [] }
+    {
+        self.bytes.clear();
+    }
+
     /// Adds a byte at the end.
     pub fn push(&mut self, byte: u8) -> Result<(), Memory>
         ensures ok { OnOk result (self.new ≡ self.old ++ byte ∷ []) }
@@ -88,6 +120,14 @@ impl Text {
     {
         self.bytes.extend_from_slice(bytes)?;
         Ok(())
+    }
+
+    /// Adds the decimal text of a number at the end.
+    pub fn push_int(&mut self, value: i64) -> Result<(), Memory>
+        ensures ok { OnOk result (self.new ≡ self.old ++ signed_decimal value) }
+        ensures err { OnErr result (self.new ≡ self.old) }
+    {
+        put_int(&mut self.bytes, value)
     }
 
     pub fn is_same(&self, other: &Text) -> bool

@@ -1,8 +1,10 @@
 -- Cutting gives the pieces of a text, each the longest at its place, and no others.
-use Rattle.std.proofs.Common.{◌≡◌, ◌==◌, nat_le, ℕ, zero, suc, ◌+◌, ◌≤◌, Bool, true, false, cond, ◌&&◌, ◌||◌, List, [], ◌∷◌, ◌++◌, length, Option, Some, None, refl, sym, ap, subst, ◌∙◌, arith, inl, inr, ◌⊎◌, eqb-true, eq-eqb, leb-true}
+use Rattle.std.proofs.Common.{◌≡◌, ◌==◌, nat_le, ℕ, zero, suc, ◌+◌, ◌≤◌, Bool, true, false, cond, ◌&&◌, ◌||◌, List, [], ◌∷◌, ◌++◌, length, Option, Some, None, refl, sym, ap, subst, ◌∙◌, arith, inl, inr, eqb-true, eq-eqb, leb-true}
+use Rattle.std.proofs.lemmas.Bool.{or_left, or_right}
 use Rattle.std.proofs.lemmas.List.{length-append}
 use Rattle.grammar.specs.Pieces.{Text, Kinds, ◌∣◌, IsLongest, Pieces, Cut, Cutter, with_piece, then_cut, cut_from, cut_all, head_is, either_cut, run_of, AllAre, run, run_cut, after_byte, one_text, with_byte, after_cut, strip, or_else, text_cut, none_longer, falling, heads_are, IsClosed, closed, close_at, longer_by, closed_of, closed_cut}
 use Rattle.grammar.proofs.Texts.{and_left, and_right}
+use Rattle.grammar.proofs.Plain.{if_some}
 
 pub record Cuts {P : Type 0} (f : ℕ → Bool) (r : Kinds P) (c : Cutter P) : Type 0 where
   pub begins : (p : P) (x : Text) → r p x → (b : ℕ) × (t : Text) × (x ≡ b ∷ t) × (f b ≡ true)
@@ -12,7 +14,7 @@ pub record Cuts {P : Type 0} (f : ℕ → Bool) (r : Kinds P) (c : Cutter P) : T
 
 -- ---- the pieces of a text
 
-split_same : (x y r s : Text) → x ++ r ≡ y ++ s → length x ≡ length y → (x ≡ y) × (r ≡ s)
+pub split_same : (x y r s : Text) → x ++ r ≡ y ++ s → length x ≡ length y → (x ≡ y) × (r ≡ s)
 split_same [] [] r s e l = (refl, e)
 split_same [] (b ∷ y) r s e l = absurd (omega arith)
 split_same (a ∷ x) [] r s e l = absurd (omega arith)
@@ -71,10 +73,6 @@ cut_iff h text ps = (cut_pieces h (length text) text ps, pieces_cut h (length te
 
 -- ---- choices
 
-choose : {A : Type 0} (b : Bool) (x y z : A) → cond b x y ≡ z → ((b ≡ true) × (x ≡ z)) ⊎ ((b ≡ false) × (y ≡ z))
-choose true x y z e = inl (refl, e)
-choose false x y z e = inr (refl, e)
-
 head_of : (f : ℕ → Bool) (text y z : Text) (b : ℕ) (t : Text) → text ≡ y ++ z → y ≡ b ∷ t → head_is f text ≡ f b
 head_of f text y z b t e g = ap (head_is f) (e ∙ ap (λ u. u ++ z) g)
 
@@ -83,29 +81,19 @@ pub either_cuts : {P : Type 0} {f g : ℕ → Bool} {r s : Kinds P} {c d : Cutte
 either_cuts {P = P} {f = f} {g = g} {r = r} {s = s} {c = c} {d = d} h apart k = record {
   begins = begins_either;
   same = same_either;
-  found = λ text w e. elim (choose (head_is f text) (c text) (d text) (Some w) e) [
+  found = λ text w e. elim (if_some (head_is f text) (c text) (d text) (Some w) e) [
     | inl u ↦ let m = h.found text w u.1 in (inl m.0, longest_left text w u.0 m.1, m.2)
     | inr u ↦ let m = k.found text w u.1 in (inr m.0, longest_right text w u.0 m.1, m.2)
   ];
-  none = λ text e. elim (choose (head_is f text) (c text) (d text) None e) [
+  none = λ text e. elim (if_some (head_is f text) (c text) (d text) None e) [
     | inl u ↦ none_left text u.0 u.1
     | inr u ↦ none_right text u.0 u.1
   ];
 }
   where
-    left_true : (b : ℕ) → f b ≡ true → (f b || g b) ≡ true
-    left_true b e = rw e refl
-
-    right_true : (b : ℕ) → g b ≡ true → (f b || g b) ≡ true
-    right_true b e = go (f b)
-      where
-        go : (a : Bool) → (a || g b) ≡ true
-        go true = refl
-        go false = e
-
     begins_either : (p : P) (x : Text) → (r ∣ s) p x → (b : ℕ) × (t : Text) × (x ≡ b ∷ t) × ((f b || g b) ≡ true)
-    begins_either p x (inl w) = let m = h.begins p x w in (m.0, m.1, m.2, left_true m.0 m.3)
-    begins_either p x (inr w) = let m = k.begins p x w in (m.0, m.1, m.2, right_true m.0 m.3)
+    begins_either p x (inl w) = let m = h.begins p x w in (m.0, m.1, m.2, or_left (f m.0) (g m.0) m.3)
+    begins_either p x (inr w) = let m = k.begins p x w in (m.0, m.1, m.2, or_right (f m.0) (g m.0) m.3)
 
     not_both : (p q : P) (x : Text) → r p x → s q x → ⊥
     not_both p q x w u = let m = h.begins p x w in let n = k.begins q x u in
@@ -170,7 +158,7 @@ run_cuts {P = P} f g make = record {
   where
     run_found : (text : Text) (k : Cut P) → run_cut f g make text ≡ Some k → run f g make k.piece k.bytes × IsLongest (run f g make) k.bytes text × (text ≡ k.bytes ++ k.rest)
     run_found [] k e = absurd cc
-    run_found (b ∷ text) k e = elim (choose (f b) (Some (record { piece = make (b ∷ (run_of g text).0); bytes = b ∷ (run_of g text).0; rest = (run_of g text).1 })) None (Some k) e) [
+    run_found (b ∷ text) k e = elim (if_some (f b) (Some (record { piece = make (b ∷ (run_of g text).0); bytes = b ∷ (run_of g text).0; rest = (run_of g text).1 })) None (Some k) e) [
       | inl u ↦
           let same : record { piece = make (b ∷ (run_of g text).0); bytes = b ∷ (run_of g text).0; rest = (run_of g text).1 } ≡ k = cc in
           let all = run_all g text in
@@ -194,7 +182,7 @@ run_cuts {P = P} f g make = record {
         let head : b ≡ d.0 = cc in
         let is : f b ≡ true = ap f head ∙ d.2 in
         let no : cond (f b) (Some _) None ≡ None = e in
-        elim (choose (f b) (Some (record { piece = make (b ∷ (run_of g text).0); bytes = b ∷ (run_of g text).0; rest = (run_of g text).1 })) None None e) [ inl u ↦ let v = u.1 in cc | inr u ↦ let v = u.0 in cc ]
+        elim (if_some (f b) (Some (record { piece = make (b ∷ (run_of g text).0); bytes = b ∷ (run_of g text).0; rest = (run_of g text).1 })) None None e) [ inl u ↦ let v = u.1 in cc | inr u ↦ let v = u.0 in cc ]
 
 -- ---- a byte, and then a piece
 
@@ -208,7 +196,7 @@ after_cuts {P = P} {f = f} {r = r} {c = c} b h = record {
   where
     after_found : (text : Text) (k : Cut P) → after_cut b c text ≡ Some k → after_byte b r k.piece k.bytes × IsLongest (after_byte b r) k.bytes text × (text ≡ k.bytes ++ k.rest)
     after_found [] k e = absurd cc
-    after_found (a ∷ text) k e = elim (choose (a == b) (with_byte a (c text)) None (Some k) e) [
+    after_found (a ∷ text) k e = elim (if_some (a == b) (with_byte a (c text)) None (Some k) e) [
       | inl u ↦ go (c text) refl u.1 (let same : a ≡ b = search (eqb-true, u.0) in same)
       | inr u ↦ absurd (let w = u.1 in cc)
     ]
@@ -232,7 +220,7 @@ after_cuts {P = P} {f = f} {r = r} {c = c} b h = record {
         let head : a ≡ b = cc in
         let tail : text ≡ d.0 ++ z = cc in
         let is : (a == b) ≡ true = search (eq-eqb, head) in
-        elim (choose (a == b) (with_byte a (c text)) None None e) [
+        elim (if_some (a == b) (with_byte a (c text)) None None e) [
           | inl u ↦ go (c text) refl u.1 tail
           | inr u ↦ let w = u.0 in cc
         ]
@@ -246,7 +234,7 @@ after_cuts {P = P} {f = f} {r = r} {c = c} b h = record {
 strip_some : (s text rest : Text) → strip s text ≡ Some rest → text ≡ s ++ rest
 strip_some [] text rest e = cc
 strip_some (a ∷ s) [] rest e = absurd cc
-strip_some (a ∷ s) (b ∷ text) rest e = elim (choose (a == b) (strip s text) None (Some rest) e) [
+strip_some (a ∷ s) (b ∷ text) rest e = elim (if_some (a == b) (strip s text) None (Some rest) e) [
   | inl u ↦ let same : a ≡ b = search (eqb-true, u.0) in let ih = strip_some s text rest u.1 in cc
   | inr u ↦ absurd (let w = u.1 in cc)
 ]
@@ -258,7 +246,7 @@ strip_none (a ∷ s) (b ∷ text) rest e g =
     let head : a ≡ b = cc in
     let tail : text ≡ s ++ rest = cc in
     let is : (a == b) ≡ true = search (eq-eqb, head) in
-    elim (choose (a == b) (strip s text) None None e) [ inl u ↦ strip_none s text rest u.1 tail | inr u ↦ let w = u.0 in cc ]
+    elim (if_some (a == b) (strip s text) None None e) [ inl u ↦ strip_none s text rest u.1 tail | inr u ↦ let w = u.0 in cc ]
 
 text_begins : {P : Type 0} (f : ℕ → Bool) (ss : List Text) (make : Text → P) → heads_are f ss ≡ true → (p : P) (x : Text) → one_text ss make p x → (b : ℕ) × (t : Text) × (x ≡ b ∷ t) × (f b ≡ true)
 text_begins f [] make e p x d = absurd d
@@ -266,7 +254,7 @@ text_begins f ([] ∷ ss) make e p x d = absurd cc
 text_begins f ((b ∷ s) ∷ ss) make e p x (inl d) = (b, s, d.0, and_left (f b) (heads_are f ss) e)
 text_begins f ((b ∷ s) ∷ ss) make e p x (inr d) = text_begins f ss make (and_right (f b) (heads_are f ss) e) p x d
 
-text_made : {P : Type 0} (ss : List Text) (make : Text → P) (p : P) (x : Text) → one_text ss make p x → p ≡ make x
+pub text_made : {P : Type 0} (ss : List Text) (make : Text → P) (p : P) (x : Text) → one_text ss make p x → p ≡ make x
 text_made [] make p x d = absurd d
 text_made (s ∷ ss) make p x (inl d) = d.1 ∙ ap make (sym d.0)
 text_made (s ∷ ss) make p x (inr d) = text_made ss make p x d
@@ -339,7 +327,7 @@ closes a b (c ∷ d ∷ y) z (inr w) = rw (w.0, closes a b (d ∷ y) z w.1) refl
 closed_some : (a b : ℕ) (text : Text) (p : Text × Text) → close_at a b text ≡ Some p → IsClosed a b p.0 × (text ≡ p.0 ++ p.1)
 closed_some a b [] p e = absurd cc
 closed_some a b (c ∷ []) p e = absurd cc
-closed_some a b (c ∷ d ∷ text) p e = elim (choose (c == a && d == b) (Some (c ∷ d ∷ [], text)) (longer_by c (close_at a b (d ∷ text))) (Some p) e) [
+closed_some a b (c ∷ d ∷ text) p e = elim (if_some (c == a && d == b) (Some (c ∷ d ∷ [], text)) (longer_by c (close_at a b (d ∷ text))) (Some p) e) [
   | inl u ↦ let same : (c ∷ d ∷ [], text) ≡ p = cc in subst (λ (q : Text × Text). IsClosed a b q.0 × (c ∷ d ∷ text ≡ q.0 ++ q.1)) same (inl (u.0, refl), refl)
   | inr u ↦ closed_step a b c d text p u.0 (close_at a b (d ∷ text)) refl u.1 (closed_some a b (d ∷ text))
 ]
@@ -357,7 +345,7 @@ closed_cuts {P = P} opener a b piece = record {
 
     closed_found : (text : Text) (k : Cut P) → closed_cut opener a b piece text ≡ Some k → closed opener a b piece k.piece k.bytes × IsLongest (closed opener a b piece) k.bytes text × (text ≡ k.bytes ++ k.rest)
     closed_found [] k e = absurd cc
-    closed_found (c ∷ text) k e = elim (choose (c == opener) (closed_of opener piece (close_at a b text)) None (Some k) e) [
+    closed_found (c ∷ text) k e = elim (if_some (c == opener) (closed_of opener piece (close_at a b text)) None (Some k) e) [
       | inl u ↦ go (close_at a b text) refl u.1 (let same : c ≡ opener = search (eqb-true, u.0) in same)
       | inr u ↦ absurd (let w = u.1 in cc)
     ]
@@ -387,7 +375,7 @@ closed_cuts {P = P} opener a b piece = record {
         let f = front c text y d.0 z d.2 g in
         let is : (c == opener) ≡ true = search (eq-eqb, f.0) in
         let reads : close_at a b text ≡ Some (d.0, z) = ap (close_at a b) f.1 ∙ closes a b d.0 z d.1 in
-        elim (choose (c == opener) (closed_of opener piece (close_at a b text)) None None e) [
+        elim (if_some (c == opener) (closed_of opener piece (close_at a b text)) None None e) [
           | inl u ↦ let w : closed_of opener piece (close_at a b text) ≡ None = u.1 in let v = ap (closed_of opener piece) reads in cc
           | inr u ↦ let w = u.0 in cc
         ]

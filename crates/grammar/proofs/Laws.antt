@@ -1,5 +1,6 @@
 -- What a reader takes from the front is what the language allows there.
 use Rattle.std.proofs.Common.{◌≡◌, ℕ, Bool, true, false, not, ◌&&◌, ◌||◌, ◌==◌, List, [], ◌∷◌, ◌++◌, Some, refl, ap, eqb-true}
+use Rattle.std.proofs.lemmas.Bool.{or_right}
 use Rattle.grammar.specs.Lang.{Lang, has}
 use Rattle.grammar.specs.Reader.{Reader, starts}
 use Rattle.grammar.specs.Sets.{apart, covers}
@@ -38,17 +39,13 @@ covers-not js ks k e h = go (has ks k) refl
     go false is = refl
     go true is = let w = covers-has js ks k e is in cc
 
-or_left : (b c d : Bool) → (c ≡ true → d ≡ true) → (b || c) ≡ true → (b || d) ≡ true
-or_left true c d ih h = refl
-or_left false c d ih h = ih h
-
-or_right : (b d : Bool) → d ≡ true → (b || d) ≡ true
-or_right true d h = refl
-or_right false d h = h
+or_more : (b c d : Bool) → (c ≡ true → d ≡ true) → (b || c) ≡ true → (b || d) ≡ true
+or_more true c d ih h = refl
+or_more false c d ih h = ih h
 
 pub has-left : (ks js : List ℕ) (k : ℕ) → has ks k ≡ true → has (ks ++ js) k ≡ true
 has-left [] js k h = absurd cc
-has-left (j ∷ ks) js k h = or_left (j == k) (has ks k) (has (ks ++ js) k) (has-left ks js k) h
+has-left (j ∷ ks) js k h = or_more (j == k) (has ks k) (has (ks ++ js) k) (has-left ks js k) h
 
 pub has-right : (ks js : List ℕ) (k : ℕ) → has js k ≡ true → has (ks ++ js) k ≡ true
 has-right [] js k h = h

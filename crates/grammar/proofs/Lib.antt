@@ -4,3 +4,8 @@ pub mod Plain
 pub mod Depth
 pub mod Loops
 pub mod Cutting
+pub mod Begun
+pub mod Closing
+pub mod Runs
+pub mod Keys
+pub mod Decimals

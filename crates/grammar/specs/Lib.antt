@@ -3,3 +3,4 @@ pub mod Reader
 pub mod Sets
 pub mod Loops
 pub mod Pieces
+pub mod Bytes

@@ -1,0 +1,12 @@
+use Rattle.std.proofs.Common.{ap, arith}
+use Rattle.std.proofs.lemmas.Int.{ints}
+use Rattle.cif_base.specs.Bounds.{Bounds, add_bounds}
+use Rattle.cif_base.proofs.interval.Iv.add.Goals as goal
+
+pub returns : goal.returns
+returns c =
+    let p = ap (λ (b : Bounds). b.lo) c.self.view_is in
+    let q = ap (λ (b : Bounds). b.hi) c.self.view_is in
+    let s = ap (λ (b : Bounds). b.lo) c.other.view_is in
+    let t = ap (λ (b : Bounds). b.hi) c.other.view_is in
+    c.narrowed.ensures (add_bounds c.args.self c.args.other) (omega (arith, ints)) (omega (arith, ints))
