@@ -1,3 +1,3 @@
-pub mod CountLemmas
+pub mod ThroughoutLemmas
 pub mod Rows
 pub mod ViewLemmas

@@ -1,5 +1,5 @@
 -- Worked examples of the definitions, at values as the code builds them.
-use Rattle.std.proofs.Common.{◌≡◌, pos, Bool, true, false, List, [], ◌∷◌, Some, None, refl}
+use Rattle.std.proofs.Common.{◌≡◌, pos, neg_ℤ, Bool, true, false, List, [], ◌∷◌, Some, None, refl, arith}
 use Rattle.std.specs.Prelude.{codes}
 use Rattle.cif_ast.specs.declared.names.Ident.{Ident}
 use Rattle.cif_ast.specs.declared.names.Name.{Name}
@@ -17,12 +17,15 @@ use Rattle.cif_ast.specs.declared.edges.UpdateBranch.{roll-UpdateBranch}
 use Rattle.cif_ast.specs.declared.edges.Loc.{Loc}
 use Rattle.cif_ast.specs.declared.components.Body.{Body}
 use Rattle.cif_ast.specs.declared.components.Body.TheVariants as body
+use Rattle.cif_ast.specs.declared.components.Item.{Item}
 use Rattle.cif_ast.specs.declared.components.Item.TheVariants as item
 use Rattle.cif_ast.specs.declared.components.Comp.{roll-Comp}
 use Rattle.cif_ast.specs.declared.components.Def.{roll-Def}
-use Rattle.cif_ast.specs.View.{view}
-use Rattle.cif_ast.specs.Depth.{depth}
-use Rattle.cif_ast.specs.Countable.{count_of_decl, count_of_update, count_of_loc, count_of_item, count_of_spec, IsWholeName, IsWholeExpr, IsWholeDecl}
+use Rattle.cif_ast.specs.View.{view, view_update}
+use Rattle.cif_ast.specs.Depth.{depth, update_depth, component_depth}
+use Rattle.cif_ast.specs.Throughout.{HoldsInTree, HoldsInDecl}
+use Rattle.cif_ast.specs.Countable.{count_of_decl, count_of_update, count_of_loc, count_of_item, count_of_spec, whole_parts}
+use Rattle.cif_ast.specs.SmallNumbers.{IsSmallNumber, HasSmallNumbers}
 use Rattle.cif_ast.proofs.ViewLemmas.{views}
 
 abbrev expr : Form → Expr
@@ -40,6 +43,15 @@ x = record { text = codes "x"; at = 0 }
 abbrev name_of : List Ident → Name
 name_of parts = record { from_root = false; parts = parts; at = 0 }
 
+abbrev set_x : Update
+set_x = update.Set (name_of (x ∷ [])) one
+
+abbrev group_with : List Item → Item
+group_with is = item.Comp (roll-Comp (record { name = x; body = body.Group is }))
+
+abbrev definition_with : List Item → Item
+definition_with is = item.Def (roll-Def (record { name = x; params = []; body = body.Group is }))
+
 -- ---- depth
 
 depth_of_literal : depth (view one) ≡ 0
@@ -51,9 +63,26 @@ depth_of_paren = simp views refl
 depth_of_sum : depth (view (expr (form.Sum one (further false one ∷ further true one ∷ [])))) ≡ 1
 depth_of_sum = simp views refl
 
+depth_of_negated_paren : depth (view (expr (form.Neg (expr (form.Paren (expr (form.Sum one (further false one ∷ further true one ∷ [])))))))) ≡ 3
+depth_of_negated_paren = simp views refl
+
 -- the condition is the deepest part
 depth_of_choice : depth (view (expr (form.If (roll-Branch (record { conds = one ∷ expr (form.Neg (expr (form.Paren one))) ∷ []; value = one }) ∷ []) one))) ≡ 3
 depth_of_choice = simp views refl
+
+depth_of_assignment : update_depth (view_update set_x) ≡ 0
+depth_of_assignment = simp views refl
+
+-- what stands after `else` is the deepest
+depth_of_nested_if : update_depth (view_update (update.If (roll-UpdateBranch (record { conds = one ∷ []; updates = set_x ∷ [] }) ∷ []) (update.If [] (set_x ∷ []) ∷ []))) ≡ 2
+depth_of_nested_if = simp views refl
+
+-- a group in a definition in a group, beside a group
+depth_of_components : component_depth (record { items = group_with (definition_with (group_with [] ∷ []) ∷ []) ∷ group_with [] ∷ [] }) ≡ 2
+depth_of_components = simp views refl
+
+depth_without_components : component_depth (record { items = item.Decl (decl.Marked one) ∷ [] }) ≡ 0
+depth_without_components = simp views refl
 
 -- ---- counts
 
@@ -65,9 +94,6 @@ equation_counts_once = refl
 
 marking_does_not_count : count_of_decl (decl.Marked one) ≡ 0
 marking_does_not_count = refl
-
-abbrev set_x : Update
-set_x = update.Set (name_of (x ∷ [])) one
 
 assignments_count_at_any_depth : count_of_update (update.If (roll-UpdateBranch (record { conds = one ∷ []; updates = set_x ∷ set_x ∷ [] }) ∷ []) (set_x ∷ [])) ≡ 3
 assignments_count_at_any_depth = simp views refl
@@ -100,17 +126,31 @@ empty_specification_counts = refl
 
 -- ---- whole values
 
-paren_is_as_whole : (e : Expr) → IsWholeExpr (expr (form.Paren e)) ≡ IsWholeExpr e
+paren_is_as_whole : (e : Expr) → HoldsInTree whole_parts (view (expr (form.Paren e))) ≡ HoldsInTree whole_parts (view e)
 paren_is_as_whole e = simp views refl
 
-name_with_a_part_is_whole : IsWholeName (name_of (x ∷ []))
+name_with_a_part_is_whole : whole_parts.of_name (name_of (x ∷ []))
 name_with_a_part_is_whole = λ e. cc
 
-name_without_a_part_is_not : IsWholeExpr (expr (form.Named (name_of []))) → ⊥
+name_without_a_part_is_not : HoldsInTree whole_parts (view (expr (form.Named (name_of [])))) → ⊥
 name_without_a_part_is_not h = let k = simp views at h in k refl
 
-branch_without_a_condition_is_not : IsWholeExpr (expr (form.If (roll-Branch (record { conds = []; value = one }) ∷ []) one)) → ⊥
+branch_without_a_condition_is_not : HoldsInTree whole_parts (view (expr (form.If (roll-Branch (record { conds = []; value = one }) ∷ []) one))) → ⊥
 branch_without_a_condition_is_not h = let k = simp views at h in k.0.0 refl
 
-type_is_as_whole_as_its_name : (n : Name) → IsWholeDecl (decl.Input (type_use.Named n) x) ≡ IsWholeName n
+type_is_as_whole_as_its_name : (n : Name) → HoldsInDecl whole_parts (decl.Input (type_use.Named n) x) ≡ whole_parts.of_name n
 type_is_as_whole_as_its_name n = refl
+
+-- ---- small numbers
+
+greatest_number_is_small : IsSmallNumber (pos 2147483647)
+greatest_number_is_small = (2147483647, refl, omega arith)
+
+number_above_it_is_not : IsSmallNumber (pos 2147483648) → ⊥
+number_above_it_is_not (n, e, l) = let same : 2147483648 ≡ n = cc in omega (arith, same, l)
+
+negative_number_is_not : IsSmallNumber (neg_ℤ (pos 1)) → ⊥
+negative_number_is_not (n, e, l) = cc
+
+enumeration_without_literals_is_not : HasSmallNumbers (record { items = item.Decl (decl.Enum x []) ∷ [] }) → ⊥
+enumeration_without_literals_is_not h = let k = simp views at h in let none = k.0.0 in omega (arith, none)

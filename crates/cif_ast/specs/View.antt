@@ -135,12 +135,12 @@ view_update_branches bs = update_branches_of (map view_update_branch bs)
 
 -- ---- items
 
-abbrev pub items_of : List ItemTree → ItemTrees
-items_of [] = no_items
-items_of (i ∷ is) = items i (items_of is)
+abbrev pub item_trees_of : List ItemTree → ItemTrees
+item_trees_of [] = no_items
+item_trees_of (i ∷ is) = items i (item_trees_of is)
 
 abbrev pub body_step : Body-F BodyTree ItemTree (Ident × BodyTree) (Ident × List Param × BodyTree) → BodyTree
-body_step (B.Group is) = group (items_of is)
+body_step (B.Group is) = group (item_trees_of is)
 body_step (B.Auto a) = automaton a
 
 abbrev pub item_step : Item-F BodyTree ItemTree (Ident × BodyTree) (Ident × List Param × BodyTree) → ItemTree
@@ -168,4 +168,4 @@ abbrev pub view_def : Def → Ident × List Param × BodyTree
 view_def = fold-Def _ _ _ _ body_step item_step comp_step def_step
 
 abbrev pub view_items : List Item → ItemTrees
-view_items is = items_of (map view_item is)
+view_items is = item_trees_of (map view_item is)

@@ -15,6 +15,3 @@ pub use depths::depth;
 pub use edges::{Edge, EventUse, Loc, LocEquation, Role, Update, UpdateBranch};
 pub use expressions::{Branch, CmpOp, Expr, Factor, Form, MulOp, Term};
 pub use names::{Ident, Name};
-
-#[cfg(test)]
-mod tests;

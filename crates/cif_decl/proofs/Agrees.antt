@@ -21,7 +21,7 @@ use Rattle.cif_ast.specs.declared.declarations.Decl.{Decl}
 use Rattle.cif_ast.specs.declared.declarations.Decl.TheVariants as decl
 use Rattle.cif_ast.specs.declared.declarations.Inv.{Inv}
 use Rattle.cif_ast.specs.declared.declarations.Inv.TheVariants as inv
-use Rattle.cif_expr.specs.Kinds.{sort, codes_of, word, sign}
+use Rattle.cif_expr.specs.TokenKinds.{sort, codes_of, word, sign}
 use Rattle.cif_expr.specs.Trees.{second, middle}
 use Rattle.cif_expr.specs.Grammar.{ident, name, names, separated, IsExpr}
 use Rattle.cif_expr.specs.Reading.{first, first_word, first_sign, word_at, name_at, expr_at, separated_at}

@@ -15,7 +15,7 @@ use Rattle.cif_ast.specs.declared.names.Name.{Name}
 use Rattle.cif_ast.specs.declared.expressions.Expr.{Expr}
 use Rattle.cif_ast.specs.declared.declarations.TypeUse.{TypeUse}
 use Rattle.cif_ast.specs.declared.declarations.Chan.{Chan}
-use Rattle.cif_expr.specs.Kinds.{sort, codes_of, sign}
+use Rattle.cif_expr.specs.TokenKinds.{sort, codes_of, sign}
 use Rattle.cif_expr.specs.Trees as form
 use Rattle.cif_expr.specs.Grammar.{ident, name, separated, IsExpr}
 use Rattle.cif_expr.specs.Reading.{first, first_word, first_sign, name_at}

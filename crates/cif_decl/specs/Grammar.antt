@@ -20,7 +20,7 @@ use Rattle.cif_ast.specs.declared.declarations.Decl.TheVariants as decl
 use Rattle.cif_ast.specs.declared.declarations.Inv.{Inv}
 use Rattle.cif_ast.specs.declared.declarations.Inv.TheVariants as inv
 use Rattle.cif_ast.specs.declared.declarations.Param.{Param}
-use Rattle.cif_expr.specs.Kinds.{word, sign, any_of}
+use Rattle.cif_expr.specs.TokenKinds.{word, sign, any_of}
 use Rattle.cif_expr.specs.Trees.{second, middle}
 use Rattle.cif_expr.specs.Grammar.{ident, name, ids, names, separated, IsExpr}
 use Rattle.cif_decl.specs.Trees as tree

@@ -1,4 +1,4 @@
--- Reading types, declarations and parameters.
+-- Helper of the code: reading types, declarations and parameters.
 use Rattle.std.specs.Prelude.{ℕ, Bool, false, not, ◌&&◌, ◌||◌, List, [], ◌∷◌, Option, Some, None}
 use Rattle.grammar.specs.Pieces.{Text}
 use Rattle.grammar.specs.Lang.{flat}
@@ -19,7 +19,7 @@ use Rattle.cif_ast.specs.declared.declarations.Decl.{Decl}
 use Rattle.cif_ast.specs.declared.declarations.Decl.TheVariants as decl
 use Rattle.cif_ast.specs.declared.declarations.Inv.{Inv}
 use Rattle.cif_ast.specs.declared.declarations.Param.{Param}
-use Rattle.cif_expr.specs.Kinds.{sort, codes_of}
+use Rattle.cif_expr.specs.TokenKinds.{sort, codes_of}
 use Rattle.cif_expr.specs.Trees.{second, middle}
 use Rattle.cif_expr.specs.Reading.{any_at, word_at, sign_at, first, first_word, first_sign, ident_at, name_at, expr_at, separated_at}
 use Rattle.cif_expr.specs.Parts.{ids_at, names_at}
@@ -181,7 +181,7 @@ module _ (text : Text) where
 
   -- an identifier and a colon before an invariant
   unfoldable pub labelled_at : Reader Token Inv
-  labelled_at = map_at (λ v. v.1.1) (both_at (ident_at text) (both_at (sign_at m.Colon) invariant_at))
+  labelled_at = map_at (λ (name, (colon, i)). i) (both_at (ident_at text) (both_at (sign_at m.Colon) invariant_at))
 
   unfoldable pub named_invariant_at : Reader Token Inv
   named_invariant_at = when_at is_labelled labelled_at invariant_at

@@ -18,14 +18,14 @@ use Rattle.cif_ast.specs.declared.declarations.Inv.{Inv}
 use Rattle.cif_ast.specs.declared.declarations.Inv.TheVariants as inv
 use Rattle.cif_ast.specs.declared.declarations.Param.{Param}
 use Rattle.cif_ast.specs.declared.declarations.Param.TheVariants as param
-use Rattle.cif_expr.specs.Kinds.{code}
+use Rattle.cif_expr.specs.TokenKinds.{code}
 
 abbrev pub bounds : Token × (Expr × (Token × (Expr × Token))) → Expr × Expr
-bounds v = (v.1.0, v.1.1.1.0)
+bounds (left, (lower, (dots, (upper, right)))) = (lower, upper)
 
 abbrev pub integer : Option (Expr × Expr) → TypeUse
 integer None = type.Int
-integer (Some b) = type.Range b.0 b.1
+integer (Some (lower, upper)) = type.Range lower upper
 
 abbrev pub class_of : Token → Class
 class_of t =
@@ -39,28 +39,28 @@ channel_or (Some c) = c
 -- ---- declarations
 
 abbrev pub named_type : Ident × (Token × TypeUse) → Decl
-named_type v = decl.TypeName v.0 v.1.1
+named_type (name, (is, ty)) = decl.TypeName name ty
 
 abbrev pub enumeration : Token × (Ident × (Token × (List Ident × Token))) → Decl
-enumeration v = decl.Enum v.1.0 v.1.1.1.0
+enumeration (word, (name, (is, (literals, end)))) = decl.Enum name literals
 
 abbrev pub event : Class → Chan → Ident → Decl
 event k c name = decl.Event k c name
 
 abbrev pub constant : TypeUse → Ident × (Token × Expr) → Decl
-constant ty v = decl.Const ty v.0 v.1.1
+constant ty (name, (is, value)) = decl.Const ty name value
 
 abbrev pub algebraic : TypeUse → Ident × Option Expr → Decl
-algebraic ty v = decl.Alg ty v.0 v.1
+algebraic ty (name, value) = decl.Alg ty name value
 
 abbrev pub discrete : TypeUse → Ident × Option Expr → Decl
-discrete ty v = decl.Disc ty v.0 v.1
+discrete ty (name, value) = decl.Disc ty name value
 
 abbrev pub input : TypeUse → Ident → Decl
 input ty name = decl.Input ty name
 
 abbrev pub equation : Token × (Ident × (Token × (Expr × Token))) → Decl
-equation v = decl.Equation v.1.0 v.1.1.1.0
+equation (word, (name, (is, (value, end)))) = decl.Equation name value
 
 -- ---- invariants
 
@@ -68,10 +68,10 @@ abbrev pub single : {A : Type 0} → A → List A
 single a = a ∷ []
 
 abbrev pub needs : List Name × (Token × Expr) → Inv
-needs v = inv.Needs v.0 v.1.1
+needs (events, (word, p)) = inv.Needs events p
 
 abbrev pub disables : Expr × (Token × List Name) → Inv
-disables v = inv.Disables v.0 v.1.1
+disables (p, (word, events)) = inv.Disables p events
 
 -- a predicate alone, or with the events that it disables
 abbrev pub state_or : Expr → Option (List Name) → Inv

@@ -6,6 +6,7 @@ ghost use Rattle.cif_decl.specs.Reading as reading;
 
 use crate::events::events;
 use crate::invariants::{invariants, kind_invariants};
+use crate::sight::begins_declaration;
 use crate::types::type_use;
 use crate::values::{Algebraic, Constant, Discrete, Input, Marking, NamedType};
 use cif_ast::Decl;
@@ -162,22 +163,7 @@ pub fn plain_declaration<'a>(
 pub fn declaration<'a>(alloc: Global, text: &[u8], tokens: &'a [Token]) -> Read<'a, Items<Decl>>
     ensures { Gives (λ x. (x.0, x.1.now)) result (reading.declaration_at text.now tokens.now) }
 {
-    if starts(
-        tokens,
-        &[
-            TokenKind::Reserved(Word::Type),
-            TokenKind::Reserved(Word::Enum),
-            TokenKind::Reserved(Word::Event),
-            TokenKind::Reserved(Word::Controllable),
-            TokenKind::Reserved(Word::Uncontrollable),
-            TokenKind::Reserved(Word::Const),
-            TokenKind::Reserved(Word::Alg),
-            TokenKind::Reserved(Word::Input),
-            TokenKind::Reserved(Word::Equation),
-            TokenKind::Reserved(Word::Invariant),
-            TokenKind::Reserved(Word::Marked),
-        ],
-    ) {
+    if begins_declaration(tokens) {
         plain_declaration(alloc, text, tokens)
     } else {
         kind_invariants(alloc, text, tokens)

@@ -13,7 +13,4 @@ mod values;
 pub use declarations::{declaration, disc_declaration, plain_declaration};
 pub use invariants::{component_kind, kind_invariants};
 pub use parameter_parts::{given, parameters};
-pub use sight::is_component;
-
-#[cfg(test)]
-mod tests;
+pub use sight::{begins_declaration, is_component};

@@ -1,10 +1,34 @@
 //! What comes next, where one token does not tell.
 
 ghost use Rattle.std.specs.Prelude.{◌≡◌};
+ghost use Rattle.grammar.specs.Reader as reader;
+ghost use Rattle.cif_expr.specs.TokenKinds as kinds;
 ghost use Rattle.cif_decl.specs.Reading as reading;
 
 use cif_expr::starts;
 use cif_lex::{Mark, Token, TokenKind, Word};
+
+/// Whether a declaration begins here that doesn't begin with a kind.
+pub fn begins_declaration(tokens: &[Token]) -> bool
+    ensures { result ≡ reader.starts kinds.sort reading.plain_first tokens.now }
+{
+    starts(
+        tokens,
+        &[
+            TokenKind::Reserved(Word::Type),
+            TokenKind::Reserved(Word::Enum),
+            TokenKind::Reserved(Word::Event),
+            TokenKind::Reserved(Word::Controllable),
+            TokenKind::Reserved(Word::Uncontrollable),
+            TokenKind::Reserved(Word::Const),
+            TokenKind::Reserved(Word::Alg),
+            TokenKind::Reserved(Word::Input),
+            TokenKind::Reserved(Word::Equation),
+            TokenKind::Reserved(Word::Invariant),
+            TokenKind::Reserved(Word::Marked),
+        ],
+    )
+}
 
 /// Whether an identifier comes, and after it neither an identifier nor a dot, so that it is no type.
 #[tactic(auto, unfolding(crate::specs::Reading::is_bare))]

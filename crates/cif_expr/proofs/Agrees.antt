@@ -14,7 +14,7 @@ use Rattle.cif_lex.specs.declared.token.Word.TheVariants as w
 use Rattle.cif_lex.specs.declared.token.Mark.{Mark}
 use Rattle.cif_lex.specs.declared.token.Mark.TheVariants as m
 use Rattle.cif_ast.specs.declared.expressions.Expr.{Expr}
-use Rattle.cif_expr.specs.Kinds.{sort, codes_of, kind, word, sign}
+use Rattle.cif_expr.specs.TokenKinds.{sort, codes_of, kind, word, sign}
 use Rattle.cif_expr.specs.Spelling.{is_small}
 use Rattle.cif_expr.specs.Trees as tree
 use Rattle.cif_expr.specs.Grammar.{Level, at_expr, at_or, at_and, at_cmp, at_sum, at_prod, at_un, ident, name, number, exprs, branch, otherwise, prim, un, prod, sum, cmp, and, or, expr, level, below, max_depth}

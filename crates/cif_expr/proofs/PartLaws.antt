@@ -10,7 +10,7 @@ use Rattle.cif_lex.specs.declared.token.Token.{Token}
 use Rattle.cif_lex.specs.declared.token.TokenKind.TheVariants.{Id, Sign}
 use Rattle.cif_lex.specs.declared.token.Mark.{Mark}
 use Rattle.cif_lex.specs.declared.token.Mark.TheVariants as m
-use Rattle.cif_expr.specs.Kinds.{sort, codes_of}
+use Rattle.cif_expr.specs.TokenKinds.{sort, codes_of}
 use Rattle.cif_expr.specs.Trees as tree
 use Rattle.cif_expr.specs.Grammar.{separated, ids, names, expr_list}
 use Rattle.cif_expr.specs.Reading.{first, first_sign, after_sign_at, separated_at}

@@ -3,7 +3,7 @@ use Rattle.std.proofs.Common.{◌+◌, ◌≤◌, ◌<◌, false, arith}
 use Rattle.grammar.specs.Pieces.{Text}
 use Rattle.grammar.proofs.Laws.{Takes}
 use Rattle.grammar.proofs.Depth.{Nests, whole_takes}
-use Rattle.cif_expr.specs.Kinds.{sort}
+use Rattle.cif_expr.specs.TokenKinds.{sort}
 use Rattle.cif_expr.specs.Grammar.{expr, below, max_depth, IsExpr}
 use Rattle.cif_expr.specs.Reading.{un_at, expr_from, expr_at}
 use Rattle.cif_expr.proofs.Agrees.{un_first, expr_goes, un_at_nests, expr_nests}

@@ -1,4 +1,4 @@
--- What a reader of the code ensures: what reading the list gives, unless memory runs out.
+-- Helper of the code: what a reader ensures, what reading the list gives, unless memory runs out.
 use Rattle.std.specs.Prelude.{◌≡◌, Option, Some, None, Result, Ok, Err}
 use Rattle.cif_expr.specs.declared.error.ReadError.{ReadError}
 use Rattle.cif_expr.specs.declared.error.ReadError.TheVariants.{Memory, NotRead, TooDeep}

@@ -11,7 +11,7 @@ use Rattle.cif_ast.specs.declared.names.Ident.{Ident}
 use Rattle.cif_ast.specs.declared.names.Name.{Name}
 use Rattle.cif_ast.specs.declared.expressions.Expr.{Expr}
 use Rattle.cif_ast.specs.declared.expressions.Branch.{Branch}
-use Rattle.cif_expr.specs.Kinds.{kind, word, sign, any_of}
+use Rattle.cif_expr.specs.TokenKinds.{kind, word, sign, any_of}
 use Rattle.cif_expr.specs.Spelling.{is_small}
 use Rattle.cif_expr.specs.Trees as tree
 

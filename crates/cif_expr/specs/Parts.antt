@@ -1,4 +1,4 @@
--- Readers of parts that stand one after the other.
+-- Helper of the code: readers of parts that stand one after the other.
 use Rattle.std.specs.Prelude.{List}
 use Rattle.grammar.specs.Lang.{flat}
 use Rattle.grammar.specs.Reader.{Reader, map_at, many_at}
@@ -10,7 +10,7 @@ use Rattle.cif_lex.specs.declared.token.Mark.TheVariants as m
 use Rattle.cif_ast.specs.declared.names.Ident.{Ident}
 use Rattle.cif_ast.specs.declared.names.Name.{Name}
 use Rattle.cif_ast.specs.declared.expressions.Expr.{Expr}
-use Rattle.cif_expr.specs.Kinds.{sort, codes_of}
+use Rattle.cif_expr.specs.TokenKinds.{sort, codes_of}
 use Rattle.cif_expr.specs.Reading.{separated_at, ident_at, name_at, expr_at}
 
 -- lists that begin with these kinds of token, as one list

@@ -1,4 +1,4 @@
--- Reading names and expressions with one token of sight.
+-- Helper of the code: reading names and expressions with one token of sight.
 use Rattle.std.specs.Prelude.{ℕ, zero, suc, true, false, Option, List, [], ◌∷◌}
 use Rattle.grammar.specs.Pieces.{Text}
 use Rattle.grammar.specs.Reader.{Reader, Deep, one_at, none_at, both_at, map_at, such_at, either_at, optional_at, list_at, flat_at, deep_both, deep_map, deep_list, inside, chain_at, suffix_at}
@@ -15,7 +15,7 @@ use Rattle.cif_ast.specs.declared.expressions.Expr.{Expr}
 use Rattle.cif_ast.specs.declared.expressions.Term.{Term}
 use Rattle.cif_ast.specs.declared.expressions.Factor.{Factor}
 use Rattle.cif_ast.specs.declared.expressions.Branch.{Branch}
-use Rattle.cif_expr.specs.Kinds.{sort, codes_of}
+use Rattle.cif_expr.specs.TokenKinds.{sort, codes_of}
 use Rattle.cif_expr.specs.Spelling.{is_small}
 use Rattle.cif_expr.specs.Trees as tree
 use Rattle.cif_expr.specs.Grammar.{max_depth}

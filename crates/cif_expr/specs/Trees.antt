@@ -18,7 +18,7 @@ use Rattle.cif_ast.specs.declared.expressions.Expr.{Expr, out-Expr, roll-Expr}
 use Rattle.cif_ast.specs.declared.expressions.Term.{Term, roll-Term}
 use Rattle.cif_ast.specs.declared.expressions.Factor.{Factor, roll-Factor}
 use Rattle.cif_ast.specs.declared.expressions.Branch.{Branch, roll-Branch}
-use Rattle.cif_expr.specs.Kinds.{code}
+use Rattle.cif_expr.specs.TokenKinds.{code}
 use Rattle.cif_expr.specs.Spelling.{spelling, value}
 
 abbrev pub node : ℕ → Form → Expr
@@ -29,10 +29,10 @@ unfoldable pub place : Expr → ℕ
 place e = (out-Expr e).at
 
 abbrev pub second : {A B : Type 0} → A × B → B
-second v = v.1
+second (before, kept) = kept
 
 abbrev pub middle : {A B C : Type 0} → A × (B × C) → B
-middle v = v.1.0
+middle (before, (kept, after)) = kept
 
 -- ---- names
 
@@ -50,7 +50,7 @@ from_root None = false
 from_root (Some dot) = true
 
 abbrev pub name : Option Token × List Ident → Name
-name v = record { from_root = from_root v.0; parts = v.1; at = name_place v.0 v.1 }
+name (dot, parts) = record { from_root = from_root dot; parts = parts; at = name_place dot parts }
 
 -- ---- what stands alone or in brackets
 
@@ -67,33 +67,33 @@ abbrev pub received : Token → Expr
 received t = node t.span.from f.Received
 
 abbrev pub paren : Token × (Expr × Token) → Expr
-paren v = node v.0.span.from (f.Paren v.1.0)
+paren (left, (e, right)) = node left.span.from (f.Paren e)
 
 abbrev pub abs : Token × (Token × (Expr × Token)) → Expr
-abs v = node v.0.span.from (f.Abs v.1.1.0)
+abs (word, (left, (e, right))) = node word.span.from (f.Abs e)
 
 abbrev pub least : Token × (Token × (Expr × (Token × (Expr × Token)))) → Expr
-least v = node v.0.span.from (f.Min v.1.1.0 v.1.1.1.1.0)
+least (word, (left, (a, (comma, (b, right))))) = node word.span.from (f.Min a b)
 
 abbrev pub greatest : Token × (Token × (Expr × (Token × (Expr × Token)))) → Expr
-greatest v = node v.0.span.from (f.Max v.1.1.0 v.1.1.1.1.0)
+greatest (word, (left, (a, (comma, (b, right))))) = node word.span.from (f.Max a b)
 
 abbrev pub branch : List Expr × (Token × Expr) → Branch
-branch v = roll-Branch (record { conds = v.0; value = v.1.1 })
+branch (conditions, (colon, value)) = roll-Branch (record { conds = conditions; value = value })
 
 abbrev pub choice : Token × (List Branch × Expr) → Expr
-choice v = node v.0.span.from (f.If v.1.0 v.1.1)
+choice (word, (branches, other)) = node word.span.from (f.If branches other)
 
 -- ---- operands with a sign
 
 abbrev pub negative : Token × Expr → Expr
-negative v = node v.0.span.from (f.Neg v.1)
+negative (sign, e) = node sign.span.from (f.Neg e)
 
 abbrev pub positive : Token × Expr → Expr
-positive v = node v.0.span.from (f.Plus v.1)
+positive (sign, e) = node sign.span.from (f.Plus e)
 
 abbrev pub negation : Token × Expr → Expr
-negation v = node v.0.span.from (f.Not v.1)
+negation (word, e) = node word.span.from (f.Not e)
 
 -- ---- operators between operands
 
@@ -101,7 +101,7 @@ abbrev pub mul_op : TokenKind → MulOp
 mul_op k = if code k == code (Reserved w.Div) then mul.Div else (if code k == code (Reserved w.Mod) then mul.Mod else mul.Times)
 
 abbrev pub factor : Token × Expr → Factor
-factor v = roll-Factor (record { op = mul_op v.0.kind; value = v.1 })
+factor (sign, e) = roll-Factor (record { op = mul_op sign.kind; value = e })
 
 abbrev pub product : Expr → List Factor → Expr
 product first rest = node (place first) (f.Product first rest)
@@ -110,7 +110,7 @@ abbrev pub is_minus : TokenKind → Bool
 is_minus k = code k == code (Sign m.Minus)
 
 abbrev pub term : Token × Expr → Term
-term v = roll-Term (record { minus = is_minus v.0.kind; value = v.1 })
+term (sign, e) = roll-Term (record { minus = is_minus sign.kind; value = e })
 
 abbrev pub sum : Expr → List Term → Expr
 sum first rest = node (place first) (f.Sum first rest)
@@ -122,7 +122,7 @@ cmp_op k =
     else (if code k == code (Sign m.Greater) then cmp.Gt else cmp.Ge))))
 
 abbrev pub comparison : Expr → Token × Expr → Expr
-comparison left v = node (place left) (f.Compare left (cmp_op v.0.kind) v.1)
+comparison left (sign, right) = node (place left) (f.Compare left (cmp_op sign.kind) right)
 
 abbrev pub conjunction : Expr → List Expr → Expr
 conjunction first rest = node (place first) (f.And (first ∷ rest))
@@ -134,4 +134,4 @@ abbrev pub implied : TokenKind → Expr → Expr → Form
 implied k left right = if code k == code (Sign m.Implies) then f.Implies left right else f.Iff left right
 
 abbrev pub implication : Expr → Token × Expr → Expr
-implication left v = node (place left) (implied v.0.kind left v.1)
+implication left (sign, right) = node (place left) (implied sign.kind left right)

@@ -4,7 +4,7 @@ ghost use Rattle.std.specs.Prelude.{◌≡◌};
 ghost use Rattle.cif_lex.specs.declared.token.Word.TheVariants as w;
 ghost use Rattle.grammar.specs.Reader as reader;
 ghost use Rattle.cif_expr.specs.Gives.{Gives};
-ghost use Rattle.cif_expr.specs.Kinds as kinds;
+ghost use Rattle.cif_expr.specs.TokenKinds as kinds;
 ghost use Rattle.cif_expr.specs.Reading as reading;
 ghost use Rattle.cif_expr.specs.ReadsUn.{ReadsUn};
 

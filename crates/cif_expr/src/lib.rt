@@ -17,6 +17,3 @@ pub use expressions::{ExprListPart, ExprPart, expr, expr_list};
 pub use naming::{IdentPart, NamePart, NamesPart, ident, ids, name, names};
 pub use parts::{Part, fitted, joined, joined_list, only, optional, repeated, separated};
 pub use tokens::{Read, any_of, code, kind, sign, starts, word};
-
-#[cfg(test)]
-mod tests;

@@ -7,7 +7,7 @@ ghost use Rattle.cif_lex.specs.declared.token.TokenKind.TheVariants.{Reserved as
 ghost use Rattle.grammar.specs.Loops.{deep_after};
 ghost use Rattle.grammar.specs.Reader as reader;
 ghost use Rattle.cif_expr.specs.Gives.{Gives};
-ghost use Rattle.cif_expr.specs.Kinds as kinds;
+ghost use Rattle.cif_expr.specs.TokenKinds as kinds;
 ghost use Rattle.cif_expr.specs.Reading as reading;
 ghost use Rattle.cif_expr.specs.ReadsUn.{ReadsUn};
 ghost use Rattle.cif_expr.specs.Trees as tree;

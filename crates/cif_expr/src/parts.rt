@@ -4,7 +4,7 @@ ghost use Rattle.std.specs.Prelude.{◌≡◌, [], ◌∷◌, IfOk};
 ghost use Rattle.grammar.specs.Lang.{flat};
 ghost use Rattle.grammar.specs.Reader as reader;
 ghost use Rattle.grammar.specs.Loops.{after, flat_after};
-ghost use Rattle.cif_expr.specs.Kinds as kinds;
+ghost use Rattle.cif_expr.specs.TokenKinds as kinds;
 ghost use Rattle.cif_expr.specs.Reading as reading;
 ghost use Rattle.cif_expr.specs.Parts as parts;
 ghost use Rattle.cif_expr.specs.Gives.{Gives};

@@ -1,8 +1,10 @@
 -- What is found at the front of a text, said of the pieces that begin there.
 use Rattle.std.proofs.Common.{◌≡◌, ◌==◌, ℕ, ◌<◌, Bool, true, false, ◌&&◌, if◌then◌else◌, nat_le, List, [], ◌∷◌, ◌++◌, Option, Some, None, Ok, Err, refl, sym, ap, subst, ◌∙◌, inl, inr, arith, leb-true}
 use Rattle.std.proofs.lemmas.Bool.Decides.{nat_tests}
-use Rattle.grammar.specs.Pieces.{Text, Cut, IsLongest, one_text}
-use Rattle.grammar.proofs.Texts.{and_left, and_right}
+use Rattle.grammar.specs.Pieces.{Text, Cut, IsLongest}
+use Rattle.grammar.proofs.Texts.{and_left, and_right, from_test}
+use Rattle.grammar.proofs.Cutting.{text_made}
+use Rattle.grammar.proofs.Closing.{unclosed}
 use Rattle.cif_lex.specs.declared.token.TokenKind.{TokenKind}
 use Rattle.cif_lex.specs.declared.found.Fault.{Fault}
 use Rattle.cif_lex.specs.declared.found.Fault.TheVariants as f
@@ -10,7 +12,7 @@ use Rattle.cif_lex.specs.Tokens.{Piece, blank, comment, word, escaped, number, s
 use Rattle.cif_lex.specs.Cutting.{Found, letter, is_small, after_close, closed_found, slash_found, found_of}
 use Rattle.cif_lex.proofs.SignLaws.{in_range, judge}
 use Rattle.cif_lex.proofs.CutLaws.{piece_cut, piece_cuts}
-use Rattle.cif_lex.proofs.FrontLaws.{opens, judged, front_is, from_test}
+use Rattle.cif_lex.proofs.FrontLaws.{opens, judged, front_is}
 
 -- ---- numbers in range
 
@@ -35,11 +37,6 @@ too_big_is (escaped t) e = absurd cc
 too_big_is (number t) e = (t, refl, above (number_of t) greatest_number e)
 too_big_is (sign t) e = absurd cc
 
-no_sign_number : (ss : List Text) (t x : Text) → one_text ss sign (number t) x → ⊥
-no_sign_number [] t x d = d
-no_sign_number (s ∷ ss) t x (inl d) = let e : number t ≡ sign s = d.1 in cc
-no_sign_number (s ∷ ss) t x (inr d) = no_sign_number ss t x d
-
 -- a number is made with its text
 number_bytes : (t x : Text) → piece (number t) x → t ≡ x
 unfolding piece
@@ -50,7 +47,7 @@ number_bytes t x (inr (inr (inr (inl d)))) = let e : number t ≡ number (d.0 �
 number_bytes t x (inr (inr (inr (inr (inl d))))) = let e : number t ≡ number (d.0 ∷ d.1) = d.5 in let g : x ≡ d.0 ∷ d.1 = d.4 in cc
 number_bytes t x (inr (inr (inr (inr (inr (inl (y, inl d, g))))))) = absurd (let e : number t ≡ comment = d.5 in cc)
 number_bytes t x (inr (inr (inr (inr (inr (inl (y, inr d, g))))))) = absurd (let e : number t ≡ comment = d.3 in cc)
-number_bytes t x (inr (inr (inr (inr (inr (inr d)))))) = absurd (no_sign_number signs t x d)
+number_bytes t x (inr (inr (inr (inr (inr (inr d)))))) = absurd (let e : number t ≡ sign x = text_made signs sign (number t) x d in cc)
 
 -- ---- a piece is taken
 
@@ -168,47 +165,10 @@ open_comment b text h =
     go None is g = is_open (opens (b ∷ text)) g
     go (Some c) is g = absurd (let j = judge_err c.piece c.rest f.OpenComment g in let e : f.OpenComment ≡ f.NumberTooBig = j.1 in cc)
 
--- where the first `*/` isn't found there is none
-pub none_closes : (text inner after : Text) → after_close text ≡ None → text ≡ inner ++ (42 ∷ 47 ∷ after) → ⊥
-none_closes text [] after e g = let h : after_close text ≡ Some after = ap after_close g in cc
-none_closes [] (c ∷ inner) after e g = cc
-none_closes (a ∷ []) (c ∷ []) after e g = cc
-none_closes (a ∷ []) (c ∷ d ∷ inner) after e g = cc
-none_closes (a ∷ b ∷ text) (c ∷ inner) after e g = go (a == 42 && b == 47) refl (λ h. none_closes (b ∷ text) inner after h (let tail : b ∷ text ≡ inner ++ (42 ∷ 47 ∷ after) = cc in tail))
-  where
-    go : (x : Bool) → (a == 42 && b == 47) ≡ x → (after_close (b ∷ text) ≡ None → ⊥) → ⊥
-    go true is ih = let h : after_close (a ∷ b ∷ text) ≡ Some text = rw is refl in cc
-    go false is ih = ih (let h : after_close (a ∷ b ∷ text) ≡ after_close (b ∷ text) = rw is refl in sym h ∙ e)
-
--- where it is found it is there
-pub some_closes : (text rest : Text) → after_close text ≡ Some rest → (inner : Text) × (text ≡ inner ++ (42 ∷ 47 ∷ rest))
-some_closes [] rest e = absurd cc
-some_closes (c ∷ []) rest e = absurd cc
-some_closes (c ∷ d ∷ text) rest e = go (c == 42 && d == 47) refl (λ h. some_closes (d ∷ text) rest h)
-  where
-    go : (x : Bool) → (c == 42 && d == 47) ≡ x → (after_close (d ∷ text) ≡ Some rest → (inner : Text) × (d ∷ text ≡ inner ++ (42 ∷ 47 ∷ rest))) → (inner : Text) × (c ∷ d ∷ text ≡ inner ++ (42 ∷ 47 ∷ rest))
-    go true is ih =
-        let first : 42 ≡ c = from_test c 42 (and_left (c == 42) (d == 47) is) in
-        let second : 47 ≡ d = from_test d 47 (and_right (c == 42) (d == 47) is) in
-        let h : after_close (c ∷ d ∷ text) ≡ Some text = rw is refl in
-        let same : text ≡ rest = cc in
-        ([], cc)
-    go false is ih =
-        let h : after_close (c ∷ d ∷ text) ≡ after_close (d ∷ text) = rw is refl in
-        let m = ih (sym h ∙ e) in
-        (c ∷ m.0, ap (λ (u : Text). c ∷ u) m.1)
-
-unclosed : (more : Text) → ((inner after : Text) → more ≡ inner ++ (42 ∷ 47 ∷ after) → ⊥) → after_close more ≡ None
-unclosed more none = go (after_close more) refl
-  where
-    go : (o : Option Text) → after_close more ≡ o → o ≡ None
-    go None is = refl
-    go (Some rest) is = absurd (let m = some_closes more rest is in none m.0 rest m.1)
-
 -- no piece begins at an open comment
 pub no_piece_opens : (more : Text) → ((inner after : Text) → more ≡ inner ++ (42 ∷ 47 ∷ after) → ⊥) → (p : Piece) (x rest : Text) → piece p x → 47 ∷ 42 ∷ more ≡ x ++ rest → ⊥
 unfolding found_of letter slash_found
-no_piece_opens more none p x rest is e = go (piece_cut (47 ∷ 42 ∷ more)) refl (sym (front_is 47 (42 ∷ more)) ∙ ap closed_found (unclosed more none))
+no_piece_opens more none p x rest is e = go (piece_cut (47 ∷ 42 ∷ more)) refl (sym (front_is 47 (42 ∷ more)) ∙ ap closed_found (unclosed 42 47 more none))
   where
     go : (o : Option (Cut Piece)) → piece_cut (47 ∷ 42 ∷ more) ≡ o → judged (47 ∷ 42 ∷ more) o ≡ Err f.OpenComment → ⊥
     go None was g = piece_cuts.none (47 ∷ 42 ∷ more) was p x rest is e

@@ -1,5 +1,4 @@
 pub mod WordLaws
-pub mod RunLaws
 pub mod NumberLaws
 pub mod SignLaws
 pub mod CutLaws

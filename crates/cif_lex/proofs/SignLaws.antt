@@ -1,11 +1,14 @@
 -- A sign that is found by its bytes is the longest in the table.
 use Rattle.std.proofs.Common.{◌≡◌, ◌==◌, ℕ, Bool, true, false, ◌||◌, if◌then◌else◌, List, [], ◌∷◌, ◌++◌, Option, Some, None, Ok, Err, refl, sym, ap, subst, ◌∙◌, arith}
+use Rattle.std.specs.Option.{option_or}
+use Rattle.std.specs.List.{AllByRecursion}
 use Rattle.std.proofs.lemmas.Bool.Decides.{nat_tests}
 use Rattle.grammar.specs.Pieces.{Text, Cut, one_text, text_cut}
+use Rattle.grammar.proofs.Texts.{flip, from_test}
 use Rattle.grammar.proofs.Cutting.{Cuts, text_cuts}
 use Rattle.cif_lex.specs.declared.found.Fault.TheVariants as f
 use Rattle.cif_lex.specs.Tokens.{Piece, blank, comment, word, escaped, number, sign, signs, kind_of}
-use Rattle.cif_lex.specs.Cutting.{Found, is_small, single, pair, with_rest, or_found, triple_of, double_of, sign_of, sign_found}
+use Rattle.cif_lex.specs.Cutting.{Found, is_small, single, pair, with_rest, triple_of, double_of, sign_of, sign_found}
 
 abbrev pub in_range : Piece → Bool
 in_range blank = true
@@ -26,12 +29,6 @@ sign_judged (Some c) = judge c.piece c.rest
 abbrev Claim : ℕ → Text → Type 0
 Claim a rest = sign_found (sign_of a rest) ≡ sign_judged (text_cut signs sign (a ∷ rest))
 
-flip_false : (a b : ℕ) → (a == b) ≡ false → (b == a) ≡ false
-flip_false a b e = grind (arith, nat_tests)
-
-from_test : (a b : ℕ) → (a == b) ≡ true → b ≡ a
-from_test a b e = grind (arith, nat_tests)
-
 -- by whether a byte is this one
 pub by_byte : (P : ℕ → Type 0) (s b : ℕ) → P s → ((b == s) ≡ false → P b) → P b
 by_byte P s b is isnt = go (b == s) refl
@@ -42,7 +39,7 @@ by_byte P s b is isnt = go (b == s) refl
 
 -- ---- signs of one byte, and of two
 
-sign_two : (a b : ℕ) (rest : Text) → (a == 60) ≡ false → sign_of a (b ∷ rest) ≡ or_found (with_rest rest (pair a b)) (with_rest (b ∷ rest) (single a))
+sign_two : (a b : ℕ) (rest : Text) → (a == 60) ≡ false → sign_of a (b ∷ rest) ≡ option_or (with_rest rest (pair a b)) (with_rest (b ∷ rest) (single a))
 unfolding sign_of triple_of double_of
 sign_two a b [] e = refl
 sign_two a b (c ∷ rest) e = rw e refl
@@ -50,45 +47,45 @@ sign_two a b (c ∷ rest) e = rw e refl
 sign_one : (a : ℕ) → (a == 60) ≡ false → ((b : ℕ) → pair a b ≡ None) → (rest : Text) → sign_of a rest ≡ with_rest rest (single a)
 unfolding sign_of triple_of double_of
 sign_one a e none [] = refl
-sign_one a e none (b ∷ rest) = sign_two a b rest e ∙ ap (λ o. or_found (with_rest rest o) (with_rest (b ∷ rest) (single a))) (none b)
+sign_one a e none (b ∷ rest) = sign_two a b rest e ∙ ap (λ o. option_or (with_rest rest o) (with_rest (b ∷ rest) (single a))) (none b)
 
 one : (a : ℕ) → (a == 60) ≡ false → ((b : ℕ) → pair a b ≡ None) → (rest : Text) → sign_found (with_rest rest (single a)) ≡ sign_judged (text_cut signs sign (a ∷ rest)) → Claim a rest
 one a e none rest h = ap sign_found (sign_one a e none rest) ∙ h
 
-two : (a b : ℕ) (rest : Text) → (a == 60) ≡ false → sign_found (or_found (with_rest rest (pair a b)) (with_rest (b ∷ rest) (single a))) ≡ sign_judged (text_cut signs sign (a ∷ b ∷ rest)) → Claim a (b ∷ rest)
+two : (a b : ℕ) (rest : Text) → (a == 60) ≡ false → sign_found (option_or (with_rest rest (pair a b)) (with_rest (b ∷ rest) (single a))) ≡ sign_judged (text_cut signs sign (a ∷ b ∷ rest)) → Claim a (b ∷ rest)
 two a b rest e h = ap sign_found (sign_two a b rest e) ∙ h
 
 dot : (rest : Text) → Claim 46 rest
 unfolding sign_of triple_of double_of kind_of
 dot [] = refl
-dot (b ∷ rest) = by_byte (λ n. Claim 46 (n ∷ rest)) 46 b (two 46 46 rest refl refl) (λ e. let g = flip_false b 46 e in two 46 b rest refl (rw (e, g) refl))
+dot (b ∷ rest) = by_byte (λ n. Claim 46 (n ∷ rest)) 46 b (two 46 46 rest refl refl) (λ e. let g = flip 46 b ∙ e in two 46 b rest refl (rw (e, g) refl))
 
 colon : (rest : Text) → Claim 58 rest
 unfolding sign_of triple_of double_of kind_of
 colon [] = refl
-colon (b ∷ rest) = by_byte (λ n. Claim 58 (n ∷ rest)) 61 b (two 58 61 rest refl refl) (λ e. let g = flip_false b 61 e in two 58 b rest refl (rw (e, g) refl))
+colon (b ∷ rest) = by_byte (λ n. Claim 58 (n ∷ rest)) 61 b (two 58 61 rest refl refl) (λ e. let g = flip 61 b ∙ e in two 58 b rest refl (rw (e, g) refl))
 
 exclamation : (rest : Text) → Claim 33 rest
 unfolding sign_of triple_of double_of kind_of
 exclamation [] = refl
-exclamation (b ∷ rest) = by_byte (λ n. Claim 33 (n ∷ rest)) 61 b (two 33 61 rest refl refl) (λ e. let g = flip_false b 61 e in two 33 b rest refl (rw (e, g) refl))
+exclamation (b ∷ rest) = by_byte (λ n. Claim 33 (n ∷ rest)) 61 b (two 33 61 rest refl refl) (λ e. let g = flip 61 b ∙ e in two 33 b rest refl (rw (e, g) refl))
 
 greater : (rest : Text) → Claim 62 rest
 unfolding sign_of triple_of double_of kind_of
 greater [] = refl
-greater (b ∷ rest) = by_byte (λ n. Claim 62 (n ∷ rest)) 61 b (two 62 61 rest refl refl) (λ e. let g = flip_false b 61 e in two 62 b rest refl (rw (e, g) refl))
+greater (b ∷ rest) = by_byte (λ n. Claim 62 (n ∷ rest)) 61 b (two 62 61 rest refl refl) (λ e. let g = flip 61 b ∙ e in two 62 b rest refl (rw (e, g) refl))
 
 equal : (rest : Text) → Claim 61 rest
 unfolding sign_of triple_of double_of kind_of
 equal [] = refl
-equal (b ∷ rest) = by_byte (λ n. Claim 61 (n ∷ rest)) 62 b (two 61 62 rest refl refl) (λ e. let g = flip_false b 62 e in two 61 b rest refl (rw (e, g) refl))
+equal (b ∷ rest) = by_byte (λ n. Claim 61 (n ∷ rest)) 62 b (two 61 62 rest refl refl) (λ e. let g = flip 62 b ∙ e in two 61 b rest refl (rw (e, g) refl))
 
 -- ---- what begins with `<`
 
 less_equal : (rest : Text) → Claim 60 (61 ∷ rest)
 unfolding sign_of triple_of double_of kind_of
 less_equal [] = refl
-less_equal (c ∷ rest) = by_byte (λ n. Claim 60 (61 ∷ n ∷ rest)) 62 c refl (λ e. let g = flip_false c 62 e in rw (e, g) refl)
+less_equal (c ∷ rest) = by_byte (λ n. Claim 60 (61 ∷ n ∷ rest)) 62 c refl (λ e. let g = flip 62 c ∙ e in rw (e, g) refl)
 
 less_other : (b : ℕ) (rest : Text) → (b == 61) ≡ false → (61 == b) ≡ false → Claim 60 (b ∷ rest)
 unfolding sign_of triple_of double_of kind_of
@@ -98,19 +95,14 @@ less_other b (c ∷ rest) e g = rw (e, g) refl
 less : (rest : Text) → Claim 60 rest
 unfolding sign_of triple_of double_of kind_of
 less [] = refl
-less (b ∷ rest) = by_byte (λ n. Claim 60 (n ∷ rest)) 61 b (less_equal rest) (λ e. less_other b rest e (flip_false b 61 e))
+less (b ∷ rest) = by_byte (λ n. Claim 60 (n ∷ rest)) 61 b (less_equal rest) (λ e. less_other b rest e (flip 61 b ∙ e))
 
 -- ---- all signs
 
-abbrev Each : (ℕ → Type 0) → List ℕ → Type 0
-Each P [] = Unit {0}
-Each P (c ∷ cs) = P c × Each P cs
-
 abbrev IsNone : ℕ → List ℕ → Type 0
-IsNone a [] = Unit {0}
-IsNone a (c ∷ cs) = ((a == c) ≡ false) × IsNone a cs
+IsNone a cs = AllByRecursion (λ c. (a == c) ≡ false) cs
 
-by_bytes : (P : ℕ → Type 0) (cs : List ℕ) → Each P cs → (a : ℕ) → (IsNone a cs → P a) → P a
+by_bytes : (P : ℕ → Type 0) (cs : List ℕ) → AllByRecursion P cs → (a : ℕ) → (IsNone a cs → P a) → P a
 by_bytes P [] h a other = other tt
 by_bytes P (c ∷ cs) h a other = by_byte P c a h.0 (λ e. by_bytes P cs h.1 a (λ o. other (e, o)))
 
@@ -160,5 +152,5 @@ sign_front a = by_bytes (λ n. (rest : Text) → Claim n rest) firsts all a (oth
     lone : (n : ℕ) → (n == 60) ≡ false → ((b : ℕ) → pair n b ≡ None) → ((rest : Text) → sign_found (with_rest rest (single n)) ≡ sign_judged (text_cut signs sign (n ∷ rest))) → (rest : Text) → Claim n rest
     lone n e none h rest = one n e none rest (h rest)
 
-    all : Each (λ n. (rest : Text) → Claim n rest) firsts
+    all : AllByRecursion (λ n. (rest : Text) → Claim n rest) firsts
     all = (dot, (lone 44 refl (λ b. refl) (λ rest. refl), (lone 59 refl (λ b. refl) (λ rest. refl), (colon, (lone 40 refl (λ b. refl) (λ rest. refl), (lone 41 refl (λ b. refl) (λ rest. refl), (lone 91 refl (λ b. refl) (λ rest. refl), (lone 93 refl (λ b. refl) (λ rest. refl), (lone 123 refl (λ b. refl) (λ rest. refl), (lone 125 refl (λ b. refl) (λ rest. refl), (lone 43 refl (λ b. refl) (λ rest. refl), (lone 45 refl (λ b. refl) (λ rest. refl), (lone 42 refl (λ b. refl) (λ rest. refl), (equal, (less, (greater, (exclamation, (lone 63 refl (λ b. refl) (λ rest. refl), tt))))))))))))))))))

@@ -3,18 +3,20 @@ use Rattle.std.proofs.Common.{◌≡◌, ◌≢◌, ◌==◌, ℕ, true, false, 
 use Rattle.std.proofs.lemmas.Bool.Decides.{nat_tests}
 use Rattle.std.proofs.lemmas.List.{length-append}
 use Rattle.std.proofs.lemmas.List.Elements.{All-nil, All-push}
-use Rattle.grammar.specs.Pieces.{Text, IsLongest, Pieces}
+use Rattle.grammar.specs.Pieces.{Text, Begun}
+use Rattle.grammar.proofs.Begun.{begun_more, pieces_all}
+use Rattle.grammar.proofs.Closing.{none_closes}
 use Rattle.cif_lex.specs.declared.token.Token.{Token}
 use Rattle.cif_lex.specs.declared.token.TokenKind.{TokenKind}
 use Rattle.cif_lex.specs.declared.found.Fault.{Fault}
 use Rattle.cif_lex.specs.declared.found.Fault.TheVariants as f
 use Rattle.cif_lex.specs.declared.error.LexErr.{LexErr}
 use Rattle.cif_lex.specs.declared.error.LexErr.TheVariants as err
-use Rattle.cif_lex.specs.Tokens.{Piece, piece, sized, Begun, kind_of, IsInRange, with_token, tokens_at, Tokens, Front, BadByteDue, NumberTooBigDue, OpenCommentDue, RefusalDue}
+use Rattle.cif_lex.specs.Tokens.{Piece, piece, sized, kind_of, IsInRange, with_token, tokens_at, Tokens, Front, BadByteDue, NumberTooBigDue, OpenCommentDue, RefusalDue}
 use Rattle.cif_lex.specs.Cutting.{found_of, refusal_of}
 use Rattle.cif_lex.proofs.CutLaws.{piece_cuts}
 use Rattle.cif_lex.proofs.TokenLaws.{token_lists_agree, refused_has_none}
-use Rattle.cif_lex.proofs.FoundLaws.{takes, bad_byte, big_number, open_comment, none_closes}
+use Rattle.cif_lex.proofs.FoundLaws.{takes, bad_byte, big_number, open_comment}
 
 abbrev Sized : Type 0
 Sized = Piece × ℕ
@@ -23,11 +25,6 @@ Sized = Piece × ℕ
 abbrev total : List Sized → ℕ
 total [] = 0
 total (p ∷ ps) = p.1 + total ps
-
-begun_more : (ps : List Sized) (p : Sized) (text rest x more : Text) → Begun (sized piece) ps text rest → sized piece p x → IsLongest (sized piece) x rest → rest ≡ x ++ more
-    → Begun (sized piece) (ps ++ p ∷ []) text more
-begun_more [] p text rest x more b is longest e = (x, more, is, subst (λ (u : Text). IsLongest (sized piece) x u) (sym b) longest, b ∙ e, refl)
-begun_more (q ∷ ps) p text rest x more b is longest e = (b.0, b.1, b.2, b.3, b.4, begun_more ps p b.1 rest x more b.5 is longest e)
 
 begun_total : (ps : List Sized) (text rest : Text) → Begun (sized piece) ps text rest → total ps + length rest ≡ length text
 begun_total [] text rest b = let e : length text ≡ length rest = ap (λ (u : Text). length u) b in omega arith
@@ -70,7 +67,7 @@ taken_more text rest left tokens k t e =
     let start : 0 + total t.pieces ≡ total t.pieces = omega arith in
     record {
       pieces = t.pieces ++ p ∷ [];
-      cut = begun_more t.pieces p text rest m.bytes left t.cut (m.is, refl) (λ q y z r g. m.longest q.0 y z r.0 g) m.whole;
+      cut = begun_more (sized piece) t.pieces p text rest m.bytes left t.cut (m.is, refl) (λ q y z r g. m.longest q.0 y z r.0 g) m.whole;
       in_range = All-push (λ (q : Sized). IsInRange q.0) t.pieces p t.in_range m.small;
       are = sym (
           tokens_more 0 t.pieces p
@@ -107,12 +104,8 @@ taken_skip text rest left tokens o t e is =
     let same = subst (λ (q : Option TokenKind). Taken text left (tokens ++ with_token q (length text - length rest) (length rest - length left) [])) is m in
     subst (λ (ts : List Token). Taken text left ts) (append-nil tokens) same
 
-pieces_all : (ps : List Sized) (text : Text) → Begun (sized piece) ps text [] → Pieces (sized piece) ps text
-pieces_all [] text b = b
-pieces_all (p ∷ ps) text b = (b.0, b.1, b.2, b.3, b.4, pieces_all ps b.1 b.5)
-
 pub taken_all : (text rest : Text) (tokens : List Token) → Taken text rest tokens → (length rest == 0) ≡ true → Tokens text tokens
-taken_all text [] tokens t e = record { pieces = t.pieces; cut = pieces_all t.pieces text t.cut; in_range = t.in_range; are = t.are }
+taken_all text [] tokens t e = record { pieces = t.pieces; cut = pieces_all (sized piece) t.pieces text t.cut; in_range = t.in_range; are = t.are }
 taken_all text (b ∷ rest) tokens t e = absurd (grind (arith, nat_tests))
 
 front_of : (text rest : Text) (tokens : List Token) → Taken text rest tokens → Front text (length text - length rest)
@@ -140,7 +133,7 @@ unfolding front_of
 open_end text [] tokens t n e = absurd (n refl)
 open_end text (b ∷ rest) tokens t n e =
     let m = open_comment b rest e in
-    record { front = front_of text (b ∷ rest) tokens t; more = m.0; there = m.1; open_end = λ inner after g. none_closes m.0 inner after m.2 g }
+    record { front = front_of text (b ∷ rest) tokens t; more = m.0; there = m.1; open_end = λ inner after g. none_closes 42 47 m.0 inner after m.2 g }
 
 due_at : (text rest : Text) (tokens : List Token) (fault : Fault) → Taken text rest tokens → length rest ≢ 0 → found_of rest ≡ Err fault → RefusalDue text (refusal_of fault (length text - length rest))
 due_at text rest tokens f.BadByte t n e = bad text rest tokens t n e

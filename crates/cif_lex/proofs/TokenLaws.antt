@@ -3,85 +3,41 @@ use Rattle.std.proofs.Common.{◌≡◌, ◌≢◌, ℕ, ◌+◌, ◌≤◌, ◌
 use Rattle.std.proofs.lemmas.List.{length-append}
 use Rattle.std.proofs.lemmas.List.Elements.{All-head, All-tail}
 use Rattle.grammar.specs.Pieces.{Text, IsLongest, Pieces}
+use Rattle.grammar.proofs.Begun.{some_byte, one_piece, front_goes_on, begun_all, no_more, all_tail}
 use Rattle.cif_lex.specs.declared.token.Token.{Token}
 use Rattle.cif_lex.specs.declared.token.TokenKind.{TokenKind}
 use Rattle.cif_lex.specs.declared.error.LexErr.{LexErr}
 use Rattle.cif_lex.specs.declared.error.LexErr.TheVariants as err
-use Rattle.cif_lex.specs.Tokens.{Piece, number, piece, sized, Begun, IsInRange, kind_of, with_token, tokens_at, SpansRise, Tokens, Front, BadByteDue, NumberTooBigDue, OpenCommentDue, RefusalDue}
+use Rattle.cif_lex.specs.Tokens.{Piece, number, piece, sized, IsInRange, kind_of, with_token, tokens_at, SpansRise, Tokens, Front, BadByteDue, NumberTooBigDue, OpenCommentDue, RefusalDue}
 use Rattle.cif_lex.proofs.CutLaws.{piece_cuts}
 use Rattle.cif_lex.proofs.FoundLaws.{no_piece_opens}
-
-split_same : (x y r s : Text) → x ++ r ≡ y ++ s → length x ≡ length y → (x ≡ y) × (r ≡ s)
-split_same [] [] r s e l = (refl, e)
-split_same [] (b ∷ y) r s e l = absurd (omega arith)
-split_same (a ∷ x) [] r s e l = absurd (omega arith)
-split_same (a ∷ x) (b ∷ y) r s e l =
-    let heads : a ≡ b = cc in
-    let tails : x ++ r ≡ y ++ s = cc in
-    let lengths : length x ≡ length y = omega arith in
-    let m = split_same x y r s tails lengths in
-    let front : x ≡ y = m.0 in
-    (cc, m.1)
 
 abbrev Sized : Type 0
 Sized = Piece × ℕ
 
--- the longest pieces at one place are one
-one_piece : (p q : Sized) (x y r s text : Text) → sized piece p x → sized piece q y → IsLongest (sized piece) x text → IsLongest (sized piece) y text
-    → text ≡ x ++ r → text ≡ y ++ s → (p ≡ q) × (r ≡ s)
-one_piece (p, n) (q, m) x y r s text is was longest also e g =
-    let upper = longest (q, m) y s was g in
-    let lower = also (p, n) x r is e in
-    let parts = split_same x y r s (sym e ∙ g) (omega arith) in
-    let same : p ≡ q = piece_cuts.same p q y (subst (λ (u : Text). piece p u) parts.0 is.0) was.0 in
-    let sizes : n ≡ m = is.1 ∙ ap (λ (u : Text). length u) parts.0 ∙ sym was.1 in
-    (cc, parts.1)
+sized_begins : (p : Sized) (x : Text) → sized piece p x → (b : ℕ) × (t : Text) × (x ≡ b ∷ t)
+sized_begins p x is = let s = piece_cuts.begins p.0 x is.0 in (s.0, s.1, s.2)
 
--- a piece has a byte
-some_byte : (p : Sized) (x more : Text) → sized piece p x → [] ≡ x ++ more → ⊥
-some_byte p x more is e =
-    let s = piece_cuts.begins p.0 x is.0 in
-    let whole : [] ≡ (s.0 ∷ s.1) ++ more = e ∙ ap (λ u. u ++ more) s.2 in
+sized_same : (p q : Sized) (x : Text) → sized piece p x → sized piece q x → p ≡ q
+sized_same (p, n) (q, m) x is was =
+    let same : p ≡ q = piece_cuts.same p q x is.0 was.0 in
+    let sizes : n ≡ m = is.1 ∙ sym was.1 in
     cc
-
--- the pieces of a text go on from those at its front
-front_goes_on : (ps qs : List Sized) (text rest : Text) → Begun (sized piece) ps text rest → Pieces (sized piece) qs text
-    → (tail : List Sized) × (qs ≡ ps ++ tail) × Pieces (sized piece) tail rest
-front_goes_on [] qs text rest b d = (qs, refl, subst (λ u. Pieces (sized piece) qs u) b d)
-front_goes_on (p ∷ ps) [] text rest b d = absurd (some_byte p b.0 b.1 b.2 (sym d ∙ b.4))
-front_goes_on (p ∷ ps) (q ∷ qs) text rest b d =
-    let m = one_piece p q b.0 d.0 b.1 d.1 text b.2 d.2 b.3 d.3 b.4 d.4 in
-    let ih = front_goes_on ps qs b.1 rest b.5 (subst (λ u. Pieces (sized piece) qs u) (sym m.1) d.5) in
-    let head : p ≡ q = m.0 in
-    let tails : qs ≡ ps ++ ih.0 = ih.1 in
-    (ih.0, cc, ih.2)
-
-begun_all : (ps : List Sized) (text : Text) → Pieces (sized piece) ps text → Begun (sized piece) ps text []
-begun_all [] text d = d
-begun_all (p ∷ ps) text d = (d.0, d.1, d.2, d.3, d.4, begun_all ps d.1 d.5)
-
-no_more : (tail : List Sized) → Pieces (sized piece) tail [] → tail ≡ []
-no_more [] d = refl
-no_more (p ∷ tail) d = absurd (some_byte p d.0 d.1 d.2 d.4)
 
 pub token_lists_agree : (text : Text) (a b : List Token) → Tokens text a → Tokens text b → a ≡ b
 token_lists_agree text a b s t =
-    let m = front_goes_on s.pieces t.pieces text [] (begun_all s.pieces text s.cut) t.cut in
-    let none = no_more m.0 m.2 in
+    let m = front_goes_on (sized piece) sized_begins sized_same s.pieces t.pieces text [] (begun_all (sized piece) s.pieces text s.cut) t.cut in
+    let none = no_more (sized piece) sized_begins sized_same m.0 m.2 in
     let same : t.pieces ≡ s.pieces = m.1 ∙ ap (λ (u : List Sized). s.pieces ++ u) none ∙ append-nil s.pieces in
     s.are ∙ ap (tokens_at 0) (sym same) ∙ sym t.are
 
 -- ---- refusals
 
-all_tail : {X : Type 0} (P : X → Type 0) (xs ys : List X) → All P (xs ++ ys) → All P ys
-all_tail P [] ys h = h
-all_tail P (x ∷ xs) ys h = all_tail P xs ys (All-tail P x (xs ++ ys) h)
-
 -- what goes on from a front, all in range
 goes_on : (text : Text) (at : ℕ) (front : Front text at) (tokens : List Token) → Tokens text tokens
     → (tail : List Sized) × Pieces (sized piece) tail front.rest × All (λ p. IsInRange p.0) tail
 goes_on text at front tokens t =
-    let m = front_goes_on front.pieces t.pieces text front.rest front.cut t.cut in
+    let m = front_goes_on (sized piece) sized_begins sized_same front.pieces t.pieces text front.rest front.cut t.cut in
     (m.0, m.2, all_tail (λ (p : Sized). IsInRange p.0) front.pieces m.0 (subst (λ u. All (λ (p : Sized). IsInRange p.0) u) m.1 t.in_range))
 
 no_bad_byte : (text : Text) (at : ℕ) (due : BadByteDue text at) (tail : List Sized) → Pieces (sized piece) tail due.front.rest → ⊥
@@ -97,10 +53,10 @@ sized_longest x text h q y z r e = h q.0 y z r.0 e
 
 no_big_number : (text : Text) (at : ℕ) (due : NumberTooBigDue text at) (tail : List Sized) → Pieces (sized piece) tail due.front.rest → All (λ p. IsInRange p.0) tail → ⊥
 unfolding IsInRange
-no_big_number text at due [] d h = some_byte (number due.digits, length due.digits) due.digits due.more (due.is_number, refl) (sym d ∙ due.there)
+no_big_number text at due [] d h = some_byte (sized piece) sized_begins sized_same (number due.digits, length due.digits) due.digits due.more (due.is_number, refl) (sym d ∙ due.there)
 no_big_number text at due (p ∷ tail) d h =
     let size = length due.digits in
-    let m = one_piece p (number due.digits, size) d.0 due.digits d.1 due.more due.front.rest d.2 (due.is_number, refl) d.3 (sized_longest due.digits due.front.rest due.longest) d.4 due.there in
+    let m = one_piece (sized piece) sized_begins sized_same p (number due.digits, size) d.0 due.digits d.1 due.more due.front.rest d.2 (due.is_number, refl) d.3 (sized_longest due.digits due.front.rest due.longest) d.4 due.there in
     let small : IsInRange (number due.digits) = subst (λ (q : Sized). IsInRange q.0) m.0 (All-head (λ (q : Sized). IsInRange q.0) p tail h) in
     let big = due.too_big in
     omega (arith, small)

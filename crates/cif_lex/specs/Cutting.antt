@@ -1,7 +1,8 @@
--- What stands at the front of a text, found by its first bytes.
-use Rattle.std.specs.Prelude.{◌≡◌, ℕ, Bool, ◌&&◌, ◌==◌, nat_le, [], ◌∷◌, Option, Some, None, Result, Ok, Err, if◌then◌else◌}
+-- Helper of the code: what stands at the front of a text, found by its first bytes.
+use Rattle.std.specs.Prelude.{◌≡◌, ℕ, Bool, ◌&&◌, ◌==◌, nat_le, [], ◌∷◌, Option, Some, None, option_map, Result, Ok, Err, if◌then◌else◌}
+use Rattle.std.specs.Option.{option_or}
 use Rattle.std.specs.Borrow.{Bor}
-use Rattle.grammar.specs.Pieces.{Text, run_of}
+use Rattle.grammar.specs.Pieces.{Text, run_of, rest_after}
 use Rattle.cif_lex.specs.declared.token.TokenKind.{TokenKind}
 use Rattle.cif_lex.specs.declared.token.TokenKind.TheVariants.{Id, Number, Sign}
 use Rattle.cif_lex.specs.declared.token.Word.{Word}
@@ -11,7 +12,8 @@ use Rattle.cif_lex.specs.declared.found.Fault.{Fault}
 use Rattle.cif_lex.specs.declared.found.Fault.TheVariants as f
 use Rattle.cif_lex.specs.declared.error.LexErr.{LexErr}
 use Rattle.cif_lex.specs.declared.error.LexErr.TheVariants as err
-use Rattle.cif_lex.specs.Tokens.{is_blank, is_letter, is_zero, is_leading, is_digit, is_wordy, is_in_line, find_text, reserved, kind_of_word, number_of, greatest_number}
+use Rattle.grammar.specs.Bytes.{is_blank, begins_word, is_digit, is_wordy}
+use Rattle.cif_lex.specs.Tokens.{is_zero, is_leading, is_in_line, find_text, reserved, kind_of_word, number_of, greatest_number}
 
 -- the kind of a token, or none for a blank or a comment, and the text after it
 abbrev pub Found : Type 0
@@ -32,7 +34,7 @@ refusal_of f.OpenComment at = err.OpenComment at
 
 -- each test as one
 unfoldable pub letter : ℕ → Bool
-letter b = is_letter b
+letter b = begins_word b
 
 unfoldable pub wordy : ℕ → Bool
 wordy b = is_wordy b
@@ -58,9 +60,7 @@ number_found n = if is_small n.0 then Ok (Some Number, n.1) else Err f.NumberToo
 
 -- the text after the first `*/`
 abbrev pub after_close : Text → Option Text
-after_close [] = None
-after_close (c ∷ []) = None
-after_close (c ∷ d ∷ text) = if c == 42 && d == 47 then Some text else after_close (d ∷ text)
+after_close = rest_after 42 47
 
 abbrev pub closed_found : Option Text → Found
 closed_found None = Err f.OpenComment
@@ -93,12 +93,7 @@ pair a b =
     else (if a == 62 && b == 61 then Some m.GreaterEqual else (if a == 61 && b == 62 then Some m.Implies else None)))))
 
 abbrev pub with_rest : Text → Option Mark → Option (Mark × Text)
-with_rest rest None = None
-with_rest rest (Some s) = Some (s, rest)
-
-abbrev pub or_found : Option (Mark × Text) → Option (Mark × Text) → Option (Mark × Text)
-or_found None other = other
-or_found (Some s) other = Some s
+with_rest rest o = option_map (λ s. (s, rest)) o
 
 -- a sign of three bytes, one of two, and one of one byte, by the first byte and the text after it
 unfoldable pub triple_of : ℕ → Text → Option (Mark × Text)
@@ -111,7 +106,7 @@ double_of a [] = None
 double_of a (b ∷ text) = with_rest text (pair a b)
 
 unfoldable pub sign_of : ℕ → Text → Option (Mark × Text)
-sign_of a text = or_found (triple_of a text) (or_found (double_of a text) (with_rest text (single a)))
+sign_of a text = option_or (triple_of a text) (option_or (double_of a text) (with_rest text (single a)))
 
 abbrev pub sign_found : Option (Mark × Text) → Found
 sign_found None = Err f.BadByte

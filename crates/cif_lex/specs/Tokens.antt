@@ -1,7 +1,8 @@
 -- The tokens of a source (CIF 3 language reference, "Lexical syntax"): a text is blanks, comments, words, numbers and
 -- signs one after the other, each the longest that begins at its place, and all but the blanks and comments are its tokens.
 use Rattle.std.specs.Prelude.{◌≡◌, ℕ, ◌+◌, ◌-◌, ◌*◌, ◌≤◌, ◌<◌, Bool, true, false, not, ◌||◌, ◌&&◌, ◌==◌, nat_le, List, [], ◌∷◌, ◌++◌, codes, length, map, All, Option, Some, None, if◌then◌else◌}
-use Rattle.grammar.specs.Pieces.{Text, Kinds, ◌∣◌, IsLongest, Pieces, run, after_byte, closed, one_text, same}
+use Rattle.grammar.specs.Bytes.{is_blank, begins_word, is_digit, is_wordy, none_of, digits_from}
+use Rattle.grammar.specs.Pieces.{Text, Kinds, ◌∣◌, IsLongest, Pieces, Begun, run, after_byte, closed, one_text, same}
 use Rattle.cif_lex.specs.declared.token.Token.{Token}
 use Rattle.cif_lex.specs.declared.token.TokenKind.{TokenKind}
 use Rattle.cif_lex.specs.declared.token.TokenKind.TheVariants.{Id, Reserved, Number, Sign}
@@ -19,13 +20,6 @@ pub data Piece : Type 0 where
   blank comment : Piece
   word escaped number sign : Text → Piece
 
--- space, tab, line feed, carriage return
-abbrev pub is_blank : ℕ → Bool
-is_blank b = b == 32 || b == 9 || b == 10 || b == 13
-
-abbrev pub is_letter : ℕ → Bool
-is_letter b = nat_le 65 b && nat_le b 90 || nat_le 97 b && nat_le b 122 || b == 95
-
 abbrev pub is_zero : ℕ → Bool
 is_zero b = b == 48
 
@@ -33,21 +27,12 @@ is_zero b = b == 48
 abbrev pub is_leading : ℕ → Bool
 is_leading b = nat_le 49 b && nat_le b 57
 
-abbrev pub is_digit : ℕ → Bool
-is_digit b = nat_le 48 b && nat_le b 57
-
-abbrev pub is_wordy : ℕ → Bool
-is_wordy b = is_letter b || is_digit b
-
 abbrev pub is_slash : ℕ → Bool
 is_slash b = b == 47
 
 -- no line feed
 abbrev pub is_in_line : ℕ → Bool
 is_in_line b = not (b == 10)
-
-abbrev pub none_of : ℕ → Bool
-none_of b = false
 
 -- the signs with their names, the longer ones first
 abbrev pub marks : List (Text × Mark)
@@ -67,8 +52,8 @@ signs = map (λ (e : Text × Mark). e.0) marks
 -- bytes up to the next `*/`; a sign.
 unfoldable pub piece : Kinds Piece
 piece = run is_blank none_of (λ t. blank)
-    ∣ run is_letter is_wordy word
-    ∣ after_byte 36 (run is_letter is_wordy escaped)
+    ∣ run begins_word is_wordy word
+    ∣ after_byte 36 (run begins_word is_wordy escaped)
     ∣ run is_zero none_of number
     ∣ run is_leading is_digit number
     ∣ after_byte 47 (run is_slash is_in_line (λ t. comment) ∣ closed 42 42 47 comment)
@@ -123,11 +108,6 @@ kind_of (sign t) = kind_of_sign (find_text marks t)
 
 -- ---- numbers
 
--- the number that digits stand for, on from n
-abbrev pub digits_from : ℕ → Text → ℕ
-digits_from n [] = n
-digits_from n (b ∷ bs) = digits_from (10 * n + (b - 48)) bs
-
 unfoldable pub number_of : Text → ℕ
 number_of digits = digits_from 0 digits
 
@@ -176,11 +156,6 @@ SpansRise at [] end = at ≤ end
 SpansRise at (t ∷ ts) end = (at ≤ t.span.from) × (t.span.from < t.span.to) × SpansRise t.span.to ts end
 
 -- ---- refusals
-
--- The text is these pieces and then the rest, each piece the longest that begins at its place.
-abbrev pub Begun : {P : Type 0} → Kinds P → List P → Text → Text → Type 0
-Begun r [] text rest = text ≡ rest
-Begun r (p ∷ ps) text rest = (x : Text) × (more : Text) × r p x × IsLongest r x text × (text ≡ x ++ more) × Begun r ps more rest
 
 -- The bytes before the place are such pieces, with numbers of any size.
 pub record Front (text : Text) (at : ℕ) : Type 0 where

@@ -9,6 +9,7 @@ use crate::found::{Fault, Found};
 use crate::runs::split_line;
 
 /// The text after the first `*/`.
+#[tactic(auto, unfolding(grammar::specs::Pieces::rest_after))]
 fn after_close(text: &[u8]) -> Option<&[u8]>
     ensures { option_map (λ rest. rest.now) result ≡ cutting.after_close text.now }
 {

@@ -20,6 +20,3 @@ pub use lexing::lex;
 pub use numbers::small_number;
 pub use token::{Mark, Token, TokenKind, Word};
 pub use words::reserved_word;
-
-#[cfg(test)]
-mod tests;

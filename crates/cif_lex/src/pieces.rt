@@ -1,15 +1,15 @@
 //! The piece at the front of a text.
 
 ghost use Rattle.std.specs.Prelude.{◌≡◌};
+ghost use Rattle.grammar.specs.Bytes as bytes;
 ghost use Rattle.grammar.specs.Pieces.{run_of};
-ghost use Rattle.cif_lex.specs.Tokens as tokens;
 ghost use Rattle.cif_lex.specs.Cutting as cutting;
 ghost use Rattle.cif_lex.specs.Cutting.{Finds};
 
 use crate::comments::comment_at;
 use crate::found::{Fault, Found};
 use crate::numbers::is_small;
-use crate::runs::{is_blank, is_letter, split_number, split_word};
+use crate::runs::{begins_word, is_blank, split_number, split_word};
 use crate::signs::sign_at;
 use crate::token::TokenKind;
 use crate::words::reserved_word;
@@ -32,14 +32,14 @@ fn escaped_at(text: &[u8]) -> Found<'_>
     ensures { Finds result (cutting.escaped_found text.now) }
 {
     match text {
-        [byte, ..] if is_letter(*byte) => Ok((Some(TokenKind::Id), split_word(text).1)),
+        [byte, ..] if begins_word(*byte) => Ok((Some(TokenKind::Id), split_word(text).1)),
         _ => Err(Fault::BadByte),
     }
 }
 
 /// The number of one digit or more at the front, where that isn't 0.
 fn number_at(text: &[u8]) -> Found<'_>
-    ensures { Finds result (cutting.number_found (run_of tokens.is_digit text.now)) }
+    ensures { Finds result (cutting.number_found (run_of bytes.is_digit text.now)) }
 {
     let (digits, rest) = split_number(text);
     if is_small(digits) {
@@ -69,7 +69,7 @@ pub fn front(text: &[u8]) -> Found<'_>
     };
     match *byte {
         byte if is_blank(byte) => Ok((None, rest)),
-        byte if is_letter(byte) => word_at(text),
+        byte if begins_word(byte) => word_at(text),
         b'$' => escaped_at(rest),
         b'0' => Ok((Some(TokenKind::Number), rest)),
         b'1'..=b'9' => number_at(text),

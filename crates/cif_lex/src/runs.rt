@@ -1,20 +1,21 @@
 //! Classes of bytes, and the bytes of a class at the front of a text.
 
 ghost use Rattle.std.specs.Prelude.{◌≡◌, ◌≤◌, not, position, unwrap_or, length, take, drop};
+ghost use Rattle.grammar.specs.Bytes as bytes;
 ghost use Rattle.grammar.specs.Pieces.{run_of};
 ghost use Rattle.cif_lex.specs.Tokens as tokens;
 ghost use Rattle.cif_lex.specs.Cutting as cutting;
 
 /// Whether a byte is a space, a tab, a line feed or a carriage return.
 pub fn is_blank(byte: u8) -> bool
-    ensures { result ≡ tokens.is_blank byte }
+    ensures { result ≡ bytes.is_blank byte }
 {
     byte == b' ' || byte == b'\t' || byte == b'\n' || byte == b'\r'
 }
 
 /// Whether a byte is a letter or `_`.
 #[tactic(auto, unfolding(crate::specs::Cutting::letter))]
-pub fn is_letter(byte: u8) -> bool
+pub fn begins_word(byte: u8) -> bool
     ensures { result ≡ cutting.letter byte }
 {
     byte.is_ascii_alphabetic() || byte == b'_'
@@ -22,7 +23,7 @@ pub fn is_letter(byte: u8) -> bool
 
 /// Whether a byte is a decimal digit.
 fn is_digit(byte: u8) -> bool
-    ensures { result ≡ tokens.is_digit byte }
+    ensures { result ≡ bytes.is_digit byte }
 {
     byte.is_ascii_digit()
 }
@@ -32,7 +33,7 @@ fn is_digit(byte: u8) -> bool
 fn is_wordy(byte: u8) -> bool
     ensures { result ≡ cutting.wordy byte }
 {
-    is_letter(byte) || is_digit(byte)
+    begins_word(byte) || is_digit(byte)
 }
 
 /// Whether a byte is no line feed.
@@ -51,7 +52,7 @@ fn word_end(text: &[u8]) -> Option<usize>
 
 /// The place of the first byte that is no digit.
 fn number_end(text: &[u8]) -> Option<usize>
-    ensures { result ≡ position (λ b. not (tokens.is_digit b)) text.now }
+    ensures { result ≡ position (λ b. not (bytes.is_digit b)) text.now }
 {
     text.iter().position(|byte| !is_digit(*byte))
 }
@@ -73,7 +74,7 @@ fn split_before(text: &[u8], end: Option<usize>) -> (&[u8], &[u8])
 }
 
 /// The letters, `_` and digits at the front, and the bytes after them.
-#[tactic(auto, using(crate::proofs::RunLaws::run_is, crate::proofs::RunLaws::first_within))]
+#[tactic(auto, using(grammar::proofs::Runs::run_is, grammar::proofs::Runs::first_within))]
 pub fn split_word(text: &[u8]) -> (&[u8], &[u8])
     ensures { run_of cutting.wordy text.now ≡ (result.0.now, result.1.now) }
 {
@@ -81,15 +82,15 @@ pub fn split_word(text: &[u8]) -> (&[u8], &[u8])
 }
 
 /// The digits at the front, and the bytes after them.
-#[tactic(auto, using(crate::proofs::RunLaws::run_is, crate::proofs::RunLaws::first_within))]
+#[tactic(auto, using(grammar::proofs::Runs::run_is, grammar::proofs::Runs::first_within))]
 pub fn split_number(text: &[u8]) -> (&[u8], &[u8])
-    ensures { run_of tokens.is_digit text.now ≡ (result.0.now, result.1.now) }
+    ensures { run_of bytes.is_digit text.now ≡ (result.0.now, result.1.now) }
 {
     split_before(text, number_end(text))
 }
 
 /// The bytes before the first line feed, and the bytes from it on.
-#[tactic(auto, using(crate::proofs::RunLaws::run_is, crate::proofs::RunLaws::first_within))]
+#[tactic(auto, using(grammar::proofs::Runs::run_is, grammar::proofs::Runs::first_within))]
 pub fn split_line(text: &[u8]) -> (&[u8], &[u8])
     ensures { run_of tokens.is_in_line text.now ≡ (result.0.now, result.1.now) }
 {

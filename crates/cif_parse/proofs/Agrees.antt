@@ -15,7 +15,7 @@ use Rattle.cif_ast.specs.declared.edges.Loc.{Loc}
 use Rattle.cif_ast.specs.declared.components.Body.{Body}
 use Rattle.cif_ast.specs.declared.components.Item.{Item}
 use Rattle.cif_ast.specs.declared.components.Item.TheVariants as item
-use Rattle.cif_expr.specs.Kinds.{sort, codes_of, word, sign}
+use Rattle.cif_expr.specs.TokenKinds.{sort, codes_of, word, sign}
 use Rattle.cif_expr.specs.Trees.{second}
 use Rattle.cif_expr.specs.Grammar.{ident, names, separated}
 use Rattle.cif_expr.specs.Reading.{first, first_word, first_sign, separated_at}
@@ -28,12 +28,12 @@ use Rattle.cif_decl.specs.Reading.{kind_first, is_labelled, is_component}
 use Rattle.cif_decl.proofs.SightLaws.{labelled}
 use Rattle.cif_decl.proofs.Agrees.{kind_takes, plain_declaration_takes, kind_invariants_takes, declaration_takes, disc_declaration_takes, parameters_takes, invariants_no_component}
 use Rattle.cif_parse.specs.declared.elements.Element.TheVariants as elements
-use Rattle.cif_parse.specs.declared.bodies.Piece.{Piece}
-use Rattle.cif_parse.specs.declared.bodies.Piece.TheVariants as pieces
+use Rattle.cif_parse.specs.declared.bodies.BodyElement.{BodyElement}
+use Rattle.cif_parse.specs.declared.bodies.BodyElement.TheVariants as body_elements
 use Rattle.cif_parse.specs.Trees as tree
 use Rattle.cif_parse.specs.Grammar as g
 use Rattle.cif_parse.specs.Reading as r
-use Rattle.cif_parse.specs.Reading.{name_first, expr_first, element_first, piece_first, item_first, nested_first}
+use Rattle.cif_parse.specs.Reading.{name_first, expr_first, element_first, body_element_first, item_first, nested_first}
 
 -- ---- updates
 
@@ -121,21 +121,21 @@ module _ (text : Text) where
 
   -- ---- automata
 
-  abbrev piece_by_word : Lang Token Piece
-  piece_by_word = pieces.Decls <$> disc_declaration text
-      ∣ (λ v. pieces.Alphabet v.1.0) <$> word w.Alphabet & (given <$> optional (names text)) & sign m.Semicolon
-      ∣ (λ v. pieces.Monitor v.1.0) <$> word w.Monitor & (given <$> optional (names text)) & sign m.Semicolon
-      ∣ pieces.Decls <$> declaration text
+  abbrev body_element_by_word : Lang Token BodyElement
+  body_element_by_word = body_elements.Decls <$> disc_declaration text
+      ∣ (λ v. body_elements.Alphabet v.1.0) <$> word w.Alphabet & (given <$> optional (names text)) & sign m.Semicolon
+      ∣ (λ v. body_elements.Monitor v.1.0) <$> word w.Monitor & (given <$> optional (names text)) & sign m.Semicolon
+      ∣ body_elements.Decls <$> declaration text
 
-  piece_takes : Takes sort false piece_first [] (g.piece text) (r.piece_at text)
-  unfolding r.piece_at r.alphabet_at r.monitor_at
-  piece_takes = wider piece_first [] refl refl (same {p = piece_by_word}
+  body_element_takes : Takes sort false body_element_first [] (g.body_element text) (r.body_element_at text)
+  unfolding r.body_element_at r.alphabet_at r.monitor_at
+  body_element_takes = wider body_element_first [] refl refl (same {p = body_element_by_word}
       (λ a x d. elim d [ inl e ↦ inr (inr (inr e)) | inr e ↦ elim e [ inl f ↦ inl f | inr f ↦ elim f [ inl k ↦ inr (inl k) | inr k ↦ inr (inr (inl k)) ] ] ])
       (λ a x d. elim d [ inl e ↦ inr (inl e) | inr e ↦ elim e [ inl f ↦ inr (inr (inl f)) | inr f ↦ elim f [ inl k ↦ inr (inr (inr k)) | inr k ↦ inl k ] ] ])
-      (either_takes (map_takes pieces.Decls (disc_declaration_takes text)) refl
-      (either_takes (map_takes (λ v. pieces.Alphabet v.1.0) (both_takes (one_takes sort (first_word w.Alphabet)) refl (both_takes (map_takes given (optional_takes (names_takes text))) refl (one_takes sort (first_sign m.Semicolon))))) refl
-      (either_takes (map_takes (λ v. pieces.Monitor v.1.0) (both_takes (one_takes sort (first_word w.Monitor)) refl (both_takes (map_takes given (optional_takes (names_takes text))) refl (one_takes sort (first_sign m.Semicolon))))) refl
-      (map_takes pieces.Decls (declaration_takes text))))))
+      (either_takes (map_takes body_elements.Decls (disc_declaration_takes text)) refl
+      (either_takes (map_takes (λ v. body_elements.Alphabet v.1.0) (both_takes (one_takes sort (first_word w.Alphabet)) refl (both_takes (map_takes given (optional_takes (names_takes text))) refl (one_takes sort (first_sign m.Semicolon))))) refl
+      (either_takes (map_takes (λ v. body_elements.Monitor v.1.0) (both_takes (one_takes sort (first_word w.Monitor)) refl (both_takes (map_takes given (optional_takes (names_takes text))) refl (one_takes sort (first_sign m.Semicolon))))) refl
+      (map_takes body_elements.Decls (declaration_takes text))))))
 
   some_of : (all : List Loc) (x : List Token) → such_that tree.has_one (many (g.location text)) all x → list (g.location text) (g.location text) all x
   some_of [] x d = absurd (let e = d.0 in cc)
@@ -149,12 +149,12 @@ module _ (text : Text) where
   locations_takes = same of_some some_of (such_takes tree.has_one (many_takes refl location_takes))
 
   abbrev body_goes : List ℕ
-  body_goes = first_word w.Location ++ element_first ++ piece_first
+  body_goes = first_word w.Location ++ element_first ++ body_element_first
 
-  automaton_body_takes : Takes sort true (first_word w.Location ++ piece_first) body_goes (g.automaton_body text) (r.automaton_body_at text)
+  automaton_body_takes : Takes sort true (first_word w.Location ++ body_element_first) body_goes (g.automaton_body text) (r.automaton_body_at text)
   unfolding r.automaton_body_at r.body_parts_at
-  automaton_body_takes = wider (first_word w.Location ++ piece_first) body_goes refl refl (map_takes tree.automaton_body (such_takes tree.is_automaton
-      (both_takes (many_takes refl piece_takes) refl locations_takes)))
+  automaton_body_takes = wider (first_word w.Location ++ body_element_first) body_goes refl refl (map_takes tree.automaton_body (such_takes tree.is_automaton
+      (both_takes (many_takes refl body_element_takes) refl locations_takes)))
 
   automaton_end_takes : Takes sort false (first_sign m.Colon) [] (g.automaton_end text) (r.automaton_end_at text)
   unfolding r.automaton_end_at
@@ -168,17 +168,17 @@ automaton_takes = either_takes (one_takes sort (first_word w.Automaton)) refl (m
 
 module _ (text : Text) where
   abbrev named_end : Lang Token Body → Lang Token Item
-  named_end ending = (λ v. tree.component_of v.0 v.1) <$> ident text & ending
+  named_end ending = tree.component_end <$> ident text & ending
 
   abbrev defined_end : Lang Token Body → Lang Token Item
-  defined_end ending = (λ v. tree.definition_of v.1.0 v.1.1.0 v.1.1.1) <$> word w.Def & ident text & parameters text & ending
+  defined_end ending = tree.definition_end <$> word w.Def & ident text & parameters text & ending
 
   component_end_takes : (ending : Lang Token Body) (s : Reader Token Body) → Takes sort false (first_sign m.Colon) [] ending s
       → Takes sort false (codes_of (Reserved w.Def ∷ Id ∷ [])) [] (defined_end ending ∣ named_end ending) (r.component_end_at text s)
   unfolding r.component_end_at r.defined_end_at r.named_end_at
   component_end_takes ending s h = either_takes
-      (map_takes (λ v. tree.definition_of v.1.0 v.1.1.0 v.1.1.1) (both_takes (one_takes sort (first_word w.Def)) refl (both_takes (ident_takes text) refl (both_takes (parameters_takes text) refl h)))) refl
-      (map_takes (λ v. tree.component_of v.0 v.1) (both_takes (ident_takes text) refl h))
+      (map_takes tree.definition_end (both_takes (one_takes sort (first_word w.Def)) refl (both_takes (ident_takes text) refl (both_takes (parameters_takes text) refl h)))) refl
+      (map_takes tree.component_end (both_takes (ident_takes text) refl h))
 
   instance_takes : Takes sort false (first Id) [] (g.instance text) (r.instance_at text)
   unfolding r.instance_at r.arguments_at
@@ -206,10 +206,10 @@ module _ (text : Text) where
     nested_of a x (inr (v, (x1, y, k, inr (u, d, is), e), made)) = inl (inr ((v.0, u), (x1, y, k, d, e), made ∙ is))
 
     head_of : (a : Item) (x : List Token) → nested inner a x → by_head inner a x
-    head_of a x (inl (inl (v, (x1, y, k, d, e), made))) = inl ((v.0, tree.component_of v.1.0 v.1.1), (x1, y, k, inr (v.1, d, refl), e), made)
-    head_of a x (inl (inr (v, (x1, y, k, d, e), made))) = inr ((v.0, tree.component_of v.1.0 v.1.1), (x1, y, k, inr (v.1, d, refl), e), made)
-    head_of a x (inr (inl (v, (x1, y, k, d, e), made))) = inl ((v.0, tree.definition_of v.1.1.0 v.1.1.1.0 v.1.1.1.1), (x1, y, k, inl (v.1, d, refl), e), made)
-    head_of a x (inr (inr (v, (x1, y, k, d, e), made))) = inr ((v.0, tree.definition_of v.1.1.0 v.1.1.1.0 v.1.1.1.1), (x1, y, k, inl (v.1, d, refl), e), made)
+    head_of a x (inl (inl (v, (x1, y, k, d, e), made))) = inl ((v.0, tree.component_end v.1), (x1, y, k, inr (v.1, d, refl), e), made)
+    head_of a x (inl (inr (v, (x1, y, k, d, e), made))) = inr ((v.0, tree.component_end v.1), (x1, y, k, inr (v.1, d, refl), e), made)
+    head_of a x (inr (inl (v, (x1, y, k, d, e), made))) = inl ((v.0, tree.definition_end v.1), (x1, y, k, inl (v.1, d, refl), e), made)
+    head_of a x (inr (inr (v, (x1, y, k, d, e), made))) = inr ((v.0, tree.definition_end v.1), (x1, y, k, inl (v.1, d, refl), e), made)
 
     nested_takes : Takes sort false nested_first [] (nested inner) (r.nested_at text s)
     unfolding r.nested_at r.group_at r.automaton_item_at

@@ -5,7 +5,7 @@ use Rattle.grammar.specs.Reader.{map_at, starts}
 use Rattle.cif_lex.specs.declared.token.Token.{Token}
 use Rattle.cif_lex.specs.declared.token.TokenKind.TheVariants.{Id}
 use Rattle.cif_ast.specs.declared.components.Item.TheVariants as item
-use Rattle.cif_expr.specs.Kinds.{sort}
+use Rattle.cif_expr.specs.TokenKinds.{sort}
 use Rattle.cif_expr.specs.Reading.{first}
 use Rattle.cif_decl.specs.Trees.{single}
 use Rattle.cif_decl.specs.Reading.{plain_first, is_component, plain_declaration_at, kind_invariants_at}

@@ -3,6 +3,7 @@ pub mod Whole
 pub mod Sorting
 pub mod Depths
 pub mod Failing
+pub mod Firsts
 pub mod Counted
 pub mod CountedExpressions
 pub mod CountedDeclarations

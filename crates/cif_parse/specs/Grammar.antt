@@ -21,15 +21,15 @@ use Rattle.cif_ast.specs.declared.components.Body.{Body}
 use Rattle.cif_ast.specs.declared.components.Item.{Item}
 use Rattle.cif_ast.specs.declared.components.Item.TheVariants as items
 use Rattle.cif_ast.specs.declared.components.Spec.{Spec}
-use Rattle.cif_expr.specs.Kinds.{word, sign}
+use Rattle.cif_expr.specs.TokenKinds.{word, sign}
 use Rattle.cif_expr.specs.Trees.{second}
-use Rattle.cif_expr.specs.Grammar.{ident, name, names, separated, IsExpr, expr_list}
+use Rattle.cif_expr.specs.Grammar.{max_depth, ident, name, names, separated, IsExpr, expr_list}
 use Rattle.cif_decl.specs.Trees.{single, given}
 use Rattle.cif_decl.specs.Grammar.{kind, declaration, disc_declaration, parameters}
 use Rattle.cif_parse.specs.declared.elements.Element.{Element}
 use Rattle.cif_parse.specs.declared.elements.Element.TheVariants as elements
-use Rattle.cif_parse.specs.declared.bodies.Piece.{Piece}
-use Rattle.cif_parse.specs.declared.bodies.Piece.TheVariants as pieces
+use Rattle.cif_parse.specs.declared.bodies.BodyElement.{BodyElement}
+use Rattle.cif_parse.specs.declared.bodies.BodyElement.TheVariants as body_elements
 use Rattle.cif_parse.specs.declared.error.ParseErr.{ParseErr}
 use Rattle.cif_parse.specs.declared.error.ParseErr.TheVariants as err
 use Rattle.cif_parse.specs.Trees as tree
@@ -63,9 +63,6 @@ update text (suc n) u ts = (set text ∣ choice text (separated m.Comma (update 
 -- upd {"," upd}
 abbrev pub updates : Text → ℕ → Lang Token (List Update)
 updates text n = separated m.Comma (update text n)
-
-abbrev pub max_depth : ℕ
-max_depth = 100
 
 module _ (text : Text) where
   -- ---- edges
@@ -102,15 +99,15 @@ module _ (text : Text) where
   -- ---- automata
 
   -- decl | disc | "alphabet" [names] ";" | "monitor" [names] ";"
-  abbrev pub piece : Lang Token Piece
-  piece = pieces.Decls <$> declaration text
-      ∣ pieces.Decls <$> disc_declaration text
-      ∣ (λ v. pieces.Alphabet v.1.0) <$> word w.Alphabet & (given <$> optional (names text)) & sign m.Semicolon
-      ∣ (λ v. pieces.Monitor v.1.0) <$> word w.Monitor & (given <$> optional (names text)) & sign m.Semicolon
+  abbrev pub body_element : Lang Token BodyElement
+  body_element = body_elements.Decls <$> declaration text
+      ∣ body_elements.Decls <$> disc_declaration text
+      ∣ (λ v. body_elements.Alphabet v.1.0) <$> word w.Alphabet & (given <$> optional (names text)) & sign m.Semicolon
+      ∣ (λ v. body_elements.Monitor v.1.0) <$> word w.Monitor & (given <$> optional (names text)) & sign m.Semicolon
 
   -- {decl | disc | "alphabet" [names] ";" | "monitor" [names] ";"} loc {loc}
   abbrev pub automaton_body : Lang Token AutoBody
-  automaton_body = tree.automaton_body <$> such_that tree.is_automaton (many piece & list location location)
+  automaton_body = tree.automaton_body <$> such_that tree.is_automaton (many body_element & list location location)
 
   -- ":" abody "end"
   abbrev pub automaton_end : Lang Token Body

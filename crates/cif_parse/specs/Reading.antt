@@ -1,4 +1,4 @@
--- Reading updates, edges, locations, automata and components.
+-- Helper of the code: reading updates, edges, locations, automata and components.
 use Rattle.std.specs.Prelude.{ℕ, zero, suc, List, [], ◌∷◌, ◌++◌, map, Option, Some, None}
 use Rattle.grammar.specs.Pieces.{Text}
 use Rattle.grammar.specs.Lang.{flat}
@@ -21,7 +21,7 @@ use Rattle.cif_ast.specs.declared.components.Body.{Body}
 use Rattle.cif_ast.specs.declared.components.Item.{Item}
 use Rattle.cif_ast.specs.declared.components.Item.TheVariants as item
 use Rattle.cif_ast.specs.declared.components.Spec.{Spec}
-use Rattle.cif_expr.specs.Kinds.{sort, codes_of}
+use Rattle.cif_expr.specs.TokenKinds.{sort, codes_of}
 use Rattle.cif_expr.specs.Trees.{second}
 use Rattle.cif_expr.specs.Reading.{word_at, sign_at, first, first_word, first_sign, ident_at, name_at, expr_at, separated_at}
 use Rattle.cif_expr.specs.Parts.{names_at, expr_list_at}
@@ -29,8 +29,8 @@ use Rattle.cif_decl.specs.Trees.{single, given}
 use Rattle.cif_decl.specs.Reading.{kind_at, kind_first, plain_first, is_component, plain_declaration_at, kind_invariants_at, declaration_at, disc_declaration_at, parameters_at}
 use Rattle.cif_parse.specs.declared.elements.Element.{Element}
 use Rattle.cif_parse.specs.declared.elements.Element.TheVariants as elements
-use Rattle.cif_parse.specs.declared.bodies.Piece.{Piece}
-use Rattle.cif_parse.specs.declared.bodies.Piece.TheVariants as pieces
+use Rattle.cif_parse.specs.declared.bodies.BodyElement.{BodyElement}
+use Rattle.cif_parse.specs.declared.bodies.BodyElement.TheVariants as body_elements
 use Rattle.cif_parse.specs.Trees as tree
 
 -- what an expression begins with
@@ -45,8 +45,8 @@ name_first = codes_of (Sign m.Dot ∷ Id ∷ [])
 abbrev pub element_first : List ℕ
 element_first = codes_of (Reserved w.Initial ∷ Reserved w.Marked ∷ Reserved w.Equation ∷ Reserved w.Edge ∷ [])
 
-abbrev pub piece_first : List ℕ
-piece_first = plain_first ++ kind_first ++ codes_of (Reserved w.Disc ∷ Reserved w.Alphabet ∷ Reserved w.Monitor ∷ [])
+abbrev pub body_element_first : List ℕ
+body_element_first = plain_first ++ kind_first ++ codes_of (Reserved w.Disc ∷ Reserved w.Alphabet ∷ Reserved w.Monitor ∷ [])
 
 abbrev pub nested_first : List ℕ
 nested_first = codes_of (Reserved w.Group ∷ Reserved w.Automaton ∷ []) ++ kind_first
@@ -142,23 +142,23 @@ module _ (text : Text) where
 
   -- ---- automata
 
-  unfoldable pub alphabet_at : Reader Token Piece
-  alphabet_at = map_at (λ v. pieces.Alphabet v.1.0) (both_at (word_at w.Alphabet) (both_at (map_at given (optional_at sort name_first (names_at text))) (sign_at m.Semicolon)))
+  unfoldable pub alphabet_at : Reader Token BodyElement
+  alphabet_at = map_at (λ v. body_elements.Alphabet v.1.0) (both_at (word_at w.Alphabet) (both_at (map_at given (optional_at sort name_first (names_at text))) (sign_at m.Semicolon)))
 
-  unfoldable pub monitor_at : Reader Token Piece
-  monitor_at = map_at (λ v. pieces.Monitor v.1.0) (both_at (word_at w.Monitor) (both_at (map_at given (optional_at sort name_first (names_at text))) (sign_at m.Semicolon)))
+  unfoldable pub monitor_at : Reader Token BodyElement
+  monitor_at = map_at (λ v. body_elements.Monitor v.1.0) (both_at (word_at w.Monitor) (both_at (map_at given (optional_at sort name_first (names_at text))) (sign_at m.Semicolon)))
 
-  unfoldable pub piece_at : Reader Token Piece
-  piece_at = either_at sort (first_word w.Disc) (map_at pieces.Decls (disc_declaration_at text))
+  unfoldable pub body_element_at : Reader Token BodyElement
+  body_element_at = either_at sort (first_word w.Disc) (map_at body_elements.Decls (disc_declaration_at text))
       (either_at sort (first_word w.Alphabet) alphabet_at
       (either_at sort (first_word w.Monitor) monitor_at
-      (map_at pieces.Decls (declaration_at text))))
+      (map_at body_elements.Decls (declaration_at text))))
 
   unfoldable pub locations_at : Reader Token (List Loc)
   locations_at = such_at tree.has_one (many_at sort (first_word w.Location) location_at)
 
-  unfoldable pub body_parts_at : Reader Token (List Piece × List Loc)
-  body_parts_at = such_at tree.is_automaton (both_at (many_at sort piece_first piece_at) locations_at)
+  unfoldable pub body_parts_at : Reader Token (List BodyElement × List Loc)
+  body_parts_at = such_at tree.is_automaton (both_at (many_at sort body_element_first body_element_at) locations_at)
 
   unfoldable pub automaton_body_at : Reader Token AutoBody
   automaton_body_at = map_at tree.automaton_body body_parts_at
@@ -174,10 +174,10 @@ module _ (text : Text) where
 
   -- after `group` or the words of an automaton
   unfoldable pub named_end_at : Reader Token Body → Reader Token Item
-  named_end_at ending = map_at (λ v. tree.component_of v.0 v.1) (both_at (ident_at text) ending)
+  named_end_at ending = map_at tree.component_end (both_at (ident_at text) ending)
 
   unfoldable pub defined_end_at : Reader Token Body → Reader Token Item
-  defined_end_at ending = map_at (λ v. tree.definition_of v.1.0 v.1.1.0 v.1.1.1) (both_at (word_at w.Def) (both_at (ident_at text) (both_at (parameters_at text) ending)))
+  defined_end_at ending = map_at tree.definition_end (both_at (word_at w.Def) (both_at (ident_at text) (both_at (parameters_at text) ending)))
 
   unfoldable pub component_end_at : Reader Token Body → Reader Token Item
   component_end_at ending = either_at sort (first_word w.Def) (defined_end_at ending) (named_end_at ending)

@@ -2,23 +2,25 @@
 
 ghost use Rattle.std.specs.Prelude.{◌≡◌, IfOk, length};
 ghost use Rattle.std.specs.List.{list_all};
+ghost use Rattle.grammar.specs.Reader as reader;
 ghost use Rattle.cif_expr.specs.Gives.{Gives};
+ghost use Rattle.cif_expr.specs.TokenKinds as kinds;
 ghost use Rattle.cif_parse.specs.Reading as reading;
 ghost use Rattle.cif_parse.specs.Trees as tree;
 
-use crate::bodies::Piece;
+use crate::bodies::BodyElement;
 use crate::locations::LocationPart;
 use crate::places::told_in_automaton;
 use cif_ast::{AutoBody, Body, Decl, Loc, Name};
 use cif_base::{Items, Memory};
-use cif_decl::{component_kind, declaration, disc_declaration, given};
+use cif_decl::{begins_declaration, component_kind, declaration, disc_declaration, given};
 use cif_expr::{NamesPart, Part, Read, ReadError, fitted, optional, repeated, sign, starts, word};
 use cif_lex::{Mark, Token, TokenKind, Word};
 use std::alloc::Global;
 
 /// `alphabet` and its events.
 #[tactic(auto, unfolding(crate::specs::Reading::alphabet_at))]
-fn alphabet<'a>(alloc: Global, text: &[u8], tokens: &'a [Token]) -> Read<'a, Piece>
+fn alphabet<'a>(alloc: Global, text: &[u8], tokens: &'a [Token]) -> Read<'a, BodyElement>
     ensures { Gives (λ x. (x.0, x.1.now)) result (reading.alphabet_at text.now tokens.now) }
 {
     let (_alphabet, rest) = word(tokens, Word::Alphabet)?;
@@ -30,12 +32,12 @@ fn alphabet<'a>(alloc: Global, text: &[u8], tokens: &'a [Token]) -> Read<'a, Pie
         rest,
     )?;
     let (_end, rest) = sign(rest, Mark::Semicolon)?;
-    Ok((Piece::Alphabet(given(alloc, names)), rest))
+    Ok((BodyElement::Alphabet(given(alloc, names)), rest))
 }
 
 /// `monitor` and its events.
 #[tactic(auto, unfolding(crate::specs::Reading::monitor_at))]
-fn monitor<'a>(alloc: Global, text: &[u8], tokens: &'a [Token]) -> Read<'a, Piece>
+fn monitor<'a>(alloc: Global, text: &[u8], tokens: &'a [Token]) -> Read<'a, BodyElement>
     ensures { Gives (λ x. (x.0, x.1.now)) result (reading.monitor_at text.now tokens.now) }
 {
     let (_monitor, rest) = word(tokens, Word::Monitor)?;
@@ -47,33 +49,66 @@ fn monitor<'a>(alloc: Global, text: &[u8], tokens: &'a [Token]) -> Read<'a, Piec
         rest,
     )?;
     let (_end, rest) = sign(rest, Mark::Semicolon)?;
-    Ok((Piece::Monitor(given(alloc, names)), rest))
+    Ok((BodyElement::Monitor(given(alloc, names)), rest))
+}
+
+/// Declarations, an alphabet, or what is monitored.
+#[tactic(auto, unfolding(crate::specs::Reading::body_element_at))]
+fn body_element<'a>(alloc: Global, text: &[u8], tokens: &'a [Token]) -> Read<'a, BodyElement>
+    ensures { Gives (λ x. (x.0, x.1.now)) result (reading.body_element_at text.now tokens.now) }
+{
+    if starts(tokens, &[TokenKind::Reserved(Word::Disc)]) {
+        let (found, rest) = disc_declaration(alloc, text, tokens)?;
+        Ok((BodyElement::Decls(found), rest))
+    } else if starts(tokens, &[TokenKind::Reserved(Word::Alphabet)]) {
+        alphabet(alloc, text, tokens)
+    } else if starts(tokens, &[TokenKind::Reserved(Word::Monitor)]) {
+        monitor(alloc, text, tokens)
+    } else {
+        let (found, rest) = declaration(alloc, text, tokens)?;
+        Ok((BodyElement::Decls(found), rest))
+    }
+}
+
+/// Whether something begins here that stands before the locations.
+#[tactic(auto, using(crate::proofs::Firsts::body_element_begins))]
+fn begins_body_element(tokens: &[Token]) -> bool
+    ensures { result ≡ reader.starts kinds.sort reading.body_element_first tokens.now }
+{
+    begins_declaration(tokens)
+        || starts(
+            tokens,
+            &[
+                TokenKind::Reserved(Word::Plant),
+                TokenKind::Reserved(Word::Requirement),
+                TokenKind::Reserved(Word::Supervisor),
+                TokenKind::Reserved(Word::Disc),
+                TokenKind::Reserved(Word::Alphabet),
+                TokenKind::Reserved(Word::Monitor),
+            ],
+        )
 }
 
 /// What stands before the locations.
-struct PiecePart;
-
-impl Part for PiecePart {
-    type Tree = Piece;
-
-    ghost use Rattle.cif_parse.specs.Reading as reading;
-
-    ghost tree_at = { λ s. reading.piece_at };
-
-    #[tactic(auto, unfolding(crate::specs::Reading::piece_at))]
-    fn read<'a>(&self, alloc: Global, text: &[u8], tokens: &'a [Token]) -> Read<'a, Piece> {
-        if starts(tokens, &[TokenKind::Reserved(Word::Disc)]) {
-            let (found, rest) = disc_declaration(alloc, text, tokens)?;
-            Ok((Piece::Decls(found), rest))
-        } else if starts(tokens, &[TokenKind::Reserved(Word::Alphabet)]) {
-            alphabet(alloc, text, tokens)
-        } else if starts(tokens, &[TokenKind::Reserved(Word::Monitor)]) {
-            monitor(alloc, text, tokens)
-        } else {
-            let (found, rest) = declaration(alloc, text, tokens)?;
-            Ok((Piece::Decls(found), rest))
+#[tactic(auto, using(grammar::proofs::Loops::after_step, grammar::proofs::Loops::after_stop, grammar::proofs::Loops::after_fail, grammar::proofs::Loops::after_end, grammar::proofs::Loops::after_none))]
+fn body_elements<'a>(
+    alloc: Global,
+    text: &[u8],
+    tokens: &'a [Token],
+) -> Read<'a, Items<BodyElement>>
+    ensures { Gives (λ x. (x.0, x.1.now)) result (reader.many_at kinds.sort reading.body_element_first (reading.body_element_at text.now) tokens.now) }
+{
+    let mut found = Items::new(alloc);
+    let mut rest = tokens;
+    for _turn in 0..tokens.len() {
+        if !begins_body_element(rest) {
+            return Ok((found, rest));
         }
+        let (element, left) = body_element(alloc, text, rest)?;
+        found.push(element)?;
+        rest = left;
     }
+    Ok((found, rest))
 }
 
 /// One location or more.
@@ -105,12 +140,12 @@ fn has_one(locs: &[Loc]) -> bool
 }
 
 /// How many alphabets there are.
-fn alphabets(pieces: &[Piece]) -> usize
-    ensures { result ≡ length (tree.alphabets_of pieces.now) }
+fn alphabets(elements: &[BodyElement]) -> usize
+    ensures { result ≡ length (tree.alphabets_of elements.now) }
 {
     let mut count = 0;
-    for piece in pieces {
-        if let Piece::Alphabet(_) = piece {
+    for element in elements {
+        if let BodyElement::Alphabet(_) = element {
             count += 1;
         }
     }
@@ -118,12 +153,12 @@ fn alphabets(pieces: &[Piece]) -> usize
 }
 
 /// How many lists of monitored events there are.
-fn monitors(pieces: &[Piece]) -> usize
-    ensures { result ≡ length (tree.monitors_of pieces.now) }
+fn monitors(elements: &[BodyElement]) -> usize
+    ensures { result ≡ length (tree.monitors_of elements.now) }
 {
     let mut count = 0;
-    for piece in pieces {
-        if let Piece::Monitor(_) = piece {
+    for element in elements {
+        if let BodyElement::Monitor(_) = element {
             count += 1;
         }
     }
@@ -145,25 +180,29 @@ fn are_named(locs: &[Loc]) -> bool
 /// Whether these may be one automaton: it has at most one alphabet and one list of monitored events, and a location without a
 /// name is the only one.
 #[tactic(auto, unfolding(crate::specs::Trees::is_automaton))]
-fn is_automaton(pieces: &[Piece], locs: &[Loc]) -> bool
-    ensures { result ≡ tree.is_automaton (pieces.now, locs.now) }
+fn is_automaton(elements: &[BodyElement], locs: &[Loc]) -> bool
+    ensures { result ≡ tree.is_automaton (elements.now, locs.now) }
 {
-    alphabets(pieces) <= 1 && (monitors(pieces) <= 1 && (locs.len() <= 1 || are_named(locs)))
+    alphabets(elements) <= 1 && (monitors(elements) <= 1 && (locs.len() <= 1 || are_named(locs)))
 }
 
-/// The body of an automaton by its pieces.
+/// The body of an automaton by its elements.
 #[tactic(auto, using(crate::proofs::Sorting::declared_behind, crate::proofs::Sorting::same_declarations, crate::proofs::Sorting::only_alphabet, crate::proofs::Sorting::same_alphabet, crate::proofs::Sorting::only_monitor, crate::proofs::Sorting::same_monitor), unfolding(crate::specs::Trees::automaton_of))]
-fn gathered(alloc: Global, pieces: Items<Piece>, locs: Items<Loc>) -> Result<AutoBody, Memory>
-    ensures { IfOk result (λ b. b ≡ tree.automaton_of pieces locs) }
+fn gathered(
+    alloc: Global,
+    elements: Items<BodyElement>,
+    locs: Items<Loc>,
+) -> Result<AutoBody, Memory>
+    ensures { IfOk result (λ b. b ≡ tree.automaton_of elements locs) }
 {
     let mut decls: Items<Decl> = Items::new(alloc);
     let mut alphabet: Option<Items<Name>> = None;
     let mut monitor: Option<Items<Name>> = None;
-    for piece in pieces.into_vec() {
-        match piece {
-            Piece::Decls(found) => decls.append(found)?,
-            Piece::Alphabet(names) => alphabet = Some(names),
-            Piece::Monitor(names) => monitor = Some(names),
+    for element in elements.into_vec() {
+        match element {
+            BodyElement::Decls(found) => decls.append(found)?,
+            BodyElement::Alphabet(names) => alphabet = Some(names),
+            BodyElement::Monitor(names) => monitor = Some(names),
         }
     }
     Ok(AutoBody {
@@ -190,36 +229,12 @@ fn automaton_body<'a>(alloc: Global, text: &[u8], tokens: &'a [Token]) -> Read<'
 fn body_parts<'a>(alloc: Global, text: &[u8], tokens: &'a [Token]) -> Read<'a, AutoBody>
     ensures { Gives (λ x. (x.0, x.1.now)) result (reading.automaton_body_at text.now tokens.now) }
 {
-    let (pieces, rest) = repeated(
-        &PiecePart,
-        alloc,
-        text,
-        &[
-            TokenKind::Reserved(Word::Type),
-            TokenKind::Reserved(Word::Enum),
-            TokenKind::Reserved(Word::Event),
-            TokenKind::Reserved(Word::Controllable),
-            TokenKind::Reserved(Word::Uncontrollable),
-            TokenKind::Reserved(Word::Const),
-            TokenKind::Reserved(Word::Alg),
-            TokenKind::Reserved(Word::Input),
-            TokenKind::Reserved(Word::Equation),
-            TokenKind::Reserved(Word::Invariant),
-            TokenKind::Reserved(Word::Marked),
-            TokenKind::Reserved(Word::Plant),
-            TokenKind::Reserved(Word::Requirement),
-            TokenKind::Reserved(Word::Supervisor),
-            TokenKind::Reserved(Word::Disc),
-            TokenKind::Reserved(Word::Alphabet),
-            TokenKind::Reserved(Word::Monitor),
-        ],
-        tokens,
-    )?;
+    let (elements, rest) = body_elements(alloc, text, tokens)?;
     let (locs, rest) = locations(alloc, text, rest)?;
-    if !is_automaton(pieces.as_slice(), locs.as_slice()) {
+    if !is_automaton(elements.as_slice(), locs.as_slice()) {
         return Err(ReadError::NotRead(rest.len()));
     }
-    Ok((gathered(alloc, pieces, locs)?, rest))
+    Ok((gathered(alloc, elements, locs)?, rest))
 }
 
 /// A colon, the body of an automaton and `end`, as a part.

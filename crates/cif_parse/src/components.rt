@@ -5,7 +5,7 @@ ghost use Rattle.std.specs.Prelude.{◌≡◌, IfOk, map};
 ghost use Rattle.grammar.specs.Reader as reader;
 ghost use Rattle.cif_ast.specs.declared.components.Item.TheVariants as item;
 ghost use Rattle.cif_expr.specs.Gives.{Gives};
-ghost use Rattle.cif_expr.specs.Kinds as kinds;
+ghost use Rattle.cif_expr.specs.TokenKinds as kinds;
 ghost use Rattle.cif_decl.specs.Reading as declarations;
 ghost use Rattle.cif_parse.specs.Reading as reading;
 ghost use Rattle.cif_parse.specs.ReadsItem.{ReadsItem};
@@ -15,7 +15,9 @@ use crate::expressions::perhaps;
 use crate::places::told_at_item;
 use cif_ast::{Body, Comp, Decl, Def, Expr, Inst, Item};
 use cif_base::{Items, Memory};
-use cif_decl::{given, is_component, kind_invariants, parameters, plain_declaration};
+use cif_decl::{
+    begins_declaration, given, is_component, kind_invariants, parameters, plain_declaration,
+};
 use cif_expr::{ExprListPart, Part, Read, ReadError, ident, name, only, sign, starts, word};
 use cif_lex::{Mark, Token, TokenKind, Word};
 use std::alloc::Global;
@@ -209,54 +211,23 @@ impl<
     }
 }
 
-/// Whether a declaration begins here that doesn't begin with a kind.
-pub fn begins_declaration(tokens: &[Token]) -> bool
-    ensures { result ≡ reader.starts kinds.sort declarations.plain_first tokens.now }
-{
-    starts(
-        tokens,
-        &[
-            TokenKind::Reserved(Word::Type),
-            TokenKind::Reserved(Word::Enum),
-            TokenKind::Reserved(Word::Event),
-            TokenKind::Reserved(Word::Controllable),
-            TokenKind::Reserved(Word::Uncontrollable),
-            TokenKind::Reserved(Word::Const),
-            TokenKind::Reserved(Word::Alg),
-            TokenKind::Reserved(Word::Input),
-            TokenKind::Reserved(Word::Equation),
-            TokenKind::Reserved(Word::Invariant),
-            TokenKind::Reserved(Word::Marked),
-        ],
-    )
-}
-
 /// Whether an item begins here.
+#[tactic(auto, using(crate::proofs::Firsts::item_begins))]
 fn begins_item(tokens: &[Token]) -> bool
     ensures { result ≡ reader.starts kinds.sort reading.item_first tokens.now }
 {
-    starts(
-        tokens,
-        &[
-            TokenKind::Reserved(Word::Type),
-            TokenKind::Reserved(Word::Enum),
-            TokenKind::Reserved(Word::Event),
-            TokenKind::Reserved(Word::Controllable),
-            TokenKind::Reserved(Word::Uncontrollable),
-            TokenKind::Reserved(Word::Const),
-            TokenKind::Reserved(Word::Alg),
-            TokenKind::Reserved(Word::Input),
-            TokenKind::Reserved(Word::Equation),
-            TokenKind::Reserved(Word::Invariant),
-            TokenKind::Reserved(Word::Marked),
-            TokenKind::Id,
-            TokenKind::Reserved(Word::Group),
-            TokenKind::Reserved(Word::Automaton),
-            TokenKind::Reserved(Word::Plant),
-            TokenKind::Reserved(Word::Requirement),
-            TokenKind::Reserved(Word::Supervisor),
-        ],
-    )
+    begins_declaration(tokens)
+        || starts(
+            tokens,
+            &[
+                TokenKind::Id,
+                TokenKind::Reserved(Word::Group),
+                TokenKind::Reserved(Word::Automaton),
+                TokenKind::Reserved(Word::Plant),
+                TokenKind::Reserved(Word::Requirement),
+                TokenKind::Reserved(Word::Supervisor),
+            ],
+        )
 }
 
 /// Invariants after a kind.

@@ -2,7 +2,7 @@
 
 ghost use Rattle.grammar.specs.Reader as reader;
 ghost use Rattle.cif_expr.specs.Gives.{Gives};
-ghost use Rattle.cif_expr.specs.Kinds as kinds;
+ghost use Rattle.cif_expr.specs.TokenKinds as kinds;
 ghost use Rattle.cif_parse.specs.Reading as reading;
 
 use cif_expr::{Part, Read, optional};

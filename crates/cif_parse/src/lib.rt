@@ -14,11 +14,8 @@ mod parsing;
 mod places;
 mod updating;
 
-pub use bodies::Piece;
+pub use bodies::BodyElement;
 pub use elements::Element;
 pub use error::ParseErr;
 pub use laws::one_tree;
 pub use parsing::parse;
-
-#[cfg(test)]
-mod tests;

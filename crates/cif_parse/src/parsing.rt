@@ -3,6 +3,8 @@
 ghost use Rattle.std.specs.Prelude.{◌≡◌, ◌+◌, ◌<◌, ◌≤◌, ◌^◌, length, IfOk, IfErr, MatchResult};
 ghost use Rattle.cif_lex.specs.Tokens.{Tokens};
 ghost use Rattle.cif_ast.specs.Countable.{IsCountable};
+ghost use Rattle.cif_ast.specs.Shallow.{IsShallow};
+ghost use Rattle.cif_ast.specs.SmallNumbers.{HasSmallNumbers};
 ghost use Rattle.cif_ast.specs.declared.components.Spec.{Spec};
 ghost use Rattle.cif_expr.specs.Gives.{Gives};
 ghost use Rattle.cif_parse.specs.Grammar.{Reads, ParseRefusalDue};
@@ -47,6 +49,8 @@ pub fn parse(alloc: Global, text: &[u8], tokens: &[Token]) -> Result<Spec, Parse
     requires { Tokens text.now tokens.now }
     ensures tree { IfOk result (Reads text.now) }
     ensures countable { length text.now + 1 < 2 ^ 31 → IfOk result IsCountable }
+    ensures small { length text.now + 1 < 2 ^ 31 → IfOk result HasSmallNumbers }
+    ensures shallow { IfOk result IsShallow }
     ensures refused { IfErr result (ParseRefusalDue text.now) }
     // A text that has a tree is refused for want of memory alone.
     ensures complete { (spec : Spec) → Reads text.now spec

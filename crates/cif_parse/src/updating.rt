@@ -6,7 +6,7 @@ ghost use Rattle.cif_lex.specs.declared.token.Word.TheVariants as w;
 ghost use Rattle.grammar.specs.Loops.{after};
 ghost use Rattle.grammar.specs.Reader as reader;
 ghost use Rattle.cif_expr.specs.Gives.{Gives};
-ghost use Rattle.cif_expr.specs.Kinds as kinds;
+ghost use Rattle.cif_expr.specs.TokenKinds as kinds;
 ghost use Rattle.cif_expr.specs.Reading as expressions;
 ghost use Rattle.cif_decl.specs.Trees.{given};
 ghost use Rattle.cif_parse.specs.Reading as reading;

@@ -1,7 +1,7 @@
 use Rattle.std.proofs.Common.{◌≡◌, ◌-◌}
 use Rattle.grammar.specs.Reader.{many_from, many_at}
 use Rattle.grammar.specs.Loops.{after}
-use Rattle.cif_expr.specs.Kinds.{sort}
+use Rattle.cif_expr.specs.TokenKinds.{sort}
 use Rattle.cif_expr.specs.Reading.{first_sign, after_sign_at}
 use Rattle.cif_expr.proofs.parts.more.Given as goal
 

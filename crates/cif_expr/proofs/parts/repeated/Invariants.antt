@@ -1,7 +1,7 @@
 use Rattle.std.proofs.Common.{◌≡◌, ◌-◌}
 use Rattle.grammar.specs.Reader.{many_from, many_at}
 use Rattle.grammar.specs.Loops.{after}
-use Rattle.cif_expr.specs.Kinds.{sort, codes_of}
+use Rattle.cif_expr.specs.TokenKinds.{sort, codes_of}
 use Rattle.cif_expr.proofs.parts.repeated.Given as goal
 
 abbrev pub invariant-loop-turn : goal.invariant-loop-turn

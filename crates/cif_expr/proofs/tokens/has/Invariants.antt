@@ -1,6 +1,6 @@
 use Rattle.std.proofs.Common.{◌≡◌, drop}
 use Rattle.grammar.specs.Lang.{has}
-use Rattle.cif_expr.specs.Kinds.{code, codes_of}
+use Rattle.cif_expr.specs.TokenKinds.{code, codes_of}
 use Rattle.cif_expr.proofs.tokens.has.Given as goal
 
 abbrev pub invariant-loop-one : goal.invariant-loop-one

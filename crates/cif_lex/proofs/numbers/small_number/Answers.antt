@@ -1,5 +1,6 @@
 use Rattle.std.proofs.Common.{◌≡◌, false, nat_le, refl, sym, arith}
-use Rattle.cif_lex.specs.Tokens.{digits_from, number_of, small_number}
+use Rattle.grammar.specs.Bytes.{digits_from}
+use Rattle.cif_lex.specs.Tokens.{number_of, small_number}
 use Rattle.cif_lex.proofs.NumberLaws.{too_big_now}
 use Rattle.cif_lex.proofs.numbers.small_number.Goals as goal
 

@@ -1,5 +1,5 @@
 use Rattle.std.proofs.Common.{◌≡◌, ◌≤◌, drop}
-use Rattle.cif_lex.specs.Tokens.{digits_from}
+use Rattle.grammar.specs.Bytes.{digits_from}
 use Rattle.cif_lex.proofs.numbers.small_number.Given as goal
 
 abbrev pub invariant-loop-digit : goal.invariant-loop-digit

@@ -1,11 +1,19 @@
 use Rattle.std.proofs.Common.{rules}
-use Rattle.cif_parse.proofs.Whole.{same_tree, none_read, not_read_none, too_deep_none}
-use Rattle.cif_parse.proofs.CountedSources.{read_countable}
+use Rattle.cif_parse.proofs.Whole.{tree_read, same_tree, none_read, not_read_none, too_deep_none}
+use Rattle.cif_parse.proofs.CountedSources.{tree_countable, tree_small, tree_shallow}
 use Rattle.cif_parse.proofs.parsing.parse.Goals as goal
 
 pub returns-in-Ok-clause-countable : goal.returns-in-Ok-clause-countable
 returns-in-Ok-clause-countable c short =
-    read_countable c.args.text.now c.args.tokens.now c.in-Ok.spec c.requires c.in-Ok.ensures short
+    tree_countable c.args.text.now c.in-Ok.spec (tree_read c.args.text.now c.args.tokens.now c.in-Ok.spec c.requires c.in-Ok.ensures) short
+
+pub returns-in-Ok-clause-small : goal.returns-in-Ok-clause-small
+returns-in-Ok-clause-small c short =
+    tree_small c.args.text.now c.in-Ok.spec (tree_read c.args.text.now c.args.tokens.now c.in-Ok.spec c.requires c.in-Ok.ensures) short
+
+pub returns-in-Ok-clause-shallow : goal.returns-in-Ok-clause-shallow
+returns-in-Ok-clause-shallow c =
+    tree_shallow c.args.text.now c.in-Ok.spec (tree_read c.args.text.now c.args.tokens.now c.in-Ok.spec c.requires c.in-Ok.ensures)
 
 pub returns-in-Ok-clause-complete : goal.returns-in-Ok-clause-complete
 returns-in-Ok-clause-complete c spec r =

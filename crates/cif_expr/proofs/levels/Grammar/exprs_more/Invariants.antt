@@ -2,7 +2,7 @@ use Rattle.std.proofs.Common.{◌≡◌, ◌-◌}
 use Rattle.cif_lex.specs.declared.token.Mark.TheVariants as m
 use Rattle.grammar.specs.Reader.{deep_from, deep_many}
 use Rattle.grammar.specs.Loops.{deep_after}
-use Rattle.cif_expr.specs.Kinds.{sort}
+use Rattle.cif_expr.specs.TokenKinds.{sort}
 use Rattle.cif_expr.specs.Reading.{first_sign, next_at, whole_at}
 use Rattle.cif_expr.proofs.levels.Grammar.exprs_more.Given as goal
 

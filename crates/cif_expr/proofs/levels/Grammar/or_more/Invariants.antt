@@ -2,7 +2,7 @@ use Rattle.std.proofs.Common.{◌≡◌, ◌-◌}
 use Rattle.cif_lex.specs.declared.token.Word.TheVariants as w
 use Rattle.grammar.specs.Reader.{deep_from, deep_many}
 use Rattle.grammar.specs.Loops.{deep_after}
-use Rattle.cif_expr.specs.Kinds.{sort}
+use Rattle.cif_expr.specs.TokenKinds.{sort}
 use Rattle.cif_expr.specs.Reading.{first_word, or_next_at, un_at}
 use Rattle.cif_expr.proofs.levels.Grammar.or_more.Given as goal
 

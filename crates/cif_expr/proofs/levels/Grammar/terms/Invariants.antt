@@ -1,7 +1,7 @@
 use Rattle.std.proofs.Common.{◌≡◌, ◌-◌}
 use Rattle.grammar.specs.Reader.{deep_from, deep_many}
 use Rattle.grammar.specs.Loops.{deep_after}
-use Rattle.cif_expr.specs.Kinds.{sort}
+use Rattle.cif_expr.specs.TokenKinds.{sort}
 use Rattle.cif_expr.specs.Reading.{sum_signs, term_at, un_at}
 use Rattle.cif_expr.proofs.levels.Grammar.terms.Given as goal
 
