@@ -1,10 +1,11 @@
 -- The fault of a whole file is that of what is left from a row on.
 use Rattle.std.proofs.Common.{◌≡◌, ◌<◌, ◌≤◌, ℕ, suc, true, false, ℤ, List, [], ◌∷◌, ◌++◌, Option, Some, None, refl, sym, ap, subst, ◌∙◌, append_assoc}
 use Rattle.std.specs.Prelude.{if◌then◌else◌}
+use Rattle.std.specs.Option.{option_or}
 use Rattle.std.proofs.lemmas.Bool.{lt-ltb, le-ltb}
 use Rattle.grammar.specs.Pieces.{Text}
 use Rattle.csv.specs.declared.reader.Reader.{Reader}
-use Rattle.plc_rows.specs.Rows.{RowFault, header, too_many_rows, most_rows, or_else, header_fault, row_fault, rows_fault, file_fault, first_row_fault, records_of, empty_rows, rows_after, RowsOf}
+use Rattle.plc_rows.specs.Rows.{RowFault, header, too_many_rows, most_rows, header_fault, row_fault, rows_fault, file_fault, first_row_fault, records_of, empty_rows, rows_after, RowsOf}
 use Rattle.plc_rows.proofs.Remaining.{Source}
 use Rattle.plc_rows.specs.Left.{Left, Next, Tells}
 use Rattle.plc_rows.specs.Told.{IsFirst, cells_of}
@@ -16,7 +17,7 @@ use Rattle.plc_rows.specs.declared.error.RowErr.TheVariants as err
 unfoldable pub Stands : Text → Reader Source → ℕ → List (List ℤ) → Type 0
 Stands text reader k done = (rs : List (List Text)) × Left reader rs × (first_row_fault text ≡ rows_fault k rs) × (rows_after (records_of text) ≡ done ++ empty_rows rs)
 
-tells_first : (a b : Option RowFault) (e : RowErr) → Tells a e → Tells (or_else a b) e
+tells_first : (a b : Option RowFault) (e : RowErr) → Tells a e → Tells (option_or a b) e
 tells_first a b (err.Header c) h = rw h refl
 tells_first a b (err.Cell r c) h = rw h refl
 tells_first a b (err.RowLength r) h = rw h refl
@@ -57,7 +58,7 @@ module _ (text : Text) (fields : List Text) (after : Reader Source) where
   unfolding first_row_fault Stands
   right_header n h =
       let s = something (records_of text) fields after n in
-      (s.0, s.2, ap file_fault s.1 ∙ ap (λ f. or_else f (rows_fault 1 s.0)) h, ap rows_after s.1)
+      (s.0, s.2, ap file_fault s.1 ∙ ap (λ f. option_or f (rows_fault 1 s.0)) h, ap rows_after s.1)
 
 -- ---- a row
 
@@ -86,10 +87,10 @@ module _ (text : Text) (before after : Reader Source) (k : ℕ) (rows : List Row
   pub too_many : Stands text before k (cells_of rows) → ((rs : List (List Text)) → Left before rs → Next true fields after rs) → most_rows < k → first_row_fault text ≡ Some (too_many_rows 100001)
   too_many s n l =
       let q = opened s n in
-      q.2 ∙ ap (λ b. if b then Some (too_many_rows 100001) else or_else (row_fault k fields) (rows_fault (suc k) q.0)) (lt-ltb most_rows k l)
+      q.2 ∙ ap (λ b. if b then Some (too_many_rows 100001) else option_or (row_fault k fields) (rows_fault (suc k) q.0)) (lt-ltb most_rows k l)
 
-  looked_at : k ≤ most_rows → (ss : List (List Text)) → rows_fault k (fields ∷ ss) ≡ or_else (row_fault k fields) (rows_fault (suc k) ss)
-  looked_at l ss = ap (λ b. if b then Some (too_many_rows 100001) else or_else (row_fault k fields) (rows_fault (suc k) ss)) (le-ltb most_rows k l)
+  looked_at : k ≤ most_rows → (ss : List (List Text)) → rows_fault k (fields ∷ ss) ≡ option_or (row_fault k fields) (rows_fault (suc k) ss)
+  looked_at l ss = ap (λ b. if b then Some (too_many_rows 100001) else option_or (row_fault k fields) (rows_fault (suc k) ss)) (le-ltb most_rows k l)
 
   pub wrong_row : Stands text before k (cells_of rows) → ((rs : List (List Text)) → Left before rs → Next true fields after rs) → k ≤ most_rows → (e : RowErr) → Tells (row_fault k fields) e → IsFirst text e
   wrong_row s n l e h =
@@ -103,6 +104,6 @@ module _ (text : Text) (before after : Reader Source) (k : ℕ) (rows : List Row
       let q = opened s n in (
         q.0,
         q.1,
-        q.2 ∙ looked_at l q.0 ∙ ap (λ f. or_else f (rows_fault (suc k) q.0)) h,
+        q.2 ∙ looked_at l q.0 ∙ ap (λ f. option_or f (rows_fault (suc k) q.0)) h,
         q.3 ∙ sym (ap (λ l. l ++ empty_rows q.0) (cells_more rows r ∙ ap (λ c. cells_of rows ++ c ∷ []) e) ∙ append_assoc (cells_of rows) ([] ∷ []) (empty_rows q.0)),
       )

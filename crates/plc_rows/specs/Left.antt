@@ -1,4 +1,4 @@
--- What a reader has left, as records, and which errors tell of a fault.
+-- Helper of the code: what a reader has left, as records, and which errors tell of a fault.
 use Rattle.std.specs.Prelude.{◌≡◌, ⊤, ℕ, Bool, true, false, List, [], ◌∷◌, Option, Some, None}
 use Rattle.std.specs.Borrow.{Bor}
 use Rattle.grammar.specs.Pieces.{Text}

@@ -1,6 +1,8 @@
 -- The rules of a rows file, for a program without inputs: the records of the text, as `csv` has them, are the header, which
 -- is the field `scan` alone, and then the rows, which are numbered from 1. The cell of a row is its number.
-use Rattle.std.specs.Prelude.{◌≡◌, ℕ, suc, ◌+◌, nat_lt, ℤ, List, [], ◌∷◌, codes, decimal, Option, Some, None, if◌then◌else◌}
+use Rattle.std.specs.Prelude.{◌≡◌, ℕ, suc, ◌+◌, nat_lt, ℤ, List, [], ◌∷◌, codes, decimal, map, Option, Some, None, if◌then◌else◌}
+use Rattle.std.specs.Option.{option_or}
+pub use Rattle.std.specs.Option.{option_or as or_else}
 use Rattle.grammar.specs.Pieces.{Text, same}
 use Rattle.csv.specs.Reading.{default_config, records, strip_bom}
 
@@ -14,10 +16,6 @@ pub data RowFault : Type 0 where
 -- the most rows of a file
 abbrev pub most_rows : ℕ
 most_rows = 100000
-
-abbrev pub or_else : Option RowFault → Option RowFault → Option RowFault
-or_else None other = other
-or_else (Some f) other = Some f
 
 -- the first field that is not wanted, or the place after the last field where `scan` is missing
 abbrev pub header_fault : List Text → Option RowFault
@@ -34,11 +32,11 @@ row_fault k (c ∷ d ∷ cs) = Some (row_length k)
 -- the rows from the row k on; the row after the most is not looked at
 abbrev pub rows_fault : ℕ → List (List Text) → Option RowFault
 rows_fault k [] = None
-rows_fault k (r ∷ rs) = if nat_lt most_rows k then Some (too_many_rows (most_rows + 1)) else or_else (row_fault k r) (rows_fault (suc k) rs)
+rows_fault k (r ∷ rs) = if nat_lt most_rows k then Some (too_many_rows (most_rows + 1)) else option_or (row_fault k r) (rows_fault (suc k) rs)
 
 abbrev pub file_fault : List (List Text) → Option RowFault
 file_fault [] = Some (header 1)
-file_fault (h ∷ rs) = or_else (header_fault h) (rows_fault 1 rs)
+file_fault (h ∷ rs) = option_or (header_fault h) (rows_fault 1 rs)
 
 -- the records of a text, after its byte order mark where it begins with one
 abbrev pub records_of : Text → List (List Text)
@@ -50,8 +48,7 @@ first_row_fault text = file_fault (records_of text)
 
 -- a row of values for no inputs, for each record after the first
 abbrev pub empty_rows : List (List Text) → List (List ℤ)
-empty_rows [] = []
-empty_rows (r ∷ rs) = [] ∷ empty_rows rs
+empty_rows rs = map (λ r. []) rs
 
 abbrev pub rows_after : List (List Text) → List (List ℤ)
 rows_after [] = []

@@ -11,6 +11,3 @@ pub use error::RowErr;
 pub use reading::read_rows;
 pub use row::{Row, Rows};
 pub use table::rows_text;
-
-#[cfg(test)]
-mod tests;

@@ -1,6 +1,6 @@
 -- Worked examples of the definitions, by computation.
 use Rattle.std.proofs.Common.{◌≡◌, pos, negsuc, true, false, List, [], ◌∷◌, Some, None, Ok, Err, refl}
-use Rattle.std.specs.Prelude.{codes}
+use Rattle.std.specs.Prelude.{ℤ, Result, codes, map}
 use Rattle.grammar.specs.Pieces.{Text}
 use Rattle.st_ast.specs.declared.tree.StVar.{StVar}
 use Rattle.st_ast.specs.declared.tree.StTy.{StTy}
@@ -9,11 +9,13 @@ use Rattle.st_ast.specs.declared.tree.StLit.{StLit}
 use Rattle.st_ast.specs.declared.tree.StLit.TheVariants as lit
 use Rattle.st_ast.specs.declared.tree.StClass.{StClass}
 use Rattle.st_ast.specs.declared.tree.StClass.TheVariants as class
+use Rattle.st_ast.specs.declared.tree.StOrder.{StOrder}
 use Rattle.st_ast.specs.declared.tree.StOrder.TheVariants as cmp
 use Rattle.st_ast.specs.Tree.{truth, number, named, sum, order, equal, all_of, exprs, no_exprs, terms, no_terms, Stm, assign, loop, stms_of, Program}
 use Rattle.st_ast.specs.Tokens.{sign, blank, opens_comment, kind_of_word, kind_of_number, name, if_word, literal, outside}
 use Rattle.st_ast.specs.Checks.{unknown, duplicate, mismatch, not_assignable, init_range, check_faults}
-use Rattle.st_ast.specs.Values.{overflow, subrange_left, value_of}
+use Rattle.st_ast.specs.Interface.{output_values}
+use Rattle.st_ast.specs.Values.{Fault, overflow, subrange_left, value_of}
 use Rattle.st_ast.specs.Exec.{Ended, Faulted, OutOfTurns, repeated, exec}
 use Rattle.st_ast.specs.Scan.{start_memory, scan_of, store_row}
 
@@ -66,6 +68,18 @@ number_for_a_truth = refl
 input_as_target : check_faults (program_with (variable (codes "x") class.Input ty.Bool ∷ []) (assign (codes "x") (truth true) ∷ [])) ≡ not_assignable 0 ∷ []
 input_as_target = refl
 
+constant_as_target : check_faults (program_with (variable (codes "x") class.Constant ty.Bool ∷ []) (assign (codes "x") (truth true) ∷ [])) ≡ not_assignable 0 ∷ []
+constant_as_target = refl
+
+output_as_target : check_faults (program_with (variable (codes "x") class.Output ty.Bool ∷ []) (assign (codes "x") (truth true) ∷ [])) ≡ []
+output_as_target = refl
+
+order_of_truths : check_faults (program_with (variable (codes "x") class.Plain ty.Bool ∷ []) (assign (codes "x") (order (truth true) cmp.Ge (truth false)) ∷ [])) ≡ mismatch 0 ∷ []
+order_of_truths = refl
+
+truths_may_be_unequal : check_faults (program_with (variable (codes "x") class.Plain ty.Bool ∷ []) (assign (codes "x") (equal (truth true) false (truth false)) ∷ [])) ≡ []
+truths_may_be_unequal = refl
+
 first_value_out_of_range : check_faults (program_with (record { name = codes "x"; class = class.Plain; ty = ty.Range (pos 0) (pos 3); init = Some (lit.Int (pos 4)) } ∷ []) []) ≡ init_range 0 ∷ []
 first_value_out_of_range = refl
 
@@ -80,6 +94,41 @@ x_of t v = record { name = codes "x"; class = class.Plain; ty = t; init = Some v
 
 sum_out_of_64_bits : value_of [] (sum (number (pos 9223372036854775807)) (terms false (number (pos 1)) no_terms)) [] ≡ Err overflow
 sum_out_of_64_bits = refl
+
+-- 1, 2 and 3 beside 2
+abbrev beside_two : StOrder → List (Result ℤ Fault)
+beside_two op = map (λ z. value_of [] (order (number z) op (number (pos 2))) []) (pos 1 ∷ pos 2 ∷ pos 3 ∷ [])
+
+less_than_two : beside_two cmp.Lt ≡ Ok (pos 1) ∷ Ok (pos 0) ∷ Ok (pos 0) ∷ []
+less_than_two = refl
+
+greater_than_two : beside_two cmp.Gt ≡ Ok (pos 0) ∷ Ok (pos 0) ∷ Ok (pos 1) ∷ []
+greater_than_two = refl
+
+at_most_two : beside_two cmp.Le ≡ Ok (pos 1) ∷ Ok (pos 1) ∷ Ok (pos 0) ∷ []
+at_most_two = refl
+
+at_least_two : beside_two cmp.Ge ≡ Ok (pos 0) ∷ Ok (pos 1) ∷ Ok (pos 1) ∷ []
+at_least_two = refl
+
+negative_numbers_in_order : value_of [] (order (number (negsuc 1)) cmp.Lt (number (negsuc 0))) [] ≡ Ok (pos 1)
+negative_numbers_in_order = refl
+
+unequal_numbers : value_of [] (equal (number (pos 1)) false (number (pos 2))) [] ≡ Ok (pos 1)
+unequal_numbers = refl
+
+equal_numbers_are_not_unequal : value_of [] (equal (number (pos 2)) false (number (pos 2))) [] ≡ Ok (pos 0)
+equal_numbers_are_not_unequal = refl
+
+-- 10 - 3 - 2
+subtraction_from_the_left : value_of [] (sum (number (pos 10)) (terms true (number (pos 3)) (terms true (number (pos 2)) no_terms))) [] ≡ Ok (pos 5)
+subtraction_from_the_left = refl
+
+difference_out_of_64_bits : value_of [] (sum (number (negsuc 9223372036854775807)) (terms true (number (pos 1)) no_terms)) [] ≡ Err overflow
+difference_out_of_64_bits = refl
+
+the_least_number_has_64_bits : value_of [] (sum (number (negsuc 9223372036854775806)) (terms true (number (pos 1)) no_terms)) [] ≡ Ok (negsuc 9223372036854775807)
+the_least_number_has_64_bits = refl
 
 -- no operand is left out, though the first decides
 all_operands_are_evaluated : value_of [] (all_of (exprs (truth false) (exprs (equal (sum (number (pos 9223372036854775807)) (terms false (number (pos 1)) no_terms)) true (number (pos 0))) no_exprs))) [] ≡ Err overflow
@@ -106,3 +155,12 @@ first_values = refl
 -- the inputs alone take over a row
 row_goes_to_inputs : store_row (variable (codes "a") class.Plain ty.Lint ∷ variable (codes "b") class.Input ty.Lint ∷ variable (codes "c") class.Input ty.Lint ∷ []) (pos 7 ∷ pos 8 ∷ []) (pos 1 ∷ pos 2 ∷ pos 3 ∷ []) ≡ pos 1 ∷ pos 7 ∷ pos 8 ∷ []
 row_goes_to_inputs = refl
+
+abbrev input_and_output : List StVar
+input_and_output = variable (codes "i") class.Input ty.Lint ∷ variable (codes "o") class.Output ty.Lint ∷ []
+
+scan_with_an_input : scan_of (program_with input_and_output (assign (codes "o") (sum (named (codes "i")) (terms true (number (pos 1)) no_terms)) ∷ [])) (pos 0 ∷ pos 0 ∷ []) (pos 7 ∷ []) ≡ Ended 1000000 (pos 7 ∷ pos 6 ∷ [])
+scan_with_an_input = refl
+
+outputs_alone_are_shown : output_values input_and_output (pos 7 ∷ pos 6 ∷ []) ≡ pos 6 ∷ []
+outputs_alone_are_shown = refl

@@ -1,6 +1,6 @@
 -- The checks of a program that its grammar derives, in the order in which the first broken one is told: variables come
 -- first in the order of declaration, then statements, numbered from 0 in the order of their first words.
-use Rattle.std.specs.Prelude.{ℕ, suc, ◌+◌, int_le, Bool, true, false, ◌&&◌, List, [], ◌∷◌, ◌++◌, Option, Some, None, is_some, option_map, if◌then◌else◌}
+use Rattle.std.specs.Prelude.{ℕ, suc, ◌+◌, int_le, Bool, true, false, not, ◌&&◌, List, [], ◌∷◌, ◌++◌, Option, Some, None, is_some, option_map, if◌then◌else◌}
 use Rattle.std.specs.List.{list_any}
 use Rattle.st_ast.specs.Names.{same_name, declared}
 use Rattle.st_ast.specs.Tree.{Expr, Exprs, Terms, truth, number, named, paren, negation, sum, order, equal, all_of, any_of, no_exprs, exprs, no_terms, terms, Stm, Stms, Branches, Other, assign, choice, loop, no_stms, stms, no_branches, branches, no_other, other, Program}
@@ -46,12 +46,8 @@ abbrev pub starts_well : StTy → Option StLit → Bool
 starts_well t None = true
 starts_well t (Some v) = has_type t v
 
-abbrev pub negated : Bool → Bool
-negated true = false
-negated false = true
-
 abbrev pub variable_faults : List StVar → ℕ → StVar → List CheckFault
-variable_faults before k v = unless (negated (list_any (λ (u : StVar). same_name u.name v.name) before)) (duplicate k)
+variable_faults before k v = unless (not (list_any (λ (u : StVar). same_name u.name v.name) before)) (duplicate k)
     ++ unless (is_type v.ty && starts_well v.ty v.init) (init_range k)
 
 -- the variables from the k-th on, after those before it

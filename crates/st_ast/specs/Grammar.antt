@@ -75,11 +75,11 @@ abbrev pub word : Kind → Lang Token Token
 word kind = one sort (code kind ∷ [])
 
 abbrev pub second : {A B : Type 0} → A × B → B
-second v = v.1
+second (a, b) = b
 
 -- a part with a token before it and one after it
 abbrev pub middle : {A : Type 0} → Token × (A × Token) → A
-middle v = v.1.0
+middle (opening, (a, closing)) = a
 
 abbrev pub text_of : Token → Text
 text_of t = t.text
@@ -103,25 +103,25 @@ module _ (inner : Level → Lang Token Expr) where
       ∣ (λ (t : Token). truth false) <$> word false_word
       ∣ number <$> natural
       ∣ named <$> identifier
-      ∣ (λ (v : Token × (Expr × Token)). paren (middle v)) <$> word open_sign & inner at_or & word close_sign
+      ∣ (λ v. paren (middle v)) <$> word open_sign & inner at_or & word close_sign
 
   abbrev pub unary : Lang Token Expr
-  unary = (λ (v : Token × Expr). negation v.1) <$> word not_word & inner at_unary ∣ prim
+  unary = (λ ((w, e) : Token × Expr). negation e) <$> word not_word & inner at_unary ∣ prim
 
   abbrev pub summed : Lang Token Expr
-  summed = unary ∣ (λ (v : Expr × List (Token × Expr)). sum v.0 (terms_of (map (λ t. (false, t.1)) v.1))) <$> inner at_unary & some (word plus & inner at_unary)
+  summed = unary ∣ (λ ((e, more) : Expr × List (Token × Expr)). sum e (terms_of (map (λ t. (false, second t)) more))) <$> inner at_unary & some (word plus & inner at_unary)
 
   abbrev pub ordered : Lang Token Expr
-  ordered = summed ∣ (λ (v : Expr × (Token × Expr)). order v.0 cmp.Lt v.1.1) <$> inner at_sum & word less & inner at_sum
+  ordered = summed ∣ (λ ((a, (s, b)) : Expr × (Token × Expr)). order a cmp.Lt b) <$> inner at_sum & word less & inner at_sum
 
   abbrev pub equated : Lang Token Expr
-  equated = ordered ∣ (λ (v : Expr × (Token × Expr)). equal v.0 true v.1.1) <$> inner at_order & word equals & inner at_order
+  equated = ordered ∣ (λ ((a, (s, b)) : Expr × (Token × Expr)). equal a true b) <$> inner at_order & word equals & inner at_order
 
   abbrev pub conjunction : Lang Token Expr
-  conjunction = equated ∣ (λ (v : Expr × List (Token × Expr)). all_of (exprs_of (v.0 ∷ map second v.1))) <$> inner at_equal & some (word and_word & inner at_equal)
+  conjunction = equated ∣ (λ ((e, more) : Expr × List (Token × Expr)). all_of (exprs_of (e ∷ map second more))) <$> inner at_equal & some (word and_word & inner at_equal)
 
   abbrev pub disjunction : Lang Token Expr
-  disjunction = conjunction ∣ (λ (v : Expr × List (Token × Expr)). any_of (exprs_of (v.0 ∷ map second v.1))) <$> inner at_and & some (word or_word & inner at_and)
+  disjunction = conjunction ∣ (λ ((e, more) : Expr × List (Token × Expr)). any_of (exprs_of (e ∷ map second more))) <$> inner at_and & some (word or_word & inner at_and)
 
   abbrev pub level : Level → Lang Token Expr
   level at_or = disjunction
@@ -148,28 +148,28 @@ expression e ts = disjunction (below max_depth) e ts
 -- ---- statements
 
 abbrev pub assignment : Lang Token Stm
-assignment = (λ (v : Text × (Token × (Expr × Token))). assign v.0 v.1.1.0) <$> identifier & word assigns & expression & word semicolon
+assignment = (λ ((x, (s, (e, end))) : Text × (Token × (Expr × Token))). assign x e) <$> identifier & word assigns & expression & word semicolon
 
 -- what stands after ELSE
 abbrev pub without_word : Option (Token × List Stm) → Option (List Stm)
 without_word None = None
-without_word (Some v) = Some v.1
+without_word (Some (w, ss)) = Some ss
 
 -- what stands between an opening word and its end
 module _ (body : Lang Token (List Stm)) where
   -- a condition, its closing word and its statements
   abbrev pub guarded : Kind → Lang Token (Expr × Stms)
-  guarded kind = (λ (v : Expr × (Token × List Stm)). (v.0, stms_of v.1.1)) <$> expression & word kind & body
+  guarded kind = (λ ((c, (w, ss)) : Expr × (Token × List Stm)). (c, stms_of ss)) <$> expression & word kind & body
 
   abbrev pub conditional : Lang Token Stm
   conditional =
-      (λ (v : Token × ((Expr × Stms) × (List (Token × (Expr × Stms)) × (Option (Token × List Stm) × (Token × Token))))).
-      choice (branches_of (v.1.0 ∷ map second v.1.1.0)) (other_of (without_word v.1.1.1.0)))
+      (λ ((w, (b, (bs, (o, end)))) : Token × ((Expr × Stms) × (List (Token × (Expr × Stms)) × (Option (Token × List Stm) × (Token × Token))))).
+      choice (branches_of (b ∷ map second bs)) (other_of (without_word o)))
       <$> word if_word & guarded then_word & many (word elsif_word & guarded then_word) & optional (word else_word & body) & word end_if & word semicolon
 
   abbrev pub repetition : Lang Token Stm
   repetition =
-      (λ (v : Token × ((Expr × Stms) × (Token × Token))). loop v.1.0.0 v.1.0.1)
+      (λ ((w, ((c, ss), end)) : Token × ((Expr × Stms) × (Token × Token))). loop c ss)
       <$> word while_word & guarded do_word & word end_while & word semicolon
 
 -- The statements whose depth is at most the number. An assignment has depth 0, and IF and WHILE one more than their
@@ -181,31 +181,31 @@ statement (suc n) s ts = (assignment ∣ conditional (many (statement n)) ∣ re
 -- ---- declarations
 
 abbrev pub signed : Lang Token ℤ
-signed = (λ (v : Token × ℤ). neg_ℤ v.1) <$> word dash & natural ∣ natural
+signed = (λ ((s, z) : Token × ℤ). neg_ℤ z) <$> word dash & natural ∣ natural
 
 abbrev pub first_value : Lang Token StLit
 first_value = (λ (t : Token). lit.Bool true) <$> word true_word ∣ (λ (t : Token). lit.Bool false) <$> word false_word ∣ lit.Int <$> signed
 
 abbrev pub subrange_of : Option (Token × (ℤ × (Token × (ℤ × Token)))) → StTy
 subrange_of None = ty.Lint
-subrange_of (Some v) = ty.Range v.1.0 v.1.1.1.0
+subrange_of (Some (opening, (lo, (s, (hi, closing))))) = ty.Range lo hi
 
 abbrev pub type_use : Lang Token StTy
 type_use = (λ (t : Token). ty.Bool) <$> word bool
-    ∣ (λ (v : Token × Option (Token × (ℤ × (Token × (ℤ × Token))))). subrange_of v.1) <$> word lint & optional (word open_sign & signed & word dots & signed & word close_sign)
+    ∣ (λ ((w, o) : Token × Option (Token × (ℤ × (Token × (ℤ × Token))))). subrange_of o) <$> word lint & optional (word open_sign & signed & word dots & signed & word close_sign)
 
 abbrev pub value_of_init : Option (Token × StLit) → Option StLit
 value_of_init None = None
-value_of_init (Some v) = Some v.1
+value_of_init (Some (s, v)) = Some v
 
 -- a declaration, of the class of its block
 abbrev pub declaration : StClass → Lang Token StVar
 declaration k =
-    (λ (v : Text × (Token × (StTy × (Option (Token × StLit) × Token)))). record { name = v.0; class = k; ty = v.1.1.0; init = value_of_init v.1.1.1.0 })
+    (λ ((x, (s, (t, (o, end)))) : Text × (Token × (StTy × (Option (Token × StLit) × Token)))). record { name = x; class = k; ty = t; init = value_of_init o })
     <$> identifier & word colon & type_use & optional (word assigns & first_value) & word semicolon
 
 abbrev pub block_of : Kind → StClass → Lang Token (List StVar)
-block_of kind k = (λ (v : Token × (List StVar × Token)). middle v) <$> word kind & many (declaration k) & word end_var
+block_of kind k = middle <$> word kind & many (declaration k) & word end_var
 
 abbrev pub block : Lang Token (List StVar)
 block = block_of var class.Plain ∣ block_of var_output class.Output
@@ -214,5 +214,5 @@ block = block_of var class.Plain ∣ block_of var_output class.Output
 
 unfoldable pub whole : Lang Token Program
 whole =
-    (λ (v : Token × (Text × (List (List StVar) × (List Stm × Token)))). record { name = v.1.0; vars = flat v.1.1.0; body = stms_of v.1.1.1.0 })
+    (λ ((w, (x, (blocks, (ss, end)))) : Token × (Text × (List (List StVar) × (List Stm × Token)))). record { name = x; vars = flat blocks; body = stms_of ss })
     <$> word program & identifier & many block & many (statement max_depth) & word end_program

@@ -2,28 +2,13 @@
 -- blanks, comments, words, numbers and signs one after the other, each the longest that begins at its place.
 use Rattle.std.specs.Prelude.{◌≡◌, ℕ, ◌+◌, ◌-◌, ◌*◌, Bool, true, false, not, ◌||◌, ◌&&◌, ◌==◌, nat_le, List, [], ◌∷◌, codes, Option, Some, None, filter_map, if◌then◌else◌}
 use Rattle.std.specs.List.{list_any}
+use Rattle.grammar.specs.Bytes.{is_blank, begins_word, is_digit, is_wordy, none_of, digits_from}
 use Rattle.grammar.specs.Pieces.{Text, Kinds, ◌∣◌, run, after_byte, closed, one_text, Pieces, same}
 use Rattle.st_ast.specs.Names.{same_name}
 
 pub data Piece : Type 0 where
   blank comment : Piece
   word number sign : Text → Piece
-
--- space, tab, line feed, carriage return
-abbrev pub is_blank : ℕ → Bool
-is_blank b = b == 32 || b == 9 || b == 10 || b == 13
-
-abbrev pub is_digit : ℕ → Bool
-is_digit b = nat_le 48 b && nat_le b 57
-
-abbrev pub is_letter : ℕ → Bool
-is_letter b = nat_le 65 b && nat_le b 90 || nat_le 97 b && nat_le b 122 || b == 95
-
-abbrev pub is_wordy : ℕ → Bool
-is_wordy b = is_letter b || is_digit b
-
-abbrev pub none_of : ℕ → Bool
-none_of b = false
 
 -- the longer ones first
 abbrev pub signs : List Text
@@ -33,7 +18,7 @@ signs = codes ":=" ∷ codes ".." ∷ codes "<>" ∷ codes "<=" ∷ codes ">="
 
 -- a blank byte, a word, digits, a comment from `(*` to the next `*)`, or a sign
 unfoldable pub piece : Kinds Piece
-piece = run is_blank none_of (λ t. blank) ∣ run is_letter is_wordy word ∣ run is_digit is_digit number
+piece = run is_blank none_of (λ t. blank) ∣ run begins_word is_wordy word ∣ run is_digit is_digit number
     ∣ after_byte 40 (closed 42 42 41 comment) ∣ one_text signs sign
 
 abbrev pub is_sign : Text → Piece → Bool
@@ -101,11 +86,6 @@ abbrev pub kind_of_sign : Text → Kind
 kind_of_sign = kind_of_sign_in ((codes ";", semicolon) ∷ (codes ":", colon) ∷ (codes ":=", assigns) ∷ (codes "..", dots)
     ∷ (codes "(", open_sign) ∷ (codes ")", close_sign) ∷ (codes ",", comma) ∷ (codes "+", plus) ∷ (codes "-", dash)
     ∷ (codes "=", equals) ∷ (codes "<", less) ∷ [])
-
--- the number that digits stand for, on from n
-abbrev pub digits_from : ℕ → Text → ℕ
-digits_from n [] = n
-digits_from n (b ∷ bs) = digits_from (10 * n + (b - 48)) bs
 
 abbrev pub number_of : Text → ℕ
 number_of = digits_from 0

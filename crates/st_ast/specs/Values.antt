@@ -1,9 +1,8 @@
 -- The values of expressions (IEC 61131-3, "Expressions"). A BOOL is 0 or 1. Every operand is evaluated, from left to
 -- right, and the first fault ends the evaluation.
-use Rattle.std.specs.Prelude.{ℕ, zero, suc, ◌^◌, ℤ, pos, negsuc, ◌+ℤ◌, ◌-ℤ◌, int_lt, int_le, nat_lt, nat_eq, Bool, true, false, ◌&&◌, ◌||◌, List, Result, Ok, Err, slice_index_or, if◌then◌else◌}
+use Rattle.std.specs.Prelude.{ℕ, zero, suc, ◌^◌, ℤ, pos, negsuc, ◌+ℤ◌, ◌-ℤ◌, int_lt, int_le, nat_lt, nat_eq, Bool, true, false, not, ◌&&◌, ◌||◌, List, Result, Ok, Err, slice_index_or, if◌then◌else◌}
 use Rattle.st_ast.specs.Names.{place_of}
 use Rattle.st_ast.specs.Tree.{Expr, Exprs, Terms, truth, number, named, paren, negation, sum, order, equal, all_of, any_of, no_exprs, exprs, no_terms, terms}
-use Rattle.st_ast.specs.Checks.{negated}
 use Rattle.st_ast.specs.declared.tree.StVar.{StVar}
 use Rattle.st_ast.specs.declared.tree.StOrder.{StOrder}
 use Rattle.st_ast.specs.declared.tree.StOrder.TheVariants as cmp
@@ -63,7 +62,7 @@ added true a b = a -ℤ b
 -- whether two values are as `=`, or `<>`, says
 abbrev pub are_equal : Bool → ℤ → ℤ → Bool
 are_equal true a b = same_number a b
-are_equal false a b = negated (same_number a b)
+are_equal false a b = not (same_number a b)
 
 abbrev mutual
   pub value_of : List StVar → Expr → Memory → Result ℤ Fault
@@ -71,7 +70,7 @@ abbrev mutual
   value_of vars (number z) m = Ok z
   value_of vars (named x) m = Ok (slice_index_or m (place_of vars x) (pos 0))
   value_of vars (paren e) m = value_of vars e m
-  value_of vars (negation e) m = with_value (value_of vars e m) (λ f. Err f) (λ x. Ok (of_bool (negated (is_true x))))
+  value_of vars (negation e) m = with_value (value_of vars e m) (λ f. Err f) (λ x. Ok (of_bool (not (is_true x))))
   value_of vars (sum e rest) m = with_value (value_of vars e m) (λ f. Err f) (λ x. sum_on vars x rest m)
   value_of vars (order a op b) m = both (λ x y. Ok (of_bool (holds op x y))) (value_of vars a m) (value_of vars b m)
   value_of vars (equal a same b) m = both (λ x y. Ok (of_bool (are_equal same x y))) (value_of vars a m) (value_of vars b m)

@@ -1,8 +1,9 @@
 -- Variables are checked one by one, with the keys of those before.
 use Rattle.std.proofs.Common.{◌≡◌, ℕ, suc, ◌+◌, ◌<◌, Bool, true, false, cond, not, ◌&&◌, List, [], ◌∷◌, ◌++◌, length, take, drop, get_or, drop-cons, take-suc, add-one, Some, refl, sym, ap, ◌∙◌}
 use Rattle.std.specs.List.{list_any}
+use Rattle.std.proofs.lemmas.List.{map-append}
 use Rattle.grammar.specs.Pieces.{Text}
-use Rattle.st_ast.specs.Checks.{CheckFault, duplicate, init_range, unless, negated, is_type, starts_well, variables_faults}
+use Rattle.st_ast.specs.Checks.{CheckFault, duplicate, init_range, unless, is_type, starts_well, variables_faults}
 use Rattle.st_ast.specs.Names.{same_name}
 use Rattle.st_ast.specs.declared.tree.StVar.{StVar}
 use Rattle.st_check.specs.Keys.{key, keys_of, is_among}
@@ -16,16 +17,11 @@ take_item : {A : Type 0} (xs : List A) (i : ℕ) (x : A) → i < length xs → x
 take_item xs i x l e = ap (λ n. take n xs) (add-one i) ∙ take-suc xs i x l ∙ ap (λ y. take i xs ++ y ∷ []) (sym e)
 
 keys_more : (vs : List StVar) (v : StVar) → keys_of (vs ++ v ∷ []) ≡ keys_of vs ++ key v.name ∷ []
-keys_more [] v = refl
-keys_more (u ∷ vs) v = ap (λ ks. key u.name ∷ ks) (keys_more vs v)
+keys_more vs v = map-append (λ (u : StVar). key u.name) vs (v ∷ [])
 
 is_new : (names : List Text) (before : List StVar) (v : StVar) (b : Bool) → names ≡ keys_of before → not (is_among names (key v.name)) ≡ b
-    → negated (list_any (λ (u : StVar). same_name u.name v.name) before) ≡ b
-is_new names before v b is e = go (list_any (λ (u : StVar). same_name u.name v.name) before) (ap not (sym (among_vars before v.name)) ∙ ap (λ ks. not (is_among ks (key v.name))) (sym is) ∙ e)
-  where
-    go : (a : Bool) → not a ≡ b → negated a ≡ b
-    go true e = e
-    go false e = e
+    → not (list_any (λ (u : StVar). same_name u.name v.name) before) ≡ b
+is_new names before v b is e = ap not (sym (among_vars before v.name)) ∙ ap (λ ks. not (is_among ks (key v.name))) (sym is) ∙ e
 
 module _ (vars : List StVar) (i : ℕ) (v : StVar) (names : List Text) where
   opened : i < length vars → v ≡ get_or vars i v → variables_faults (take i vars) i (drop i vars) ≡ variables_faults (take i vars) i (v ∷ drop (i + 1) vars)

@@ -4,20 +4,13 @@ use Rattle.std.specs.Prelude.{nat_eq, nat_lt, slice_get}
 use Rattle.std.specs.List.{list_any, position_or_len}
 use Rattle.std.specs.Cmp.Lexicographic.{pointwise}
 use Rattle.std.proofs.lemmas.Bool.Decides.{nat_tests}
+use Rattle.std.proofs.lemmas.List.{length-map}
 use Rattle.grammar.specs.Pieces.{Text}
+use Rattle.grammar.proofs.Texts.{flip}
 use Rattle.st_ast.specs.Names.{folded, same_name, place_of, declared}
 use Rattle.st_ast.specs.declared.tree.StVar.{StVar}
 use Rattle.st_check.specs.Keys.{key, keys_of, is_among, found_at}
 use Rattle.st_check.specs.Told.{IsPlace}
-
-flip : (a b : ℕ) → (a == b) ≡ (b == a)
-flip a b = go (a == b) refl (b == a) refl
-  where
-    go : (x : Bool) → (a == b) ≡ x → (y : Bool) → (b == a) ≡ y → x ≡ y
-    go true e true f = refl
-    go true e false f = absurd (grind (arith, nat_tests))
-    go false e true f = absurd (grind (arith, nat_tests))
-    go false e false f = refl
 
 -- two names are one where their keys are equal
 pub key_same : (x y : Text) → pointwise nat_eq (key x) (key y) ≡ same_name y x
@@ -40,16 +33,12 @@ number_place (v ∷ vars) x = ap (λ b. cond (not b) (1 + position_or_len (λ j.
     go true e = refl
     go false e = rw e (omega arith)
 
-length_keys : (vars : List StVar) → length (keys_of vars) ≡ length vars
-length_keys [] = refl
-length_keys (v ∷ vars) = ap suc (length_keys vars)
-
 -- the place of a name, if a variable has it
 abbrev place_in : List StVar → Text → Option ℕ
 place_in vars x = cond (nat_lt (place_of vars x) (length vars)) (Some (place_of vars x)) None
 
 found_place : (vars : List StVar) (x : Text) → found_at (keys_of vars) (key x) ≡ place_in vars x
-found_place vars x = rw (number_place vars x, length_keys vars) refl
+found_place vars x = rw (number_place vars x, length-map vars (λ (v : StVar). key v.name)) refl
 
 place_few : (vars : List StVar) (x : Text) → place_of vars x ≤ length vars
 place_few [] x = omega arith

@@ -1,4 +1,5 @@
--- Names as keys, where capital letters are small ones, so that two names are one where their keys are equal.
+-- Helper of the code: names as keys, where capital letters are small ones, so that two names are one where their keys
+-- are equal.
 use Rattle.std.specs.Prelude.{ℕ, Bool, List, Option, map, nat_eq, position}
 use Rattle.std.specs.List.{list_any}
 use Rattle.std.specs.Cmp.Lexicographic.{pointwise}

@@ -1,4 +1,5 @@
--- What a check of a part tells: the part breaks no check, or the error is the first of those that it breaks.
+-- Helper of the code: what a check of a part tells, which is that the part breaks no check, or that the error is the
+-- first of those that it breaks.
 use Rattle.std.specs.Prelude.{◌≡◌, ℕ, List, [], Result, Ok, Err}
 use Rattle.st_ast.specs.Checks.{CheckFault}
 use Rattle.st_check.specs.declared.error.StCheckErr.{StCheckErr}

@@ -1,5 +1,5 @@
--- What a sort of the code stands for.
-use Rattle.std.specs.Prelude.{Option, Some, None}
+-- Helper of the code: what a sort of the code stands for.
+use Rattle.std.specs.Prelude.{Option, option_map}
 use Rattle.st_ast.specs.Checks as checks
 use Rattle.st_check.specs.declared.sorts.Sort.{Sort}
 use Rattle.st_check.specs.declared.sorts.Sort.TheVariants as sort
@@ -10,5 +10,4 @@ told sort.Integer = checks.integer
 
 -- a sort, where there is one
 abbrev pub sort_told : Option Sort → Option checks.Sort
-sort_told None = None
-sort_told (Some s) = Some (told s)
+sort_told s = option_map told s

@@ -9,8 +9,6 @@ mod rows;
 mod scope;
 mod sorts;
 mod statements;
-#[cfg(test)]
-mod tests;
 mod variables;
 
 pub use checked::{Checked, check_program};

@@ -1,11 +1,14 @@
 -- The pieces of a text of Structured Text are found by cutting, and a text has at most one list of tokens.
 use Rattle.std.proofs.Common.{◌≡◌, ◌==◌, ℕ, ◌≤◌, ◌<◌, Bool, true, false, ◌||◌, nat_le, List, [], ◌∷◌, ◌++◌, length, Option, Some, None, refl, sym, ap, ◌∙◌, arith, inl, inr, leb-true, filter_map}
+use Rattle.std.specs.Option.{option_or}
+use Rattle.std.proofs.lemmas.Bool.{or_left, or_right}
 use Rattle.std.proofs.lemmas.Bool.Decides.{nat_tests}
 use Rattle.grammar.specs.Pieces.{Text, Kinds, ◌∣◌, IsLongest, Pieces, Cut, Cutter, cut_all, after_byte, closed, IsClosed, one_text, none_longer}
 use Rattle.grammar.proofs.Cutting.{Cuts, either_cuts, run_cuts, after_cuts, closed_cuts, text_cuts, cut_iff}
 use Rattle.grammar.proofs.Texts.{and_left, and_right}
-use Rattle.st_ast.specs.Tokens.{Piece, blank, comment, word, number, sign, is_blank, is_digit, is_letter, is_wordy, none_of, signs, piece, Token, token_of, Tokens}
-use Rattle.st_lex.specs.Cutting.{first_there, first_cut, begins_sign, piece_cut}
+use Rattle.grammar.specs.Bytes.{is_blank, begins_word, is_digit, is_wordy, none_of}
+use Rattle.st_ast.specs.Tokens.{Piece, blank, comment, word, number, sign, signs, piece, Token, token_of, Tokens}
+use Rattle.st_lex.specs.Cutting.{first_cut, begins_sign, piece_cut}
 
 -- ---- a choice between longer pieces and shorter ones
 
@@ -18,19 +21,9 @@ first_cuts {P = P} {f = f} {g = g} {r = r} {s = s} {c = c} {d = d} h k longer = 
   none = λ text e. none_first text (c text) refl e;
 }
   where
-    left_true : (b : ℕ) → f b ≡ true → (f b || g b) ≡ true
-    left_true b e = rw e refl
-
-    right_true : (b : ℕ) → g b ≡ true → (f b || g b) ≡ true
-    right_true b e = go (f b)
-      where
-        go : (a : Bool) → (a || g b) ≡ true
-        go true = refl
-        go false = e
-
     begins_first : (p : P) (x : Text) → (r ∣ s) p x → (b : ℕ) × (t : Text) × (x ≡ b ∷ t) × ((f b || g b) ≡ true)
-    begins_first p x (inl w) = let m = h.begins p x w in (m.0, m.1, m.2, left_true m.0 m.3)
-    begins_first p x (inr w) = let m = k.begins p x w in (m.0, m.1, m.2, right_true m.0 m.3)
+    begins_first p x (inl w) = let m = h.begins p x w in (m.0, m.1, m.2, or_left (f m.0) (g m.0) m.3)
+    begins_first p x (inr w) = let m = k.begins p x w in (m.0, m.1, m.2, or_right (f m.0) (g m.0) m.3)
 
     not_both : (p q : P) (x : Text) → r p x → s q x → ⊥
     not_both p q x w u = let m = longer p q x x w u in omega arith
@@ -49,11 +42,11 @@ first_cuts {P = P} {f = f} {g = g} {r = r} {s = s} {c = c} {d = d} h k longer = 
     longest_right text w t m q y z (inl u) e = absurd (h.none text t q y z u e)
     longest_right text w t m q y z (inr u) e = m q y z u e
 
-    found_first : (text : Text) (w : Cut P) (o : Option (Cut P)) → c text ≡ o → first_there o (d text) ≡ Some w → (r ∣ s) w.piece w.bytes × IsLongest (r ∣ s) w.bytes text × (text ≡ w.bytes ++ w.rest)
+    found_first : (text : Text) (w : Cut P) (o : Option (Cut P)) → c text ≡ o → option_or o (d text) ≡ Some w → (r ∣ s) w.piece w.bytes × IsLongest (r ∣ s) w.bytes text × (text ≡ w.bytes ++ w.rest)
     found_first text w None is e = let m = k.found text w e in (inr m.0, longest_right text w is m.1, m.2)
     found_first text w (Some v) is e = let m = h.found text w (is ∙ e) in (inl m.0, longest_left text w m.0 m.1, m.2)
 
-    none_first : (text : Text) (o : Option (Cut P)) → c text ≡ o → first_there o (d text) ≡ None → (q : P) (y z : Text) → (r ∣ s) q y → text ≡ y ++ z → ⊥
+    none_first : (text : Text) (o : Option (Cut P)) → c text ≡ o → option_or o (d text) ≡ None → (q : P) (y z : Text) → (r ∣ s) q y → text ≡ y ++ z → ⊥
     none_first text None is e q y z (inl u) g = h.none text is q y z u g
     none_first text None is e q y z (inr u) g = k.none text e q y z u g
     none_first text (Some v) is e q y z u g = cc
@@ -91,12 +84,12 @@ abbrev from_digit : ℕ → Bool
 from_digit b = is_digit b || from_comment b
 
 abbrev from_letter : ℕ → Bool
-from_letter b = is_letter b || from_digit b
+from_letter b = begins_word b || from_digit b
 
 digit_apart : (b : ℕ) → is_digit b ≡ true → from_comment b ≡ true → ⊥
 digit_apart b e f = grind (arith, nat_tests)
 
-letter_apart : (b : ℕ) → is_letter b ≡ true → from_digit b ≡ true → ⊥
+letter_apart : (b : ℕ) → begins_word b ≡ true → from_digit b ≡ true → ⊥
 letter_apart b e f = grind (arith, nat_tests)
 
 blank_apart : (b : ℕ) → is_blank b ≡ true → from_letter b ≡ true → ⊥
@@ -105,7 +98,7 @@ blank_apart b e f = grind (arith, nat_tests)
 pub piece_cuts : Cuts (λ b. is_blank b || from_letter b) piece piece_cut
 unfolding piece piece_cut
 piece_cuts = either_cuts (run_cuts is_blank none_of (λ t. blank)) blank_apart
-    (either_cuts (run_cuts is_letter is_wordy word) letter_apart
+    (either_cuts (run_cuts begins_word is_wordy word) letter_apart
     (either_cuts (run_cuts is_digit is_digit number) digit_apart
     (first_cuts (after_cuts 40 (closed_cuts 42 42 41 comment)) (text_cuts begins_sign signs sign refl refl) comment_longer)))
 

@@ -1,15 +1,16 @@
 -- The tokens of a printed text are those of its marks.
 use Rattle.std.proofs.Common.{◌≡◌, ◌==◌, ℕ, zero, suc, ◌*◌, ◌<◌, Bool, true, false, not, ◌&&◌, ◌||◌, List, [], ◌∷◌, ◌++◌, length, Some, refl, sym, ap, subst, ◌∙◌, arith}
 use Rattle.std.specs.Prelude.{if◌then◌else◌, codes, decimal, replicate, filter_map}
-use Rattle.std.specs.List.{list_any, list_all}
+use Rattle.std.specs.List.{list_any, list_all, AllByRecursion}
 use Rattle.std.proofs.lemmas.Bool.Decides.{nat_tests}
 use Rattle.grammar.specs.Pieces.{Text, Pieces, AllAre, head_is, run_of, same}
 use Rattle.grammar.proofs.Texts.{and_left, and_right, same_equal}
 use Rattle.st_ast.specs.Tokens as tk
-use Rattle.st_ast.specs.Tokens.{Piece, is_blank, is_letter, is_digit, is_wordy, piece, is_sign, opens_comment, token_of, Tokens}
+use Rattle.grammar.specs.Bytes.{is_blank, begins_word, is_digit, is_wordy}
+use Rattle.st_ast.specs.Tokens.{Piece, piece, is_sign, opens_comment, token_of, Tokens}
 use Rattle.st_lex.specs.Cutting.{piece_cut}
 use Rattle.st_lex.proofs.CuttingLaws.{piece_cuts}
-use Rattle.st_lex.proofs.Decimals.{decimal_digits, decimal_nonempty}
+use Rattle.grammar.proofs.Decimals.{decimal_digits, decimal_nonempty}
 use Rattle.st_print.specs.Layout.{Mark, line, word, digits, sign, dash, gap, closes, opens, fresh_after, text_of}
 use Rattle.st_print.specs.Marks.{tokens_of, is_word_text, mark_signs, AreMarks}
 
@@ -21,11 +22,7 @@ all_are f (b ∷ t) e = (and_left (f b) (list_all f t) e, all_are f t (and_right
 
 -- ---- what holds of each sign
 
-abbrev EachOf : (Text → Type 0) → List Text → Type 0
-EachOf P [] = Unit {0}
-EachOf P (s ∷ ss) = P s × EachOf P ss
-
-of_each : (P : Text → Type 0) (ss : List Text) (s : Text) → EachOf P ss → list_any (λ t. same s t) ss ≡ true → P s
+of_each : (P : Text → Type 0) (ss : List Text) (s : Text) → AllByRecursion P ss → list_any (λ t. same s t) ss ≡ true → P s
 of_each P [] s h e = absurd cc
 of_each P (t ∷ ss) s h e = go (same s t) refl e (λ w. of_each P ss s h.1 w)
   where
@@ -41,8 +38,22 @@ abbrev is_stop : Text → Bool
 is_stop [] = true
 is_stop (b ∷ t) = ends b
 
+each_passes : (test : Text → Bool) (ss : List Text) → list_all test ss ≡ true → AllByRecursion (λ s. test s ≡ true) ss
+each_passes test [] h = tt
+each_passes test (s ∷ ss) h = (and_left (test s) (list_all test ss) h, each_passes test ss (and_right (test s) (list_all test ss) h))
+
 abbrev is_star : ℕ → Bool
 is_star b = b == 42
+
+-- no star begins it
+abbrev begins_other : Text → Bool
+begins_other [] = false
+begins_other (b ∷ s) = not (is_star b)
+
+-- where no blank is due before it, it may stand directly after a word
+abbrev may_adjoin : Text → Bool
+may_adjoin [] = false
+may_adjoin (b ∷ s) = not (closes (b ∷ s)) || ends b
 
 abbrev may_follow : Text → Text → Bool
 may_follow s rest = if opens s then not (head_is is_star rest) else is_stop rest
@@ -70,7 +81,7 @@ unfolding piece_cut
 open_cut [] e = refl
 open_cut (b ∷ t) e = let other : (b == 42) ≡ false = grind (arith, nat_tests) in rw other refl
 
-signs_cut : EachOf IsCutSign mark_signs
+signs_cut : AllByRecursion IsCutSign mark_signs
 unfolding piece_cut
 signs_cut = (
   λ rest e. refl,
@@ -122,21 +133,21 @@ stop_not_digit (b ∷ rest) e = byte b e
     byte : (b : ℕ) → ends b ≡ true → is_digit b ≡ false
     byte b e = grind (arith, nat_tests)
 
-letter_not_blank : (b : ℕ) → is_letter b ≡ true → is_blank b ≡ false
+letter_not_blank : (b : ℕ) → begins_word b ≡ true → is_blank b ≡ false
 letter_not_blank b e = grind (arith, nat_tests)
 
 digit_not_blank : (b : ℕ) → is_digit b ≡ true → is_blank b ≡ false
 digit_not_blank b e = grind (arith, nat_tests)
 
-digit_not_letter : (b : ℕ) → is_digit b ≡ true → is_letter b ≡ false
+digit_not_letter : (b : ℕ) → is_digit b ≡ true → begins_word b ≡ false
 digit_not_letter b e = grind (arith, nat_tests)
 
 word_cut : (w rest : Text) → is_word_text w ≡ true → is_stop rest ≡ true → piece_cut (w ++ rest) ≡ Some (record { piece = tk.word w; bytes = w; rest = rest })
 unfolding piece_cut
 word_cut [] rest e s = absurd cc
 word_cut (b ∷ t) rest e s =
-    let letter : is_letter b ≡ true = and_left (is_letter b) (list_all is_wordy t) e in
-    let all = all_are is_wordy t (and_right (is_letter b) (list_all is_wordy t) e) in
+    let letter : begins_word b ≡ true = and_left (begins_word b) (list_all is_wordy t) e in
+    let all = all_are is_wordy t (and_right (begins_word b) (list_all is_wordy t) e) in
     rw (letter_not_blank b letter, letter, run_of-all is_wordy t rest all (stop_not_wordy rest s)) refl
 
 number_cut : (d rest : Text) → 0 < length d → AllAre is_digit d → is_stop rest ≡ true → piece_cut (d ++ rest) ≡ Some (record { piece = tk.number d; bytes = d; rest = rest })
@@ -161,65 +172,27 @@ dash_cut rest = refl
 
 -- ---- what stands after a mark
 
+no_star : (s rest : Text) → begins_other s ≡ true → head_is is_star (s ++ rest) ≡ false
+no_star [] rest e = absurd cc
+no_star (b ∷ s) rest e = go (is_star b) e
+  where
+    go : (x : Bool) → not x ≡ true → x ≡ false
+    go true e = absurd cc
+    go false e = refl
+
 starts_no_star : (s : Text) → list_any (λ t. same s t) mark_signs ≡ true → (rest : Text) → head_is is_star (s ++ rest) ≡ false
-starts_no_star s e = of_each (λ s. (rest : Text) → head_is is_star (s ++ rest) ≡ false) mark_signs s (
-  λ rest. refl,
-  (
-    λ rest. refl,
-    (
-      λ rest. refl,
-      (
-        λ rest. refl,
-        (
-          λ rest. refl,
-          (
-            λ rest. refl,
-            (
-              λ rest. refl,
-              (
-                λ rest. refl,
-                (
-                  λ rest. refl,
-                  (λ rest. refl, (λ rest. refl, (λ rest. refl, (λ rest. refl, (λ rest. refl, (λ rest. refl, tt)))))),
-                ),
-              ),
-            ),
-          ),
-        ),
-      ),
-    ),
-  ),
-) e
+starts_no_star s e rest = no_star s rest (of_each (λ t. begins_other t ≡ true) mark_signs s (each_passes begins_other mark_signs refl) e)
+
+stops_before : (s rest : Text) → may_adjoin s ≡ true → closes s ≡ true → is_stop (s ++ rest) ≡ true
+stops_before [] rest e c = absurd cc
+stops_before (b ∷ s) rest e c = go (closes (b ∷ s)) (ends b) e c
+  where
+    go : (x y : Bool) → (not x || y) ≡ true → x ≡ true → y ≡ true
+    go true y e c = e
+    go false y e c = absurd cc
 
 close_stops : (s : Text) → list_any (λ t. same s t) mark_signs ≡ true → closes s ≡ true → (rest : Text) → is_stop (s ++ rest) ≡ true
-close_stops s e = of_each (λ s. closes s ≡ true → (rest : Text) → is_stop (s ++ rest) ≡ true) mark_signs s (
-  λ c. absurd cc,
-  (
-    λ c. absurd cc,
-    (
-      λ c. absurd cc,
-      (
-        λ c. absurd cc,
-        (
-          λ c. absurd cc,
-          (
-            λ c rest. refl,
-            (
-              λ c rest. refl,
-              (
-                λ c. absurd cc,
-                (
-                  λ c rest. refl,
-                  (λ c rest. refl, (λ c. absurd cc, (λ c. absurd cc, (λ c. absurd cc, (λ c. absurd cc, (λ c. absurd cc, tt)))))),
-                ),
-              ),
-            ),
-          ),
-        ),
-      ),
-    ),
-  ),
-) e
+close_stops s e c rest = stops_before s rest (of_each (λ t. may_adjoin t ≡ true) mark_signs s (each_passes may_adjoin mark_signs refl) e) c
 
 after_stop : (ms : List Mark) → AreMarks ms → is_stop (text_of false ms) ≡ true
 after_stop [] a = refl
@@ -235,9 +208,9 @@ after_stop (sign s ∷ ms) a = go (closes s) refl
 
 wordy_not_star : (w rest : Text) → is_word_text w ≡ true → head_is is_star (w ++ rest) ≡ false
 wordy_not_star [] rest e = absurd cc
-wordy_not_star (b ∷ t) rest e = byte b (and_left (is_letter b) (list_all is_wordy t) e)
+wordy_not_star (b ∷ t) rest e = byte b (and_left (begins_word b) (list_all is_wordy t) e)
   where
-    byte : (b : ℕ) → is_letter b ≡ true → is_star b ≡ false
+    byte : (b : ℕ) → begins_word b ≡ true → is_star b ≡ false
     byte b e = grind (arith, nat_tests)
 
 digits_not_star : (d rest : Text) → 0 < length d → AllAre is_digit d → head_is is_star (d ++ rest) ≡ false

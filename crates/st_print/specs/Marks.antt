@@ -2,7 +2,8 @@
 use Rattle.std.specs.Prelude.{◌≡◌, Bool, true, false, ◌&&◌, List, [], ◌∷◌, codes, decimal, Option, Some, None, filter_map}
 use Rattle.std.specs.List.{list_any, list_all}
 use Rattle.grammar.specs.Pieces.{Text, same}
-use Rattle.st_ast.specs.Tokens.{Token, is_letter, is_wordy, kind_of_word, kind_of_number, kind_of_sign}
+use Rattle.grammar.specs.Bytes.{begins_word, is_wordy}
+use Rattle.st_ast.specs.Tokens.{Token, kind_of_word, kind_of_number, kind_of_sign}
 use Rattle.st_print.specs.Layout.{Mark, line, word, digits, sign, dash}
 
 -- a line break gives none
@@ -19,7 +20,7 @@ tokens_of ms = filter_map token_of_mark ms
 -- a letter or an underscore, and then letters, digits and underscores
 abbrev pub is_word_text : Text → Bool
 is_word_text [] = false
-is_word_text (b ∷ t) = is_letter b && list_all is_wordy t
+is_word_text (b ∷ t) = begins_word b && list_all is_wordy t
 
 -- The signs that are printed. There is no `*`, which would begin a comment after `(`.
 abbrev pub mark_signs : List Text

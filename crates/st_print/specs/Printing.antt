@@ -1,4 +1,4 @@
--- What a printer has written, and what it still prints.
+-- Helper of the code: what a printer has written, and what it still prints.
 use Rattle.std.specs.Prelude.{ℕ, ◌+◌, List, ◌∷◌, ◌++◌, codes}
 use Rattle.grammar.specs.Pieces.{Text}
 use Rattle.st_ast.specs.Tree.{Expr, Stms}

@@ -7,6 +7,3 @@ mod program;
 mod statements;
 
 pub use program::print;
-
-#[cfg(test)]
-mod tests;

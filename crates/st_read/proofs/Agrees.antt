@@ -15,7 +15,7 @@ use Rattle.st_ast.specs.declared.tree.StLit.{StLit}
 use Rattle.st_ast.specs.declared.tree.StLit.TheVariants as lit
 use Rattle.st_ast.specs.declared.tree.StClass.{StClass}
 use Rattle.st_ast.specs.declared.tree.StClass.TheVariants as class
-use Rattle.st_read.specs.Reading.{codes_of, first, word_at, flat_word, identifier_at, natural_of, natural_at, truth_of, paren_of, negation_of, term_of, sum_of, order_of, equal_of, all_from, any_from, paren_at, prim_at, unary_from, term_at, sum_from, ordered_at, order_from, equated_at, equal_from, and_next_at, and_from, or_next_at, or_from, unary_at, expression_at, assign_of, assignment_at, guarded_of, choice_of, loop_of, guarded_at, elsif_at, elsifs_at, branches_at, else_at, conditional_at, repetition_at, statement_first, statement_at, statements_at, opposite_of, signed_at, bool_of, first_value_at, bool_type, number_type, subrange_at, type_at, variable_of, init_at, declaration_at, variables_of, block_of_at, block_at, block_first, variables_at, made_of, program_at}
+use Rattle.st_read.specs.Reading.{max_calls, codes_of, first, word_at, flat_word, identifier_at, natural_of, natural_at, truth_of, paren_of, negation_of, term_of, sum_of, order_of, equal_of, all_from, any_from, paren_at, prim_at, unary_from, term_at, sum_from, ordered_at, order_from, equated_at, equal_from, and_next_at, and_from, or_next_at, or_from, unary_at, expression_at, assign_of, assignment_at, guarded_of, choice_of, loop_of, guarded_at, elsif_at, elsifs_at, branches_at, else_at, conditional_at, repetition_at, statement_first, statement_at, statements_at, opposite_of, signed_at, bool_of, first_value_at, bool_type, number_type, subrange_at, type_at, variable_of, init_at, declaration_at, variables_of, block_of_at, block_at, block_first, variables_at, made_of, program_at}
 use Rattle.grammar.proofs.Loops.{flat_after_none}
 use Rattle.st_read.proofs.Mapped.{reads_same, deep_reads_same, many_mapped, joined_first, chain_mapped, suffix_mapped}
 
@@ -131,12 +131,12 @@ unary_at_nests (suc n) c =
     unary_nests (suc n) (inside max_depth (or_from (unary_at n))) (inside_nests (suc n) (λ m. below m at_or) (below_is at_or) (omega arith) c (or_nests n less_fuel (unary_at n) h))
     (inside max_depth (unary_at n)) (inside_nests (suc n) (λ m. below m at_unary) (below_is at_unary) (omega arith) c h)
 
-or_law : Nests sort max_depth 401 false unary_first or_goes (λ n. disjunction (below n)) (or_from (unary_at 401))
-or_law = let c : 401 ≤ max_depth + 1 = omega arith in or_nests 401 c (unary_at 401) (unary_at_nests 401 c)
+or_law : Nests sort max_depth max_calls false unary_first or_goes (λ n. disjunction (below n)) (or_from (unary_at max_calls))
+or_law = let c : max_calls ≤ max_depth + 1 = omega arith in or_nests max_calls c (unary_at max_calls) (unary_at_nests max_calls c)
 
 pub expression_takes : Takes sort false unary_first or_goes expression expression_at
 unfolding expression expression_at
-expression_takes = let c : max_depth < 401 = omega arith in whole_takes c or_law
+expression_takes = let c : max_depth < max_calls = omega arith in whole_takes c or_law
 
 -- ---- statements
 

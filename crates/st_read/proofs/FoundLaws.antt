@@ -1,8 +1,8 @@
 -- What is found at the front of a text, said of the pieces that begin there.
 use Rattle.std.proofs.Common.{◌≡◌, ◌==◌, ◌&&◌, ℕ, ◌<◌, Bool, true, false, nat_le, List, [], ◌∷◌, ◌++◌, Option, Some, None, Ok, Err, refl, sym, ap, subst, ◌∙◌, inl, inr, arith, leb-true, if◌then◌else◌}
 use Rattle.std.proofs.lemmas.Bool.Decides.{nat_tests}
-use Rattle.grammar.specs.Pieces.{Text, Cut, IsLongest, one_text}
-use Rattle.grammar.proofs.Texts.{and_left, and_right}
+use Rattle.grammar.specs.Pieces.{Text, Cut, IsLongest}
+use Rattle.grammar.proofs.Cutting.{text_made}
 use Rattle.st_ast.specs.Tokens.{Token, Piece, blank, comment, word, number, sign, signs, piece, token_of, number_of, greatest}
 use Rattle.st_lex.specs.Cutting.{piece_cut}
 use Rattle.st_lex.proofs.CuttingLaws.{piece_cuts}
@@ -31,11 +31,6 @@ too_big_is (word t) e = absurd cc
 too_big_is (number t) e = (t, refl, above (number_of t) greatest e)
 too_big_is (sign t) e = absurd cc
 
-no_sign_number : (ss : List Text) (t x : Text) → one_text ss sign (number t) x → ⊥
-no_sign_number [] t x d = d
-no_sign_number (s ∷ ss) t x (inl d) = let e : number t ≡ sign s = d.1 in cc
-no_sign_number (s ∷ ss) t x (inr d) = no_sign_number ss t x d
-
 -- a number is made with its text
 pub number_bytes : (t x : Text) → piece (number t) x → t ≡ x
 unfolding piece
@@ -43,7 +38,7 @@ number_bytes t x (inl d) = absurd (let e : number t ≡ blank = d.5 in cc)
 number_bytes t x (inr (inl d)) = absurd (let e : number t ≡ word (d.0 ∷ d.1) = d.5 in cc)
 number_bytes t x (inr (inr (inl d))) = let e : number t ≡ number (d.0 ∷ d.1) = d.5 in let g : x ≡ d.0 ∷ d.1 = d.4 in cc
 number_bytes t x (inr (inr (inr (inl d)))) = absurd (let e : number t ≡ comment = d.1.3 in cc)
-number_bytes t x (inr (inr (inr (inr d)))) = absurd (no_sign_number signs t x d)
+number_bytes t x (inr (inr (inr (inr d)))) = absurd (let e : number t ≡ sign x = text_made signs sign (number t) x d in cc)
 
 -- ---- a piece is taken
 
@@ -164,45 +159,3 @@ open_comment text h =
     go : (c : Option (Cut Piece)) → judged (opens text) c ≡ Err f.OpenComment → opens text ≡ true
     go None g = is_open (opens text) g
     go (Some k) g = absurd (let j = judge_err k.piece k.rest f.OpenComment g in let e : f.OpenComment ≡ f.NumberTooBig = j.1 in cc)
-
-from_test : (a b : ℕ) → (a == b) ≡ true → b ≡ a
-from_test a b e = grind (arith, nat_tests)
-
--- where the first `*)` isn't found there is none
-pub none_closes : (text inner after : Text) → after_close text ≡ None → text ≡ inner ++ (42 ∷ 41 ∷ after) → ⊥
-unfolding after_close
-none_closes text [] after e g = let h : after_close text ≡ Some after = ap after_close g in cc
-none_closes [] (c ∷ inner) after e g = cc
-none_closes (a ∷ []) (c ∷ []) after e g = cc
-none_closes (a ∷ []) (c ∷ d ∷ inner) after e g = cc
-none_closes (a ∷ b ∷ text) (c ∷ inner) after e g = go (a == 42 && b == 41) refl (λ h. none_closes (b ∷ text) inner after h (let tail : b ∷ text ≡ inner ++ (42 ∷ 41 ∷ after) = cc in tail))
-  where
-    go : (x : Bool) → (a == 42 && b == 41) ≡ x → (after_close (b ∷ text) ≡ None → ⊥) → ⊥
-    go true is ih = let h : after_close (a ∷ b ∷ text) ≡ Some text = rw is refl in cc
-    go false is ih = ih (let h : after_close (a ∷ b ∷ text) ≡ after_close (b ∷ text) = rw is refl in sym h ∙ e)
-
--- where it is found it is there
-some_closes : (text rest : Text) → after_close text ≡ Some rest → (inner : Text) × (text ≡ inner ++ (42 ∷ 41 ∷ rest))
-unfolding after_close
-some_closes [] rest e = absurd cc
-some_closes (c ∷ []) rest e = absurd cc
-some_closes (c ∷ d ∷ text) rest e = go (c == 42 && d == 41) refl (λ h. some_closes (d ∷ text) rest h)
-  where
-    go : (x : Bool) → (c == 42 && d == 41) ≡ x → (after_close (d ∷ text) ≡ Some rest → (inner : Text) × (d ∷ text ≡ inner ++ (42 ∷ 41 ∷ rest))) → (inner : Text) × (c ∷ d ∷ text ≡ inner ++ (42 ∷ 41 ∷ rest))
-    go true is ih =
-        let first : 42 ≡ c = from_test c 42 (and_left (c == 42) (d == 41) is) in
-        let second : 41 ≡ d = from_test d 41 (and_right (c == 42) (d == 41) is) in
-        let h : after_close (c ∷ d ∷ text) ≡ Some text = rw is refl in
-        let same : text ≡ rest = cc in
-        ([], cc)
-    go false is ih =
-        let h : after_close (c ∷ d ∷ text) ≡ after_close (d ∷ text) = rw is refl in
-        let m = ih (sym h ∙ e) in
-        (c ∷ m.0, ap (λ (u : Text). c ∷ u) m.1)
-
-pub unclosed : (more : Text) → ((inner after : Text) → more ≡ inner ++ (42 ∷ 41 ∷ after) → ⊥) → after_close more ≡ None
-unclosed more none = go (after_close more) refl
-  where
-    go : (o : Option Text) → after_close more ≡ o → o ≡ None
-    go None is = refl
-    go (Some rest) is = absurd (let m = some_closes more rest is in none m.0 rest m.1)

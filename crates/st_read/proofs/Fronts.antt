@@ -1,15 +1,17 @@
 -- What stands at the front of a text is the piece that is cut off there, and where nothing does none begins.
-use Rattle.std.proofs.Common.{◌≡◌, ◌==◌, ◌&&◌, ℕ, Bool, true, false, nat_le, List, [], ◌∷◌, Option, Some, None, Ok, Err, refl, sym, ap, ◌∙◌, arith, inl, inr, if◌then◌else◌}
+use Rattle.std.proofs.Common.{◌≡◌, ◌==◌, ◌&&◌, ℕ, Bool, true, false, nat_le, List, [], ◌∷◌, Option, Some, None, Ok, Err, refl, sym, ap, eqb-true, ◌∙◌, arith, inl, inr, if◌then◌else◌}
+use Rattle.std.specs.Option.{option_or}
 use Rattle.std.proofs.lemmas.Bool.Decides.{nat_tests}
-use Rattle.grammar.specs.Pieces.{Text, Cutter, Cut, either_cut, run_cut, run_of, after_cut, closed_cut, close_at, longer_by, text_cut, strip, or_else, one_text, head_is, same}
+use Rattle.grammar.specs.Pieces.{Text, Cutter, Cut, either_cut, run_cut, run_of, after_cut, closed_cut, close_at, text_cut, strip, or_else, head_is}
 use Rattle.grammar.proofs.Plain.{if_some}
-use Rattle.st_ast.specs.Tokens.{Piece, blank, comment, word, number, sign, is_blank, is_letter, is_digit, is_wordy, none_of, signs, token_of, piece, is_sign, number_of, greatest}
-use Rattle.st_lex.specs.Cutting.{first_there, first_cut, piece_cut}
+use Rattle.grammar.proofs.Texts.{same_equal}
+use Rattle.grammar.proofs.Cutting.{text_made}
+use Rattle.grammar.proofs.Closing.{rest_of, close_is}
+use Rattle.grammar.specs.Bytes.{is_blank, begins_word, is_digit, is_wordy, none_of}
+use Rattle.st_ast.specs.Tokens.{Piece, blank, comment, word, number, sign, signs, token_of, piece, is_sign, number_of, greatest}
+use Rattle.st_lex.specs.Cutting.{first_cut, piece_cut}
 use Rattle.st_read.specs.declared.found.Fault.TheVariants as f
 use Rattle.st_read.specs.Lexing.{Found, letter, wordy, digit, is_reserved, other_kind, word_kind, sign_kind, value_in, numbered, after_close, commented, with_sign, sign_in, sign_of, signed, opens, inside, front_of}
-
-from_test : (a b : ℕ) → (a == b) ≡ true → a ≡ b
-from_test a b e = grind (arith, nat_tests)
 
 -- ---- cutting that stops at a comment that isn't closed
 
@@ -20,7 +22,7 @@ abbrev last_cut : Cutter Piece
 last_cut text = if opens text then comment_cut text else text_cut signs sign text
 
 abbrev over : Cutter Piece → Cutter Piece
-over last = either_cut is_blank (run_cut is_blank none_of (λ t. blank)) (either_cut is_letter (run_cut is_letter is_wordy word) (either_cut is_digit (run_cut is_digit is_digit number) last))
+over last = either_cut is_blank (run_cut is_blank none_of (λ t. blank)) (either_cut begins_word (run_cut begins_word is_wordy word) (either_cut is_digit (run_cut is_digit is_digit number) last))
 
 unfoldable pub strict_cut : Cutter Piece
 strict_cut = over last_cut
@@ -33,7 +35,7 @@ lift_if false x y z a h e = h e
 lifted : (c d : Cutter Piece) (text : Text) (k : Cut Piece) → (c text ≡ Some k → d text ≡ Some k) → over c text ≡ Some k → over d text ≡ Some k
 lifted c d text k h e =
     lift_if (head_is is_blank text) (run_cut is_blank none_of (λ t. blank) text) _ _ k
-    (lift_if (head_is is_letter text) (run_cut is_letter is_wordy word text) _ _ k
+    (lift_if (head_is begins_word text) (run_cut begins_word is_wordy word text) _ _ k
     (lift_if (head_is is_digit text) (run_cut is_digit is_digit number text) (c text) (d text) k h)) e
 
 -- ---- a text that begins with `(*`
@@ -42,7 +44,7 @@ opening : (a b : ℕ) → (a == 40 && b == 42) ≡ true → (a ≡ 40) × (b ≡
 opening a b e = go (a == 40) refl e
   where
     go : (x : Bool) → (a == 40) ≡ x → (x && b == 42) ≡ true → (a ≡ 40) × (b ≡ 42)
-    go true is g = (from_test a 40 is, from_test b 42 g)
+    go true is g = (eqb-true a 40 is, eqb-true b 42 g)
     go false is g = absurd cc
 
 pub opened : (text : Text) → opens text ≡ true → text ≡ 40 ∷ 42 ∷ inside text
@@ -72,25 +74,6 @@ none_run : (text : Text) → run_of none_of text ≡ ([], text)
 none_run [] = refl
 none_run (b ∷ text) = refl
 
-abbrev rest_of : Option (Text × Text) → Option Text
-rest_of None = None
-rest_of (Some q) = Some q.1
-
-rest_longer : (c : ℕ) (o : Option (Text × Text)) → rest_of (longer_by c o) ≡ rest_of o
-rest_longer c None = refl
-rest_longer c (Some q) = refl
-
-close_step : (a b : ℕ) (text : Text) (x : Bool) → (after_close (b ∷ text) ≡ rest_of (close_at 42 41 (b ∷ text)))
-    → (if x then Some text else after_close (b ∷ text)) ≡ rest_of (if x then Some (a ∷ b ∷ [], text) else longer_by a (close_at 42 41 (b ∷ text)))
-close_step a b text true ih = refl
-close_step a b text false ih = ih ∙ sym (rest_longer a (close_at 42 41 (b ∷ text)))
-
-close_is : (text : Text) → after_close text ≡ rest_of (close_at 42 41 text)
-unfolding after_close
-close_is [] = refl
-close_is (a ∷ []) = refl
-close_is (a ∷ b ∷ text) = close_step a b text (a == 42 && b == 41) (close_is (b ∷ text))
-
 comment_of : (o : Option (Text × Text)) → Option (Cut Piece)
 comment_of None = None
 comment_of (Some q) = Some (record { piece = comment; bytes = 40 ∷ 42 ∷ q.0; rest = q.1 })
@@ -110,7 +93,7 @@ open_uncut text e = go (close_at 42 41 text) refl
   where
     go : (o : Option (Text × Text)) → close_at 42 41 text ≡ o → comment_cut (40 ∷ 42 ∷ text) ≡ None
     go None is = comment_is text ∙ ap comment_of is
-    go (Some q) is = absurd (let g : None ≡ Some q.1 = sym e ∙ close_is text ∙ ap rest_of is in cc)
+    go (Some q) is = absurd (let g : None ≡ Some q.1 = sym e ∙ close_is 42 41 text ∙ ap rest_of is in cc)
 
 comment_front : (o : Option (Text × Text)) → commented (rest_of o) ≡ judged true (comment_of o)
 unfolding comment_of
@@ -132,7 +115,7 @@ last_is w = go (opens w) refl
   where
     go : (x : Bool) → opens w ≡ x → (if x then commented (after_close (inside w)) else signed (sign_in signs w)) ≡ judged x (if x then comment_cut w else text_cut signs sign w)
     go true e =
-        ap commented (close_is (inside w)) ∙ comment_front (close_at 42 41 (inside w))
+        ap commented (close_is 42 41 (inside w)) ∙ comment_front (close_at 42 41 (inside w))
         ∙ sym (ap (λ (u : Text). judged true (comment_cut u)) (opened w e) ∙ ap (judged true) (comment_is (inside w)))
     go false e = sign_front signs w
 
@@ -144,7 +127,7 @@ number_judged d rest = go (nat_le (number_of d) greatest) refl
     go true e = rw e refl
     go false e = rw e refl
 
-front_step : (b : ℕ) (text : Text) (x y z : Bool) → is_blank b ≡ x → is_letter b ≡ y → is_digit b ≡ z → front_of (b ∷ text) ≡ judged (opens (b ∷ text)) (strict_cut (b ∷ text))
+front_step : (b : ℕ) (text : Text) (x y z : Bool) → is_blank b ≡ x → begins_word b ≡ y → is_digit b ≡ z → front_of (b ∷ text) ≡ judged (opens (b ∷ text)) (strict_cut (b ∷ text))
 unfolding front_of strict_cut letter wordy digit word_kind other_kind is_reserved
 front_step b text true y z e f g = rw (e, none_run text) refl
 front_step b text false true z e f g = rw (e, f) refl
@@ -154,7 +137,7 @@ front_step b text false false false e f g = rw (e, f, g) (last_is (b ∷ text))
 pub front_is : (text : Text) → front_of text ≡ judged (opens text) (strict_cut text)
 unfolding front_of strict_cut
 front_is [] = refl
-front_is (b ∷ text) = front_step b text (is_blank b) (is_letter b) (is_digit b) refl refl refl
+front_is (b ∷ text) = front_step b text (is_blank b) (begins_word b) (is_digit b) refl refl refl
 
 -- ---- the two ways to cut
 
@@ -175,8 +158,8 @@ not_opened (a ∷ b ∷ text) e = go (a == 40) (b == 42) refl refl e
 last_first : (text : Text) (k : Cut Piece) → last_cut text ≡ Some k → first_cut comment_cut (text_cut signs sign) text ≡ Some k
 last_first text k e =
     elim (if_some (opens text) (comment_cut text) (text_cut signs sign text) (Some k) e) [
-      | inl w ↦ ap (λ (o : Option (Cut Piece)). first_there o (text_cut signs sign text)) w.1
-      | inr w ↦ ap (λ (o : Option (Cut Piece)). first_there o (text_cut signs sign text)) (not_opened text w.0) ∙ w.1
+      | inl w ↦ ap (λ (o : Option (Cut Piece)). option_or o (text_cut signs sign text)) w.1
+      | inr w ↦ ap (λ (o : Option (Cut Piece)). option_or o (text_cut signs sign text)) (not_opened text w.0) ∙ w.1
     ]
 
 first_last : (text : Text) (k : Cut Piece) → (opens text ≡ true → comment_cut text ≡ None → ⊥) → first_cut comment_cut (text_cut signs sign) text ≡ Some k → last_cut text ≡ Some k
@@ -184,8 +167,8 @@ first_last text k n e = go (opens text) refl (comment_cut text) refl
   where
     go : (x : Bool) → opens text ≡ x → (o : Option (Cut Piece)) → comment_cut text ≡ o → (if x then comment_cut text else text_cut signs sign text) ≡ Some k
     go true is None f = absurd (n is f)
-    go true is (Some j) f = let g : first_there (Some j) (text_cut signs sign text) ≡ Some k = ap (λ (o : Option (Cut Piece)). first_there o (text_cut signs sign text)) (sym f) ∙ e in f ∙ g
-    go false is o f = ap (λ (p : Option (Cut Piece)). first_there p (text_cut signs sign text)) (sym (not_opened text is)) ∙ e
+    go true is (Some j) f = let g : option_or (Some j) (text_cut signs sign text) ≡ Some k = ap (λ (o : Option (Cut Piece)). option_or o (text_cut signs sign text)) (sym f) ∙ e in f ∙ g
+    go false is o f = ap (λ (p : Option (Cut Piece)). option_or p (text_cut signs sign text)) (sym (not_opened text is)) ∙ e
 
 pub strict_cuts : (text : Text) (k : Cut Piece) → strict_cut text ≡ Some k → piece_cut text ≡ Some k
 unfolding strict_cut piece_cut
@@ -197,35 +180,20 @@ cuts_strict text k n e = lifted (first_cut comment_cut (text_cut signs sign)) la
 
 -- ---- `(` directly before `*`
 
-one_bytes : (ss : List Text) (s x : Text) → one_text ss sign (sign s) x → x ≡ s
-one_bytes [] s x d = absurd d
-one_bytes (t ∷ ss) s x (inl d) = let same_sign : s ≡ t = cc in d.0 ∙ sym same_sign
-one_bytes (t ∷ ss) s x (inr d) = one_bytes ss s x d
-
 pub sign_bytes : (s x : Text) → piece (sign s) x → x ≡ s
 unfolding piece
 sign_bytes s x (inl d) = absurd (let e = d.5 in cc)
 sign_bytes s x (inr (inl d)) = absurd (let e = d.5 in cc)
 sign_bytes s x (inr (inr (inl d))) = absurd (let e = d.5 in cc)
 sign_bytes s x (inr (inr (inr (inl d)))) = absurd (let e = d.1.3 in cc)
-sign_bytes s x (inr (inr (inr (inr d)))) = one_bytes signs s x d
-
-same_text : (s t : Text) → same s t ≡ true → t ≡ s
-same_text [] [] e = refl
-same_text [] (b ∷ t) e = absurd cc
-same_text (a ∷ s) [] e = absurd cc
-same_text (a ∷ s) (b ∷ t) e = go (a == b) refl e (same_text s t)
-  where
-    go : (x : Bool) → (a == b) ≡ x → (x && same s t) ≡ true → (same s t ≡ true → t ≡ s) → b ∷ t ≡ a ∷ s
-    go true is g ih = ap (λ (c : ℕ). c ∷ t) (sym (from_test a b is)) ∙ ap (λ (u : Text). a ∷ u) (ih g)
-    go false is g ih = absurd cc
+sign_bytes s x (inr (inr (inr (inr d)))) = let e : sign s ≡ sign x = text_made signs sign (sign s) x d in cc
 
 pub sign_is : (s : Text) (p : Piece) → is_sign s p ≡ true → p ≡ sign s
 sign_is s blank e = absurd cc
 sign_is s comment e = absurd cc
 sign_is s (word w) e = absurd cc
 sign_is s (number d) e = absurd cc
-sign_is s (sign t) e = ap sign (same_text s t e)
+sign_is s (sign t) e = ap sign (sym (same_equal s t e))
 
 comment_some : (o : Option (Text × Text)) (k : Cut Piece) → comment_of o ≡ Some k → k.piece ≡ comment
 unfolding comment_of

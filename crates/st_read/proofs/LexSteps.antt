@@ -1,31 +1,21 @@
 -- A loop that takes tokens from the front of a text, piece by piece.
 use Rattle.std.proofs.Common.{◌≡◌, ◌==◌, ◌&&◌, ◌||◌, Bool, true, false, ◌+◌, ◌-◌, ◌≤◌, ◌<◌, List, [], ◌∷◌, ◌++◌, length, All, Option, Some, None, Ok, Err, refl, sym, ap, subst, ◌∙◌, append-nil, arith, codes, filter_map}
+use Rattle.std.proofs.lemmas.Bool.{or_parts, or_from}
 use Rattle.std.proofs.lemmas.Bool.Decides.{nat_tests}
 use Rattle.std.proofs.lemmas.List.{length-append}
 use Rattle.std.proofs.lemmas.List.Elements.{All-nil, All-push, filter_map-append}
-use Rattle.grammar.specs.Pieces.{Text, IsLongest, Pieces}
+use Rattle.grammar.specs.Pieces.{Text, Begun}
+use Rattle.grammar.proofs.Begun.{begun_more, begun_short, pieces_all}
+use Rattle.grammar.proofs.Closing.{none_closes}
 use Rattle.st_ast.specs.Tokens.{Token, Piece, blank, comment, word, number, sign, piece, is_sign, opens_comment, token_of}
 use Rattle.st_lex.proofs.CuttingLaws.{piece_cuts}
 use Rattle.st_read.specs.declared.found.Fault.{Fault}
 use Rattle.st_read.specs.declared.found.Fault.TheVariants as f
 use Rattle.st_read.specs.declared.error.StErr.{StErr}
 use Rattle.st_read.specs.Lexing.{Halts, front_of, refusal_of, IsInRange, Lexes}
-use Rattle.st_read.specs.Refusals.{Begun, Front, BadByteDue, NumberTooBigDue, OpenCommentDue, RefusalDue}
+use Rattle.st_read.specs.Refusals.{Front, BadByteDue, NumberTooBigDue, OpenCommentDue, RefusalDue}
 use Rattle.st_read.proofs.Fronts.{sign_bytes, sign_is}
-use Rattle.st_read.proofs.FoundLaws.{Takes, takes, bad_byte, big_number, open_comment, none_closes}
-
-begun_more : (ps : List Piece) (p : Piece) (text rest x more : Text) → Begun piece ps text rest → piece p x → IsLongest piece x rest → rest ≡ x ++ more
-    → Begun piece (ps ++ p ∷ []) text more
-begun_more [] p text rest x more b is longest e = (x, more, is, subst (λ (u : Text). IsLongest piece x u) (sym b) longest, b ∙ e, refl)
-begun_more (q ∷ ps) p text rest x more b is longest e = (b.0, b.1, b.2, b.3, b.4, begun_more ps p b.1 rest x more b.5 is longest e)
-
--- what is left is no longer
-begun_short : (ps : List Piece) (text rest : Text) → Begun piece ps text rest → length rest ≤ length text
-begun_short [] text rest b = let e : length text ≡ length rest = ap (λ (u : Text). length u) b in omega arith
-begun_short (p ∷ ps) text rest b =
-    let ih = begun_short ps b.1 rest b.5 in
-    let e : length text ≡ length b.0 + length b.1 = ap (λ (u : Text). length u) b.4 ∙ length-append b.0 b.1 in
-    omega arith
+use Rattle.st_read.proofs.FoundLaws.{Takes, takes, bad_byte, big_number, open_comment}
 
 -- ---- `(` directly before `*`
 
@@ -40,25 +30,17 @@ ends_more [] p = refl
 ends_more (q ∷ []) p = refl
 ends_more (q ∷ r ∷ ps) p = ends_more (r ∷ ps) p
 
-or_false : (x y : Bool) → (x || y) ≡ false → (x ≡ false) × (y ≡ false)
-or_false true y e = absurd cc
-or_false false y e = (refl, e)
-
 both_false : (x y z : Bool) → (x ≡ true → y ≡ true → ⊥) → z ≡ false → (x && y || z) ≡ false
 both_false true true z h e = absurd (h refl refl)
 both_false true false z h e = e
 both_false false y z h e = e
 
-or_both : (x y : Bool) → x ≡ false → y ≡ false → (x || y) ≡ false
-or_both true y e h = absurd cc
-or_both false y e h = h
-
 closed_more : (ps : List Piece) (p : Piece) → opens_comment ps ≡ false → (ends_open ps ≡ true → is_sign (codes "*") p ≡ true → ⊥) → opens_comment (ps ++ p ∷ []) ≡ false
 closed_more [] p e h = refl
 closed_more (q ∷ []) p e h = both_false (is_sign (codes "(") q) (is_sign (codes "*") p) false h refl
 closed_more (q ∷ r ∷ ps) p e h =
-    let m = or_false (is_sign (codes "(") q && is_sign (codes "*") r) (opens_comment (r ∷ ps)) e in
-    or_both (is_sign (codes "(") q && is_sign (codes "*") r) (opens_comment ((r ∷ ps) ++ p ∷ [])) m.0 (closed_more (r ∷ ps) p m.1 h)
+    let m = or_parts (is_sign (codes "(") q && is_sign (codes "*") r) (opens_comment (r ∷ ps)) e in
+    or_from (is_sign (codes "(") q && is_sign (codes "*") r) (opens_comment ((r ∷ ps) ++ p ∷ [])) m.0 (closed_more (r ∷ ps) p m.1 h)
 
 -- ---- the tokens before the rest of a text
 
@@ -91,7 +73,7 @@ taken_more text rest left tokens o t e =
     let m = takes rest left o e in
     record {
       pieces = t.pieces ++ m.taken ∷ [];
-      cut = begun_more t.pieces m.taken text rest m.bytes left t.cut m.is m.longest m.whole;
+      cut = begun_more piece t.pieces m.taken text rest m.bytes left t.cut m.is m.longest m.whole;
       closed = closed_more t.pieces m.taken t.closed (λ paren star. t.apart paren left (starts (codes "*") m.taken m.bytes left rest m.is star m.whole));
       apart = λ paren more g. no_star m more (sym (ends_more t.pieces m.taken) ∙ paren) g;
       in_range = All-push IsInRange t.pieces m.taken t.in_range m.small;
@@ -127,23 +109,19 @@ taken_skip text rest left tokens o h e is =
     let same = subst (λ (q : Option Token). Taken text left (tokens ++ with_token q)) is (taken_more text rest left tokens o h e) in
     subst (λ (ts : List Token). Taken text left ts) (append-nil tokens) same
 
-pieces_all : (ps : List Piece) (text : Text) → Begun piece ps text [] → Pieces piece ps text
-pieces_all [] text b = b
-pieces_all (p ∷ ps) text b = (b.0, b.1, b.2, b.3, b.4, pieces_all ps b.1 b.5)
-
 pub taken_all : (text rest : Text) (tokens : List Token) → Taken text rest tokens → (length rest == 0) ≡ true → Lexes text tokens
-taken_all text [] tokens t e = record { are_tokens = record { pieces = t.pieces; cut = pieces_all t.pieces text t.cut; closed = t.closed; are = t.are }; in_range = t.in_range }
+taken_all text [] tokens t e = record { are_tokens = record { pieces = t.pieces; cut = pieces_all piece t.pieces text t.cut; closed = t.closed; are = t.are }; in_range = t.in_range }
 taken_all text (b ∷ rest) tokens t e = absurd (grind (arith, nat_tests))
 
 front_at : (text rest : Text) (tokens : List Token) → Taken text rest tokens → Front text (length text - length rest)
 front_at text rest tokens t =
-    let short = begun_short t.pieces text rest t.cut in
+    let short = begun_short piece t.pieces text rest t.cut in
     record { pieces = t.pieces; rest = rest; cut = t.cut; closed = t.closed; place = omega arith }
 
 bad : (text rest : Text) (tokens : List Token) → Taken text rest tokens → (length rest == 0) ≡ false → front_of rest ≡ Err f.BadByte → BadByteDue text (length text - length rest)
 unfolding front_at
 bad text rest tokens t n e =
-    let short = begun_short t.pieces text rest t.cut in
+    let short = begun_short piece t.pieces text rest t.cut in
     let m = bad_byte rest e in
     record { front = front_at text rest tokens t; within = grind (arith, nat_tests); no_piece = m.0; no_comment = m.1 }
 
@@ -157,7 +135,7 @@ open_end : (text rest : Text) (tokens : List Token) → Taken text rest tokens �
 unfolding front_at
 open_end text rest tokens t e =
     let m = open_comment rest e in
-    record { front = front_at text rest tokens t; more = m.0; there = m.1; open_end = λ inner after g. none_closes m.0 inner after m.2 g }
+    record { front = front_at text rest tokens t; more = m.0; there = m.1; open_end = λ inner after g. none_closes 42 41 m.0 inner after m.2 g }
 
 due_at : (text rest : Text) (tokens : List Token) (fault : Fault) → Taken text rest tokens → (length rest == 0) ≡ false → Halts fault (front_of rest) → RefusalDue text (refusal_of fault (length text - length rest))
 due_at text rest tokens f.BadByte t n e = bad text rest tokens t n e

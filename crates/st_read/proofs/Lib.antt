@@ -9,5 +9,4 @@ pub mod LexSteps
 pub mod Programs
 pub mod RefusalLaws
 pub mod Numbers
-pub mod Runs
 pub mod Told

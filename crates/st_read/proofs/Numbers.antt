@@ -1,15 +1,15 @@
 -- The number that digits stand for, digit by digit, and the kinds of words and signs.
 use Rattle.std.proofs.Common.{◌≡◌, ◌==◌, ◌&&◌, ℕ, zero, suc, ◌+◌, ◌-◌, ◌*◌, ◌<◌, ◌≤◌, Bool, true, false, not, List, [], ◌∷◌, length, drop, Some, None, refl, sym, ap, ◌∙◌, arith, codes, nat_le, if◌then◌else◌}
 use Rattle.std.proofs.lemmas.Bool.Decides.{nat_tests}
+use Rattle.std.proofs.Math.ListN.{drop_of_length-le}
 use Rattle.grammar.specs.Pieces.{Text, same}
+use Rattle.grammar.proofs.Texts.{and_left, and_right}
+use Rattle.grammar.proofs.Decimals.{grows}
 use Rattle.st_ast.specs.Names.{same_name}
-use Rattle.st_ast.specs.Tokens.{Kind, name, outside, literal, semicolon, colon, assigns, dots, open_sign, close_sign, comma, plus, dash, equals, less, keywords, in_table, is_identifier, kind_of_sign_in, digits_from, number_of, greatest}
+use Rattle.grammar.specs.Bytes.{digits_from}
+use Rattle.st_ast.specs.Tokens.{Kind, name, outside, literal, semicolon, colon, assigns, dots, open_sign, close_sign, comma, plus, dash, equals, less, keywords, in_table, is_identifier, kind_of_sign_in, number_of, greatest}
 use Rattle.st_ast.specs.Grammar.{code}
 use Rattle.st_read.specs.Lexing.{is_reserved, other_kind, word_kind, sign_kind, value_in}
-
-grows : (n : ℕ) (ds : Text) → n ≤ digits_from n ds
-grows n [] = omega arith
-grows n (b ∷ bs) = let more = grows (10 * n + (b - 48)) bs in omega (arith, more)
 
 -- what the digits so far stand for is too great
 pub too_great : (digits rest : Text) (n : ℕ) → digits_from 0 digits ≡ digits_from n rest → greatest < n → value_in digits ≡ None
@@ -20,16 +20,10 @@ too_great digits rest n e l =
     let test : nat_le (number_of digits) greatest ≡ false = grind (arith, nat_tests) in
     rw test refl
 
-drop_none : (i : ℕ) (xs : Text) → length xs ≤ i → drop i xs ≡ []
-drop_none zero [] l = refl
-drop_none (suc i) [] l = refl
-drop_none zero (x ∷ xs) l = absurd (omega arith)
-drop_none (suc i) (x ∷ xs) l = drop_none i xs (omega arith)
-
 pub small_enough : (digits : Text) (n i : ℕ) → digits_from 0 digits ≡ digits_from n (drop i digits) → length digits ≤ i → n ≤ greatest → value_in digits ≡ Some n
 unfolding value_in
 small_enough digits n i e none l =
-    let is : digits_from 0 digits ≡ n = e ∙ ap (digits_from n) (drop_none i digits none) in
+    let is : digits_from 0 digits ≡ n = e ∙ ap (digits_from n) (drop_of_length-le digits none) in
     let below : number_of digits ≤ greatest = omega (arith, is) in
     let test : nat_le (number_of digits) greatest ≡ true = grind (arith, nat_tests) in
     rw test (ap (λ (m : ℕ). Some m) is)
@@ -38,25 +32,17 @@ small_enough digits n i e none l =
 
 abbrev none_literal : List (Text × Kind) → Bool
 none_literal [] = true
-none_literal (p ∷ ps) = not (code p.1 == 1) && none_literal ps
+none_literal (p ∷ ps) = not (code p.1 == code literal) && none_literal ps
 
-no_literal : (kind : Kind) → not (code kind == 1) ≡ true → kind ≡ literal → ⊥
-no_literal kind e is = let f : not (code literal == 1) ≡ true = ap (λ (k : Kind). not (code k == 1)) (sym is) ∙ e in absurd cc
-
-both_left : (a b : Bool) → (a && b) ≡ true → a ≡ true
-both_left true b e = refl
-both_left false b e = absurd cc
-
-both_right : (a b : Bool) → (a && b) ≡ true → b ≡ true
-both_right true b e = e
-both_right false b e = absurd cc
+no_literal : (kind : Kind) → not (code kind == code literal) ≡ true → kind ≡ literal → ⊥
+no_literal kind e is = let f : not (code literal == code literal) ≡ true = ap (λ (k : Kind). not (code k == code literal)) (sym is) ∙ e in absurd cc
 
 table_apart : (ps : List (Text × Kind)) (w : Text) (other : Kind) → none_literal ps ≡ true → (other ≡ literal → ⊥) → in_table ps w other ≡ literal → ⊥
 table_apart [] w other e n is = n is
-table_apart (p ∷ ps) w other e n is = go (same_name p.0 w) (table_apart ps w other (both_right (not (code p.1 == 1)) (none_literal ps) e) n) is
+table_apart (p ∷ ps) w other e n is = go (same_name p.0 w) (table_apart ps w other (and_right (not (code p.1 == code literal)) (none_literal ps) e) n) is
   where
     go : (x : Bool) → (in_table ps w other ≡ literal → ⊥) → (if x then p.1 else in_table ps w other) ≡ literal → ⊥
-    go true ih g = no_literal p.1 (both_left (not (code p.1 == 1)) (none_literal ps) e) g
+    go true ih g = no_literal p.1 (and_left (not (code p.1 == code literal)) (none_literal ps) e) g
     go false ih g = ih g
 
 other_apart : (x y : Bool) → (if x then outside else (if y then name else outside)) ≡ literal → ⊥
@@ -70,10 +56,10 @@ word_apart w e = table_apart keywords w (other_kind w) refl (other_apart (is_res
 
 signs_apart : (ps : List (Text × Kind)) (s : Text) → none_literal ps ≡ true → kind_of_sign_in ps s ≡ literal → ⊥
 signs_apart [] s e is = no_literal outside refl is
-signs_apart (p ∷ ps) s e is = go (same p.0 s) (signs_apart ps s (both_right (not (code p.1 == 1)) (none_literal ps) e)) is
+signs_apart (p ∷ ps) s e is = go (same p.0 s) (signs_apart ps s (and_right (not (code p.1 == code literal)) (none_literal ps) e)) is
   where
     go : (x : Bool) → (kind_of_sign_in ps s ≡ literal → ⊥) → (if x then p.1 else kind_of_sign_in ps s) ≡ literal → ⊥
-    go true ih g = no_literal p.1 (both_left (not (code p.1 == 1)) (none_literal ps) e) g
+    go true ih g = no_literal p.1 (and_left (not (code p.1 == code literal)) (none_literal ps) e) g
     go false ih g = ih g
 
 pub sign_apart : (s : Text) → sign_kind s ≡ literal → ⊥

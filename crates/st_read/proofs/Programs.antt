@@ -35,14 +35,14 @@ Fits {A = A} size p = (a : A) (x : List Token) → p a x → (size a ≤ length 
 abbrev free : {A : Type 0} → A → ℕ
 free a = 0
 
-not_outside : (kind : Kind) (t : Token) → (code kind == 33) ≡ false → (code kind == sort t || false) ≡ true → t.kind ≡ outside → ⊥
+not_outside : (kind : Kind) (t : Token) → (code kind == code outside) ≡ false → (code kind == sort t || false) ≡ true → t.kind ≡ outside → ⊥
 not_outside kind t e h is =
-    let g : (code kind == 33 || false) ≡ true = ap (λ (k : Kind). code kind == code k || false) (sym is) ∙ h in
-    let f : (code kind == 33 || false) ≡ false = ap (λ (b : Bool). b || false) e in
+    let g : (code kind == code outside || false) ≡ true = ap (λ (k : Kind). code kind == code k || false) (sym is) ∙ h in
+    let f : (code kind == code outside || false) ≡ false = ap (λ (b : Bool). b || false) e in
     let wrong : true ≡ false = sym g ∙ f in
     cc
 
-word_fits : (kind : Kind) → (code kind == 33) ≡ false → Fits (λ t. 1) (word kind)
+word_fits : (kind : Kind) → (code kind == code outside) ≡ false → Fits (λ t. 1) (word kind)
 word_fits kind e t x d =
     let one : length x ≡ 1 = ap (λ (ts : List Token). length ts) d.1 in
     (omega arith, subst (λ (ts : List Token). Inside ts) (sym d.1) (not_outside kind t e d.0, tt))
@@ -167,7 +167,7 @@ other_small None = omega arith
 other_small (Some w) = let e = stms_total w.1 in omega (arith, e)
 
 module _ (body : Lang Token (List Stm)) (b : Fits (total stm_count) body) where
-  guarded_fits : (kind : Kind) → (code kind == 33) ≡ false → Fits guarded_size (guarded body kind)
+  guarded_fits : (kind : Kind) → (code kind == code outside) ≡ false → Fits guarded_size (guarded body kind)
   guarded_fits kind e = map_fits (both_fits expression_fits (both_fits (word_fits kind e) b)) guarded_size _ (λ v. let m = stms_total v.1.1 in omega (arith, m))
 
   conditional_fits : Fits stm_count (conditional body)
@@ -208,7 +208,7 @@ length_total : (vs : List StVar) → length vs ≡ total one_each vs
 length_total [] = refl
 length_total (v ∷ vs) = let m = length_total vs in omega (arith, m)
 
-block_of_fits : (kind : Kind) (k : StClass) → (code kind == 33) ≡ false → Fits (λ vs. length vs) (block_of kind k)
+block_of_fits : (kind : Kind) (k : StClass) → (code kind == code outside) ≡ false → Fits (λ vs. length vs) (block_of kind k)
 block_of_fits kind k e = map_fits (both_fits (word_fits kind e) (both_fits (many_fits (declaration_fits k)) (word_fits end_var refl))) (λ vs. length vs) _
     (λ v. let m = length_total v.1.0 in omega (arith, m))
 

@@ -1,62 +1,28 @@
 -- Where a refusal is due a text derives no program.
 use Rattle.std.proofs.Common.{◌≡◌, ◌&&◌, ◌||◌, ℕ, ◌≤◌, Bool, true, false, nat_le, List, [], ◌∷◌, ◌++◌, length, All, Option, Some, None, refl, sym, ap, subst, ◌∙◌, arith, codes, filter_map}
+use Rattle.std.specs.Option.{option_or}
 use Rattle.std.proofs.lemmas.List.Elements.{All-nil, All-cons, All-head, All-tail}
+use Rattle.std.proofs.lemmas.Bool.{or_parts}
 use Rattle.std.proofs.lemmas.Bool.Decides.{nat_tests}
 use Rattle.grammar.specs.Pieces.{Text, IsLongest, Pieces, Cut, text_cut}
+use Rattle.grammar.proofs.Begun.{some_byte, one_piece, front_goes_on, all_tail}
+use Rattle.grammar.proofs.Closing.{unclosed}
 use Rattle.st_ast.specs.Tokens.{Token, Piece, blank, comment, word, number, sign, outside, piece, signs, is_sign, opens_comment, token_of, number_of, greatest, kind_of_number}
 use Rattle.st_ast.specs.Tree.{Program}
-use Rattle.st_lex.specs.Cutting.{first_there, piece_cut}
+use Rattle.st_lex.specs.Cutting.{piece_cut}
 use Rattle.st_lex.proofs.CuttingLaws.{piece_cuts}
 use Rattle.st_read.specs.declared.error.StErr.{StErr}
 use Rattle.st_read.specs.declared.error.StErr.TheVariants as err
 use Rattle.st_read.specs.Derives.{Derives}
 use Rattle.st_read.specs.Lexing.{IsInRange, Lexes}
-use Rattle.st_read.specs.Refusals.{Begun, Front, BadByteDue, NumberTooBigDue, OpenCommentDue, RefusalDue}
+use Rattle.st_read.specs.Refusals.{Front, BadByteDue, NumberTooBigDue, OpenCommentDue, RefusalDue}
 use Rattle.st_read.proofs.Fronts.{comment_cut, open_uncut}
-use Rattle.st_read.proofs.FoundLaws.{unclosed}
 use Rattle.st_read.proofs.Programs.{Inside, whole_fits}
 
 -- ---- the pieces of a text go on from those at its front
 
-split_same : (x y r s : Text) → x ++ r ≡ y ++ s → length x ≡ length y → (x ≡ y) × (r ≡ s)
-split_same [] [] r s e l = (refl, e)
-split_same [] (b ∷ y) r s e l = absurd (omega arith)
-split_same (a ∷ x) [] r s e l = absurd (omega arith)
-split_same (a ∷ x) (b ∷ y) r s e l =
-    let heads : a ≡ b = cc in
-    let tails : x ++ r ≡ y ++ s = cc in
-    let lengths : length x ≡ length y = omega arith in
-    let m = split_same x y r s tails lengths in
-    let front : x ≡ y = m.0 in
-    (cc, m.1)
-
--- the longest pieces at one place are one
-one_piece : (p q : Piece) (x y r s text : Text) → piece p x → piece q y → IsLongest piece x text → IsLongest piece y text
-    → text ≡ x ++ r → text ≡ y ++ s → (p ≡ q) × (r ≡ s)
-one_piece p q x y r s text is was longest also e g =
-    let upper = longest q y s was g in
-    let lower = also p x r is e in
-    let parts = split_same x y r s (sym e ∙ g) (omega arith) in
-    let same : p ≡ q = piece_cuts.same p q y (subst (λ (u : Text). piece p u) parts.0 is) was in
-    (same, parts.1)
-
--- a piece has a byte
-some_byte : (p : Piece) (x more : Text) → piece p x → [] ≡ x ++ more → ⊥
-some_byte p x more is e =
-    let s = piece_cuts.begins p x is in
-    let whole : [] ≡ (s.0 ∷ s.1) ++ more = e ∙ ap (λ u. u ++ more) s.2 in
-    cc
-
-front_goes_on : (ps qs : List Piece) (text rest : Text) → Begun piece ps text rest → Pieces piece qs text
-    → (tail : List Piece) × (qs ≡ ps ++ tail) × Pieces piece tail rest
-front_goes_on [] qs text rest b d = (qs, refl, subst (λ u. Pieces piece qs u) b d)
-front_goes_on (p ∷ ps) [] text rest b d = absurd (some_byte p b.0 b.1 b.2 (sym d ∙ b.4))
-front_goes_on (p ∷ ps) (q ∷ qs) text rest b d =
-    let m = one_piece p q b.0 d.0 b.1 d.1 text b.2 d.2 b.3 d.3 b.4 d.4 in
-    let ih = front_goes_on ps qs b.1 rest b.5 (subst (λ u. Pieces piece qs u) (sym m.1) d.5) in
-    let head : p ≡ q = m.0 in
-    let tails : qs ≡ ps ++ ih.0 = ih.1 in
-    (ih.0, cc, ih.2)
+piece_begins : (p : Piece) (x : Text) → piece p x → (b : ℕ) × (t : Text) × (x ≡ b ∷ t)
+piece_begins p x is = let s = piece_cuts.begins p x is in (s.0, s.1, s.2)
 
 -- the piece that is cut off is the first
 cut_first : (text : Text) (k : Cut Piece) (ps : List Piece) → piece_cut text ≡ Some k → (text ≡ [] → ⊥) → Pieces piece ps text
@@ -64,26 +30,22 @@ cut_first : (text : Text) (k : Cut Piece) (ps : List Piece) → piece_cut text �
 cut_first text k [] e some d = absurd (some d)
 cut_first text k (p ∷ qs) e some d =
     let f = piece_cuts.found text k e in
-    let m = one_piece p k.piece d.0 k.bytes d.1 k.rest text d.2 f.0 d.3 f.1 d.4 f.2 in
+    let m = one_piece piece piece_begins piece_cuts.same p k.piece d.0 k.bytes d.1 k.rest text d.2 f.0 d.3 f.1 d.4 f.2 in
     (qs, ap (λ (q : Piece). q ∷ qs) m.0, subst (λ (u : Text). Pieces piece qs u) m.1 d.5)
 
 -- ---- `(*` that begins no comment is two signs
 
 paren_cut : (text : Text) → comment_cut (40 ∷ 42 ∷ text) ≡ None → piece_cut (40 ∷ 42 ∷ text) ≡ Some (record { piece = sign (codes "("); bytes = codes "("; rest = 42 ∷ text })
 unfolding piece_cut
-paren_cut text e = ap (λ (o : Option (Cut Piece)). first_there o (text_cut signs sign (40 ∷ 42 ∷ text))) e
+paren_cut text e = ap (λ (o : Option (Cut Piece)). option_or o (text_cut signs sign (40 ∷ 42 ∷ text))) e
 
 star_cut : (text : Text) → piece_cut (42 ∷ text) ≡ Some (record { piece = sign (codes "*"); bytes = codes "*"; rest = text })
 unfolding piece_cut
 star_cut text = refl
 
-or_false : (x y : Bool) → (x || y) ≡ false → y ≡ false
-or_false true y e = absurd cc
-or_false false y e = e
-
 tail_closed : (p : Piece) (qs : List Piece) → opens_comment (p ∷ qs) ≡ false → opens_comment qs ≡ false
 tail_closed p [] e = refl
-tail_closed p (q ∷ rs) e = or_false (is_sign (codes "(") p && is_sign (codes "*") q) (opens_comment (q ∷ rs)) e
+tail_closed p (q ∷ rs) e = (or_parts (is_sign (codes "(") p && is_sign (codes "*") q) (opens_comment (q ∷ rs)) e).1
 
 later_closed : (ps qs : List Piece) → opens_comment (ps ++ qs) ≡ false → opens_comment qs ≡ false
 later_closed [] qs e = e
@@ -91,7 +53,7 @@ later_closed (p ∷ ps) qs e = later_closed ps qs (tail_closed p (ps ++ qs) e)
 
 stuck : (more : Text) (ps : List Piece) → ((inner after : Text) → more ≡ inner ++ (42 ∷ 41 ∷ after) → ⊥) → Pieces piece ps (40 ∷ 42 ∷ more) → opens_comment ps ≡ false → ⊥
 stuck more ps none d o =
-    let cut = paren_cut more (open_uncut more (unclosed more none)) in
+    let cut = paren_cut more (open_uncut more (unclosed 42 41 more none)) in
     let one = cut_first (40 ∷ 42 ∷ more) (record { piece = sign (codes "("); bytes = codes "("; rest = 42 ∷ more }) ps cut (λ e. cc) d in
     let two = cut_first (42 ∷ more) (record { piece = sign (codes "*"); bytes = codes "*"; rest = more }) one.0 (star_cut more) (λ e. cc) one.2 in
     let both : opens_comment (sign (codes "(") ∷ sign (codes "*") ∷ two.0) ≡ false =
@@ -101,15 +63,11 @@ stuck more ps none d o =
 
 -- ---- a text whose numbers are in range is not refused for its pieces
 
-all_tail : {X : Type 0} (P : X → Type 0) (xs ys : List X) → All P (xs ++ ys) → All P ys
-all_tail P [] ys h = h
-all_tail P (x ∷ xs) ys h = all_tail P xs ys (All-tail P x (xs ++ ys) h)
-
 -- what goes on from a front
 goes_on : (text : Text) (at : ℕ) (front : Front text at) (tokens : List Token) → Lexes text tokens
     → (tail : List Piece) × Pieces piece tail front.rest × All IsInRange tail × (opens_comment tail ≡ false)
 goes_on text at front tokens t =
-    let m = front_goes_on front.pieces t.are_tokens.pieces text front.rest front.cut t.are_tokens.cut in (
+    let m = front_goes_on piece piece_begins piece_cuts.same front.pieces t.are_tokens.pieces text front.rest front.cut t.are_tokens.cut in (
       m.0,
       m.2,
       all_tail IsInRange front.pieces m.0 (subst (λ u. All IsInRange u) m.1 t.in_range),
@@ -126,9 +84,9 @@ no_byte text at due (p ∷ tail) d = due.no_piece p d.0 d.1 d.2 d.4
 
 no_number : (text : Text) (at : ℕ) (due : NumberTooBigDue text at) (tail : List Piece) → Pieces piece tail due.front.rest → All IsInRange tail → ⊥
 unfolding IsInRange
-no_number text at due [] d h = some_byte (number due.digits) due.digits due.more due.is_number (sym d ∙ due.there)
+no_number text at due [] d h = some_byte piece piece_begins piece_cuts.same (number due.digits) due.digits due.more due.is_number (sym d ∙ due.there)
 no_number text at due (p ∷ tail) d h =
-    let m = one_piece p (number due.digits) d.0 due.digits d.1 due.more due.front.rest d.2 due.is_number d.3 due.longest d.4 due.there in
+    let m = one_piece piece piece_begins piece_cuts.same p (number due.digits) d.0 due.digits d.1 due.more due.front.rest d.2 due.is_number d.3 due.longest d.4 due.there in
     let small : IsInRange (number due.digits) = subst (λ (q : Piece). IsInRange q) m.0 (All-head IsInRange p tail h) in
     let big = due.too_big in
     omega (arith, small)

@@ -1,5 +1,5 @@
 -- What a reader of the code ensures: what reading the list gives, unless memory runs out.
-use Rattle.std.specs.Prelude.{◌≡◌, Option, Some, None, Result, Ok, Err}
+use Rattle.std.specs.Prelude.{◌≡◌, Option, Some, None, Result, MatchResult}
 use Rattle.st_read.specs.declared.error.Stop.{Stop}
 use Rattle.st_read.specs.declared.error.Stop.TheVariants.{NoMemory, NotTaken}
 
@@ -8,5 +8,4 @@ Fails NoMemory read = Unit {0}
 Fails (NotTaken left) read = read ≡ None
 
 abbrev pub Gives : {X Y : Type 0} → (X → Y) → Result X Stop → Option Y → Type 0
-Gives view (Ok x) read = read ≡ Some (view x)
-Gives view (Err e) read = Fails e read
+Gives view result read = MatchResult result (λ x. read ≡ Some (view x)) (λ e. Fails e read)

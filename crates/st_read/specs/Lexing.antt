@@ -1,9 +1,10 @@
--- What stands at the front of a text, found by its first bytes.
+-- Helper of the code: what stands at the front of a text, found by its first bytes.
 use Rattle.std.specs.Prelude.{◌≡◌, ℕ, ◌≤◌, ◌==◌, ◌&&◌, Bool, false, List, [], ◌∷◌, All, Option, Some, None, Result, Ok, Err, nat_le, if◌then◌else◌}
 use Rattle.std.specs.List.{list_any}
-use Rattle.grammar.specs.Pieces.{Text, run_of, strip}
+use Rattle.grammar.specs.Pieces.{Text, run_of, strip, rest_after}
 use Rattle.st_ast.specs.Names.{same_name}
-use Rattle.st_ast.specs.Tokens.{Kind, Token, Piece, blank, comment, word, number, sign, Tokens, is_blank, is_letter, is_digit, is_wordy, signs, name, literal, outside, keywords, reserved, in_table, is_identifier, number_of, greatest, kind_of_sign}
+use Rattle.grammar.specs.Bytes.{is_blank, begins_word, is_digit, is_wordy}
+use Rattle.st_ast.specs.Tokens.{Kind, Token, Piece, blank, comment, word, number, sign, Tokens, signs, name, literal, outside, keywords, reserved, in_table, is_identifier, number_of, greatest, kind_of_sign}
 use Rattle.st_read.specs.declared.found.Fault.{Fault}
 use Rattle.st_read.specs.declared.found.Fault.TheVariants as f
 use Rattle.st_read.specs.declared.error.StErr.{StErr}
@@ -34,7 +35,7 @@ refusal_of f.NoMemory at = err.Memory
 
 -- the tests of bytes, each as one word
 unfoldable pub letter : ℕ → Bool
-letter b = is_letter b
+letter b = begins_word b
 
 unfoldable pub wordy : ℕ → Bool
 wordy b = is_wordy b
@@ -70,10 +71,8 @@ abbrev pub numbered : Text × Text → Found
 numbered w = with_value w (value_in w.0)
 
 -- what follows the first `*)`
-unfoldable pub after_close : Text → Option Text
-after_close [] = None
-after_close (a ∷ []) = None
-after_close (a ∷ b ∷ text) = if a == 42 && b == 41 then Some text else after_close (b ∷ text)
+abbrev pub after_close : Text → Option Text
+after_close = rest_after 42 41
 
 abbrev pub commented : Option Text → Found
 commented None = Err f.OpenComment

@@ -1,5 +1,5 @@
--- Reading Structured Text with one token of sight: a reader for each production of the grammar.
-use Rattle.std.specs.Prelude.{ℕ, zero, suc, ℤ, pos, neg_ℤ, Bool, true, false, List, [], ◌∷◌, map, Option, Some, None}
+-- Helper of the code: reading Structured Text with one token of sight: a reader for each production of the grammar.
+use Rattle.std.specs.Prelude.{ℕ, zero, suc, ◌+◌, ℤ, pos, neg_ℤ, Bool, true, false, List, [], ◌∷◌, map, Option, Some, None}
 use Rattle.grammar.specs.Pieces.{Text}
 use Rattle.grammar.specs.Reader.{Read, Reader, Deep, one_at, none_at, both_at, map_at, either_at, optional_at, many_at, list_at, flat_at, deep_both, deep_map, inside, chain_at, suffix_at}
 use Rattle.st_ast.specs.Tokens.{Kind, Token, name, literal, program, end_program, var, var_output, end_var, bool, lint, true_word, false_word, if_word, then_word, elsif_word, else_word, end_if, while_word, do_word, end_while, not_word, and_word, or_word, semicolon, colon, assigns, dots, open_sign, close_sign, plus, dash, equals, less, number_of}
@@ -46,10 +46,10 @@ abbrev pub paren_of : Token × (Expr × Token) → Expr
 paren_of v = paren (middle v)
 
 abbrev pub negation_of : Token × Expr → Expr
-negation_of v = negation v.1
+negation_of (w, e) = negation e
 
 abbrev pub term_of : Token × Expr → Bool × Expr
-term_of v = (false, v.1)
+term_of (s, e) = (false, e)
 
 abbrev pub sum_of : Expr → List (Bool × Expr) → Expr
 sum_of e more = sum e (terms_of more)
@@ -129,25 +129,29 @@ unary_at (suc n) = unary_from (inside max_depth (or_from (unary_at n))) (inside 
 abbrev pub within_at : ℕ → Deep Token Expr
 within_at n = inside max_depth (or_from (unary_at n))
 
+-- one more than the deepest expression
+abbrev pub max_calls : ℕ
+max_calls = max_depth + 1
+
 unfoldable pub expression_at : Reader Token Expr
-expression_at = map_at (λ v. v.0) (or_from (unary_at 401))
+expression_at = map_at (λ (e, depth). e) (or_from (unary_at max_calls))
 
 -- ---- statements
 
 abbrev pub assign_of : Text × (Token × (Expr × Token)) → Stm
-assign_of v = assign v.0 v.1.1.0
+assign_of (x, (s, (e, end))) = assign x e
 
 unfoldable pub assignment_at : Reader Token Stm
 assignment_at = map_at assign_of (both_at identifier_at (both_at (word_at assigns) (both_at expression_at (word_at semicolon))))
 
 abbrev pub guarded_of : Expr × (Token × List Stm) → Expr × Stms
-guarded_of v = (v.0, stms_of v.1.1)
+guarded_of (c, (w, ss)) = (c, stms_of ss)
 
 abbrev pub choice_of : Token × (List (Expr × Stms) × (Option (List Stm) × (Token × Token))) → Stm
-choice_of v = choice (branches_of v.1.0) (other_of v.1.1.0)
+choice_of (w, (bs, (o, end))) = choice (branches_of bs) (other_of o)
 
 abbrev pub loop_of : Token × ((Expr × Stms) × (Token × Token)) → Stm
-loop_of v = loop v.1.0.0 v.1.0.1
+loop_of (w, ((c, ss), end)) = loop c ss
 
 -- The reader of the statements between an opening word and its end.
 module _ (body : Reader Token (List Stm)) where
@@ -192,7 +196,7 @@ statements_at n = many_at sort statement_first (statement_at n)
 -- ---- declarations
 
 abbrev pub opposite_of : Token × ℤ → ℤ
-opposite_of v = neg_ℤ v.1
+opposite_of (s, z) = neg_ℤ z
 
 unfoldable pub signed_at : Reader Token ℤ
 signed_at = either_at sort (first dash) (map_at opposite_of (both_at (word_at dash) natural_at)) natural_at
@@ -209,7 +213,7 @@ abbrev pub bool_type : Token → StTy
 bool_type t = ty.Bool
 
 abbrev pub number_type : Token × Option (Token × (ℤ × (Token × (ℤ × Token)))) → StTy
-number_type v = subrange_of v.1
+number_type (w, o) = subrange_of o
 
 unfoldable pub subrange_at : Reader Token (Option (Token × (ℤ × (Token × (ℤ × Token)))))
 subrange_at = optional_at sort (first open_sign) (both_at (word_at open_sign) (both_at signed_at (both_at (word_at dots) (both_at signed_at (word_at close_sign)))))
@@ -218,7 +222,7 @@ unfoldable pub type_at : Reader Token StTy
 type_at = either_at sort (first bool) (map_at bool_type (word_at bool)) (map_at number_type (both_at (word_at lint) subrange_at))
 
 abbrev pub variable_of : StClass → Text × (Token × (StTy × (Option StLit × Token))) → StVar
-variable_of k v = record { name = v.0; class = k; ty = v.1.1.0; init = v.1.1.1.0 }
+variable_of k (x, (s, (t, (v, end)))) = record { name = x; class = k; ty = t; init = v }
 
 unfoldable pub init_at : Reader Token (Option StLit)
 init_at = map_at value_of_init (optional_at sort (first assigns) (both_at (word_at assigns) first_value_at))
@@ -246,7 +250,7 @@ unfoldable pub variables_at : Reader Token (List StVar)
 variables_at ts = flat_after [] (many_at sort block_first block_at ts)
 
 abbrev pub made_of : Token × (Text × (List StVar × (List Stm × Token))) → Program
-made_of v = record { name = v.1.0; vars = v.1.1.0; body = stms_of v.1.1.1.0 }
+made_of (w, (x, (vars, (ss, end)))) = record { name = x; vars = vars; body = stms_of ss }
 
 unfoldable pub program_at : Reader Token Program
 program_at = map_at made_of (both_at (word_at program) (both_at identifier_at (both_at variables_at

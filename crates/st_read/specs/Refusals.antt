@@ -1,16 +1,11 @@
 -- Why a text is not read, at which place.
 use Rattle.std.specs.Prelude.{◌≡◌, ℕ, ◌+◌, ◌≤◌, ◌<◌, false, List, [], ◌∷◌, ◌++◌, length}
-use Rattle.grammar.specs.Pieces.{Text, Kinds, IsLongest}
+use Rattle.grammar.specs.Pieces.{Text, IsLongest, Begun}
 use Rattle.st_ast.specs.Tokens.{Piece, number, piece, opens_comment, number_of, greatest}
 use Rattle.st_ast.specs.Tree.{Program}
 use Rattle.st_read.specs.Derives.{Derives}
 use Rattle.st_read.specs.declared.error.StErr.{StErr}
 use Rattle.st_read.specs.declared.error.StErr.TheVariants as err
-
--- The text is these pieces and then the rest, each piece the longest that begins at its place.
-abbrev pub Begun : {P : Type 0} → Kinds P → List P → Text → Text → Type 0
-Begun r [] text rest = text ≡ rest
-Begun r (p ∷ ps) text rest = (x : Text) × (more : Text) × r p x × IsLongest r x text × (text ≡ x ++ more) × Begun r ps more rest
 
 -- The bytes before the place are such pieces, with numbers of any size. `(*` among them begins a comment.
 pub record Front (text : Text) (at : ℕ) : Type 0 where

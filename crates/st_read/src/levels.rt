@@ -5,6 +5,7 @@ ghost use Rattle.st_ast.specs.Grammar as grammar;
 ghost use Rattle.st_ast.specs.Tokens as k;
 ghost use Rattle.st_ast.specs.View.{view_expr, view_term};
 ghost use Rattle.grammar.specs.Reader as reader;
+ghost use Rattle.st_ast.specs.Grammar.{max_depth};
 ghost use Rattle.st_read.specs.Gives.{Gives};
 ghost use Rattle.st_read.specs.Reading as reading;
 ghost use Rattle.st_read.specs.ReadsUnary.{ReadsUnary};
@@ -30,7 +31,7 @@ pub struct Levels<F> {
 /// One more level.
 #[tactic(auto, unfolding(grammar::specs::Reader::level))]
 fn level(e: StExpr, depth: u16, rest: &[Token]) -> Read<'_, (StExpr, u16)>
-    ensures { Gives (λ x. ((view_expr x.0.0, x.0.1), x.1.now)) result (reader.level 400 (view_expr e) depth rest.now) }
+    ensures { Gives (λ x. ((view_expr x.0.0, x.0.1), x.1.now)) result (reader.level max_depth (view_expr e) depth rest.now) }
 {
     if depth < MAX_DEPTH {
         Ok(((e, depth + 1), rest))
@@ -95,7 +96,7 @@ impl<F: Fn(Global, &[Token], u16) -> Result<((StExpr, u16), &[Token]), Stop>> Le
 
     pub fn inner_operand<'a>(&self, tokens: &'a [Token]) -> Read<'a, (StExpr, u16)>
         requires { ReadsUnary self.now.fuel (F.pre self.now.unary) (F.post self.now.unary) }
-        ensures { Gives (λ x. ((view_expr x.0.0, x.0.1), x.1.now)) result (reader.inside 400 (reading.unary_at self.now.fuel) tokens.now) }
+        ensures { Gives (λ x. ((view_expr x.0.0, x.0.1), x.1.now)) result (reader.inside max_depth (reading.unary_at self.now.fuel) tokens.now) }
     {
         let ((e, depth), rest) = self.operand(tokens)?;
         level(e, depth, rest)
@@ -148,7 +149,7 @@ impl<F: Fn(Global, &[Token], u16) -> Result<((StExpr, u16), &[Token]), Stop>> Le
 
     fn inner_sum<'a>(&self, tokens: &'a [Token]) -> Read<'a, (StExpr, u16)>
         requires { ReadsUnary self.now.fuel (F.pre self.now.unary) (F.post self.now.unary) }
-        ensures { Gives (λ x. ((view_expr x.0.0, x.0.1), x.1.now)) result (reader.inside 400 (reading.sum_from (reading.unary_at self.now.fuel)) tokens.now) }
+        ensures { Gives (λ x. ((view_expr x.0.0, x.0.1), x.1.now)) result (reader.inside max_depth (reading.sum_from (reading.unary_at self.now.fuel)) tokens.now) }
     {
         let ((e, depth), rest) = self.sum(tokens)?;
         level(e, depth, rest)
@@ -171,7 +172,7 @@ impl<F: Fn(Global, &[Token], u16) -> Result<((StExpr, u16), &[Token]), Stop>> Le
 
     fn inner_order<'a>(&self, tokens: &'a [Token]) -> Read<'a, (StExpr, u16)>
         requires { ReadsUnary self.now.fuel (F.pre self.now.unary) (F.post self.now.unary) }
-        ensures { Gives (λ x. ((view_expr x.0.0, x.0.1), x.1.now)) result (reader.inside 400 (reading.order_from (reading.unary_at self.now.fuel)) tokens.now) }
+        ensures { Gives (λ x. ((view_expr x.0.0, x.0.1), x.1.now)) result (reader.inside max_depth (reading.order_from (reading.unary_at self.now.fuel)) tokens.now) }
     {
         let ((e, depth), rest) = self.order(tokens)?;
         level(e, depth, rest)
@@ -194,7 +195,7 @@ impl<F: Fn(Global, &[Token], u16) -> Result<((StExpr, u16), &[Token]), Stop>> Le
 
     fn inner_equal<'a>(&self, tokens: &'a [Token]) -> Read<'a, (StExpr, u16)>
         requires { ReadsUnary self.now.fuel (F.pre self.now.unary) (F.post self.now.unary) }
-        ensures { Gives (λ x. ((view_expr x.0.0, x.0.1), x.1.now)) result (reader.inside 400 (reading.equal_from (reading.unary_at self.now.fuel)) tokens.now) }
+        ensures { Gives (λ x. ((view_expr x.0.0, x.0.1), x.1.now)) result (reader.inside max_depth (reading.equal_from (reading.unary_at self.now.fuel)) tokens.now) }
     {
         let ((e, depth), rest) = self.equal(tokens)?;
         level(e, depth, rest)
@@ -246,7 +247,7 @@ impl<F: Fn(Global, &[Token], u16) -> Result<((StExpr, u16), &[Token]), Stop>> Le
 
     fn inner_and<'a>(&self, tokens: &'a [Token]) -> Read<'a, (StExpr, u16)>
         requires { ReadsUnary self.now.fuel (F.pre self.now.unary) (F.post self.now.unary) }
-        ensures { Gives (λ x. ((view_expr x.0.0, x.0.1), x.1.now)) result (reader.inside 400 (reading.and_from (reading.unary_at self.now.fuel)) tokens.now) }
+        ensures { Gives (λ x. ((view_expr x.0.0, x.0.1), x.1.now)) result (reader.inside max_depth (reading.and_from (reading.unary_at self.now.fuel)) tokens.now) }
     {
         let ((e, depth), rest) = self.and(tokens)?;
         level(e, depth, rest)

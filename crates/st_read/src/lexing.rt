@@ -13,7 +13,7 @@ ghost use Rattle.st_read.specs.Refusals.{RefusalDue};
 use crate::error::StErr;
 use crate::found::{Fault, Found};
 use crate::tokens::{Kind, Token};
-use crate::words::{is_blank, is_digit, is_letter, is_wordy, kind_of_word, value_of};
+use crate::words::{begins_word, is_blank, is_digit, is_wordy, kind_of_word, value_of};
 use cif_base::{Items, Text};
 use std::alloc::Global;
 
@@ -59,7 +59,7 @@ fn first_undigit(text: &[u8]) -> Option<usize>
     text.iter().position(|byte| !is_digit(*byte))
 }
 
-#[tactic(auto, using(crate::proofs::Runs::first_within))]
+#[tactic(auto, using(grammar::proofs::Runs::first_within))]
 fn wordy_len(text: &[u8]) -> usize
     ensures count { result ≡ unwrap_or (position (λ b. not (lexing.wordy b)) text.now) (length text.now) }
     ensures within { result ≤ length text.now }
@@ -67,7 +67,7 @@ fn wordy_len(text: &[u8]) -> usize
     first_unwordy(text).unwrap_or(text.len())
 }
 
-#[tactic(auto, using(crate::proofs::Runs::first_within))]
+#[tactic(auto, using(grammar::proofs::Runs::first_within))]
 fn digits_len(text: &[u8]) -> usize
     ensures count { result ≡ unwrap_or (position (λ b. not (lexing.digit b)) text.now) (length text.now) }
     ensures within { result ≤ length text.now }
@@ -76,7 +76,7 @@ fn digits_len(text: &[u8]) -> usize
 }
 
 /// The letters and digits at the front, and the bytes after them.
-#[tactic(auto, using(crate::proofs::Runs::run_is))]
+#[tactic(auto, using(grammar::proofs::Runs::run_is))]
 fn split_word(text: &[u8]) -> (&[u8], &[u8])
     ensures { run_of lexing.wordy text.now ≡ (result.0.now, result.1.now) }
 {
@@ -84,7 +84,7 @@ fn split_word(text: &[u8]) -> (&[u8], &[u8])
 }
 
 /// The digits at the front, and the bytes after them.
-#[tactic(auto, using(crate::proofs::Runs::run_is))]
+#[tactic(auto, using(grammar::proofs::Runs::run_is))]
 fn split_number(text: &[u8]) -> (&[u8], &[u8])
     ensures { run_of lexing.digit text.now ≡ (result.0.now, result.1.now) }
 {
@@ -116,7 +116,7 @@ fn number(alloc: Global, text: &[u8]) -> Found<'_>
 }
 
 /// What follows the first `*)`.
-#[tactic(auto, unfolding(crate::specs::Lexing::after_close))]
+#[tactic(auto, unfolding(grammar::specs::Pieces::rest_after))]
 fn after_close(text: &[u8]) -> Option<&[u8]>
     ensures { option_copied result ≡ lexing.after_close text.now }
 {
@@ -229,7 +229,7 @@ fn front(alloc: Global, text: &[u8]) -> Found<'_>
     match text {
         [] => Err(Fault::BadByte),
         [byte, rest @ ..] if is_blank(*byte) => Ok((None, rest)),
-        [byte, ..] if is_letter(*byte) => word(alloc, text),
+        [byte, ..] if begins_word(*byte) => word(alloc, text),
         [byte, ..] if is_digit(*byte) => number(alloc, text),
         [one, two, rest @ ..] if *one == b'(' && *two == b'*' => comment(rest),
         _ => sign(alloc, text),

@@ -21,6 +21,3 @@ pub use laws::{
     reads_derive,
 };
 pub use texts::read;
-
-#[cfg(test)]
-mod tests;

@@ -4,6 +4,7 @@ ghost use Rattle.std.specs.Prelude.{◌≡◌, IfOk};
 ghost use Rattle.st_ast.specs.Tree as tree;
 ghost use Rattle.st_ast.specs.View.{view_expr};
 ghost use Rattle.grammar.specs.Reader as reader;
+ghost use Rattle.st_ast.specs.Grammar.{max_depth};
 ghost use Rattle.st_read.specs.Gives.{Gives};
 ghost use Rattle.st_read.specs.declared.tokens.Kind.TheVariants as kinds;
 ghost use Rattle.st_read.specs.Kinds.{seen};
@@ -83,7 +84,7 @@ impl<F: Fn(Global, &[Token], u16) -> Result<((StExpr, u16), &[Token]), Stop>> Le
 
     fn negation<'a>(&self, tokens: &'a [Token]) -> Read<'a, (StExpr, u16)>
         requires { ReadsUnary self.now.fuel (F.pre self.now.unary) (F.post self.now.unary) }
-        ensures { Gives (λ x. ((view_expr x.0.0, x.0.1), x.1.now)) result (reader.deep_map reading.negation_of (reader.deep_both (reading.flat_word (seen kinds.Not)) (reader.inside 400 (reading.unary_at self.now.fuel))) tokens.now) }
+        ensures { Gives (λ x. ((view_expr x.0.0, x.0.1), x.1.now)) result (reader.deep_map reading.negation_of (reader.deep_both (reading.flat_word (seen kinds.Not)) (reader.inside max_depth (reading.unary_at self.now.fuel))) tokens.now) }
     {
         let (_not, rest) = word(tokens, Kind::Not)?;
         let ((inner, depth), rest) = self.inner_operand(rest)?;
@@ -93,7 +94,7 @@ impl<F: Fn(Global, &[Token], u16) -> Result<((StExpr, u16), &[Token]), Stop>> Le
     #[tactic(auto, unfolding(crate::specs::Reading::unary_from))]
     fn step<'a>(&self, tokens: &'a [Token]) -> Read<'a, (StExpr, u16)>
         requires { ReadsUnary self.now.fuel (F.pre self.now.unary) (F.post self.now.unary) }
-        ensures { Gives (λ x. ((view_expr x.0.0, x.0.1), x.1.now)) result (reading.unary_from (reading.within_at self.now.fuel) (reader.inside 400 (reading.unary_at self.now.fuel)) tokens.now) }
+        ensures { Gives (λ x. ((view_expr x.0.0, x.0.1), x.1.now)) result (reading.unary_from (reading.within_at self.now.fuel) (reader.inside max_depth (reading.unary_at self.now.fuel)) tokens.now) }
     {
         if starts(tokens, &[Kind::Not]) {
             self.negation(tokens)

@@ -6,6 +6,7 @@ ghost use Rattle.st_ast.specs.Tokens as k;
 ghost use Rattle.st_ast.specs.View.{view_stmt, view_branch};
 ghost use Rattle.grammar.specs.Reader as reader;
 ghost use Rattle.grammar.specs.Loops.{after};
+ghost use Rattle.st_ast.specs.Grammar.{max_depth};
 ghost use Rattle.st_read.specs.Gives.{Gives};
 ghost use Rattle.st_read.specs.Kinds.{seen};
 ghost use Rattle.st_read.specs.Reading as reading;
@@ -192,7 +193,7 @@ fn statement(alloc: Global, tokens: &[Token], depth: u16) -> Result<(Stmt, &[Tok
 
 /// The statements of a program.
 pub fn statements(alloc: Global, tokens: &[Token]) -> Read<'_, Items<Stmt>>
-    ensures { Gives (λ x. (map view_stmt x.0, x.1.now)) result (reading.statements_at 400 tokens.now) }
+    ensures { Gives (λ x. (map view_stmt x.0, x.1.now)) result (reading.statements_at max_depth tokens.now) }
 {
     let depth = MAX_DEPTH;
     Bodies {

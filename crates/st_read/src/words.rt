@@ -2,6 +2,7 @@
 
 ghost use Rattle.std.specs.Prelude.{◌≡◌, ◌≤◌, map, Some, None, nat_le, if◌then◌else◌, option_map};
 ghost use Rattle.std.specs.List.{list_any};
+ghost use Rattle.grammar.specs.Bytes as bytes;
 ghost use Rattle.st_ast.specs.Names as names;
 ghost use Rattle.st_ast.specs.Tokens as tokens;
 ghost use Rattle.st_read.specs.Kinds.{seen};
@@ -72,13 +73,13 @@ static RESERVED: [&[u8]; 31] = [
 const GREATEST: u128 = 9_223_372_036_854_775_807;
 
 pub fn is_blank(byte: u8) -> bool
-    ensures { result ≡ tokens.is_blank byte }
+    ensures { result ≡ bytes.is_blank byte }
 {
     byte == b' ' || byte == b'\t' || byte == b'\n' || byte == b'\r'
 }
 
 #[tactic(auto, unfolding(crate::specs::Lexing::letter))]
-pub fn is_letter(byte: u8) -> bool
+pub fn begins_word(byte: u8) -> bool
     ensures { result ≡ lexing.letter byte }
 {
     byte.is_ascii_uppercase() || byte.is_ascii_lowercase() || byte == b'_'
@@ -95,7 +96,7 @@ pub fn is_digit(byte: u8) -> bool
 pub fn is_wordy(byte: u8) -> bool
     ensures { result ≡ lexing.wordy byte }
 {
-    is_letter(byte) || is_digit(byte)
+    begins_word(byte) || is_digit(byte)
 }
 
 /// A byte, a capital letter as its small one.

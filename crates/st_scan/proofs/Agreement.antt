@@ -1,9 +1,8 @@
 -- What statements do with their names resolved is what they do by name.
-use Rattle.std.proofs.Common.{◌≡◌, ℕ, zero, suc, ℤ, Bool, true, false, List, refl, ap, ◌∙◌}
+use Rattle.std.proofs.Common.{◌≡◌, ℕ, zero, suc, ℤ, Bool, true, false, List, refl, ap, ◌∙◌, not}
 use Rattle.std.specs.Prelude.{Result, Ok, Err, if◌then◌else◌}
 use Rattle.st_ast.specs.declared.tree.StVar.{StVar}
 use Rattle.st_ast.specs.Tree.{Expr, Exprs, Terms, truth, number, named, paren, negation, sum, order, equal, all_of, any_of, no_exprs, exprs, no_terms, terms, Stm, Stms, Branches, Other, assign, choice, loop, no_stms, stms, no_branches, branches, no_other, other}
-use Rattle.st_ast.specs.Checks.{negated}
 use Rattle.st_ast.specs.Values.{Fault, Memory, of_bool, is_true, checked, with_value, both, holds, added, are_equal, value_of, sum_on, joined}
 use Rattle.st_ast.specs.Exec.{Outcome, Ended, Faulted, OutOfTurns, Act, and_then, take_turn, repeated, exec, exec_one, exec_other, exec_choice}
 use Rattle.st_ast.specs.Scan.{store_row, turns_of_scan, scan_of}
@@ -39,7 +38,7 @@ mutual
   value-same vars (number z) m = refl
   value-same vars (named x) m = refl
   value-same vars (paren e) m = value-same vars e m
-  value-same vars (negation e) m = ap (λ r. with_value r (λ f. Err f) (λ x. Ok (of_bool (negated (is_true x))))) (value-same vars e m)
+  value-same vars (negation e) m = ap (λ r. with_value r (λ f. Err f) (λ x. Ok (of_bool (not (is_true x))))) (value-same vars e m)
   value-same vars (sum e rest) m = with_value-same _ _ (λ f. Err f) _ _ (value-same vars e m) (λ x. sum-same vars x rest m)
   value-same vars (order a op b) m =
       ap (λ r. both (λ x y. Ok (of_bool (holds op x y))) r (value_at (placed vars b) m)) (value-same vars a m)

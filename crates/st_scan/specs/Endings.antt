@@ -1,4 +1,4 @@
--- How an execution of statements ends, as an answer and a memory.
+-- Helper of the code: how an execution of statements ends, as an answer and a memory.
 use Rattle.std.specs.Prelude.{ℕ, Result, Ok, Err, Option, Some, None}
 use Rattle.st_ast.specs.Values.{Memory, overflow, zero_divide, subrange_left}
 use Rattle.st_ast.specs.Exec.{Outcome, Ended, Faulted, OutOfTurns, Act}

@@ -1,4 +1,4 @@
--- What statements do whose names are resolved, as those of `st_ast`.
+-- Helper of the code: what statements do whose names are resolved, as those of `st_ast`.
 use Rattle.std.specs.Prelude.{ℕ, suc, ℤ, slice_set, if◌then◌else◌}
 use Rattle.st_ast.specs.Values.{subrange_left, is_true, with_value}
 use Rattle.st_ast.specs.Exec.{Ended, Faulted, Act, and_then, is_within, repeated}

@@ -1,4 +1,4 @@
--- Statements whose names are resolved, as plain data. `PlacedView` ties it to the types of `src/`.
+-- Helper of the code: statements whose names are resolved, as plain data. `PlacedView` ties it to the types of `src/`.
 use Rattle.std.specs.Prelude.{ℕ, ℤ, Bool, List, [], ◌∷◌}
 use Rattle.st_ast.specs.declared.tree.StOrder.{StOrder}
 use Rattle.st_ast.specs.declared.tree.StTy.{StTy}

@@ -1,6 +1,6 @@
--- The values of expressions whose names are resolved, as those of `st_ast`. A place beyond the memory has the value 0.
-use Rattle.std.specs.Prelude.{ℤ, pos, Bool, true, false, ◌&&◌, ◌||◌, Result, Ok, Err, slice_index_or}
-use Rattle.st_ast.specs.Checks.{negated}
+-- Helper of the code: the values of expressions whose names are resolved, as those of `st_ast`. A place beyond the memory
+-- has the value 0.
+use Rattle.std.specs.Prelude.{ℤ, pos, Bool, true, false, not, ◌&&◌, ◌||◌, Result, Ok, Err, slice_index_or}
 use Rattle.st_ast.specs.Values.{Fault, Memory, of_bool, is_true, checked, with_value, both, holds, added, are_equal}
 use Rattle.st_scan.specs.PlacedTree.{Expr, Exprs, Terms, truth, number, placed, negation, sum, order, equal, all_of, any_of, no_exprs, exprs, no_terms, terms}
 
@@ -9,7 +9,7 @@ abbrev mutual
   value_at (truth b) m = Ok (of_bool b)
   value_at (number z) m = Ok z
   value_at (placed k) m = Ok (slice_index_or m k (pos 0))
-  value_at (negation e) m = with_value (value_at e m) (λ f. Err f) (λ x. Ok (of_bool (negated (is_true x))))
+  value_at (negation e) m = with_value (value_at e m) (λ f. Err f) (λ x. Ok (of_bool (not (is_true x))))
   value_at (sum e rest) m = with_value (value_at e m) (λ f. Err f) (λ x. sum_at x rest m)
   value_at (order a op b) m = both (λ x y. Ok (of_bool (holds op x y))) (value_at a m) (value_at b m)
   value_at (equal a same b) m = both (λ x y. Ok (of_bool (are_equal same x y))) (value_at a m) (value_at b m)

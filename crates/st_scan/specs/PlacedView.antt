@@ -1,4 +1,5 @@
--- What tree of plain data a value of the types of `src/placed.rt` stands for. Each step sees one level, with its parts seen.
+-- Helper of the code: what tree of plain data a value of the types of `src/placed.rt` stands for. Each step sees one
+-- level, with its parts seen.
 use Rattle.std.specs.Prelude.{Bool, List, [], ◌∷◌, map, Option, Some, None}
 use Rattle.st_scan.specs.PlacedTree.{Expr, Exprs, Terms, truth, number, placed, negation, sum, order, equal, all_of, any_of, exprs_of, no_terms, terms, Stm, Stms, Branches, Other, assign, choice, loop, stms_of, no_branches, branches, no_other, other}
 use Rattle.st_scan.specs.declared.placed.PlacedExpr.{PlacedExpr}

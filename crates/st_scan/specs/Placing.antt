@@ -1,5 +1,5 @@
--- The expressions and statements of a program with its names resolved: where no variable has a name, its place is the
--- number of the variables. Parentheses mean what they hold.
+-- Helper of the code: the expressions and statements of a program with its names resolved. Where no variable has a name,
+-- its place is the number of the variables. Parentheses mean what they hold.
 use Rattle.std.specs.Prelude.{List}
 use Rattle.st_ast.specs.Names.{place_of}
 use Rattle.st_ast.specs.Tree.{Expr, Exprs, Terms, truth, number, named, paren, negation, sum, order, equal, all_of, any_of, no_exprs, exprs, no_terms, terms, Stm, Stms, Branches, Other, assign, choice, loop, no_stms, stms, no_branches, branches, no_other, other}

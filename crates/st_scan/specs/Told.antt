@@ -1,4 +1,4 @@
--- What an evaluated value tells.
+-- Helper of the code: what an evaluated value tells.
 use Rattle.std.specs.Prelude.{ℤ, Result, Ok, Err}
 use Rattle.st_ast.specs.Values.{Fault, overflow}
 use Rattle.st_scan.specs.declared.values.Overflow.{Overflow}

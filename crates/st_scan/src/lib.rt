@@ -6,8 +6,6 @@ mod machine;
 mod placed;
 mod resolving;
 mod statements;
-#[cfg(test)]
-mod tests;
 mod values;
 
 pub use error::ScanErr;

@@ -1,5 +1,6 @@
 use Rattle.std.proofs.Common.{◌≡◌, ◌≤◌, ◌+◌, ◌*◌, drop}
-use Rattle.st_ast.specs.Tokens.{digits_from, greatest}
+use Rattle.grammar.specs.Bytes.{digits_from}
+use Rattle.st_ast.specs.Tokens.{greatest}
 use Rattle.st_read.proofs.words.value_of.Given as goal
 
 abbrev pub invariant-loop-digit : goal.invariant-loop-digit

@@ -1,7 +1,7 @@
 use Rattle.std.proofs.Common.{◌≡◌, ◌∙◌, ap, [], ◌∷◌, ◌++◌, not, if◌then◌else◌, ℕ, List}
 use Rattle.std.specs.Prelude.{map}
 use Rattle.st_check.specs.Keys.{is_among}
-use Rattle.st_check.proofs.Keys.{among_is, keys_after}
+use Rattle.grammar.proofs.Keys.{among_is, keys_after}
 use Rattle.st_check.proofs.names.Names.add.Goals as goal
 
 pub returns-clause-new : goal.returns-clause-new

@@ -1,7 +1,7 @@
 use Rattle.std.proofs.Common.{◌≡◌, ◌∙◌, ap, ℕ, List}
 use Rattle.std.specs.Prelude.{map}
 use Rattle.st_check.specs.Keys.{found_at}
-use Rattle.st_check.proofs.Keys.{found_is}
+use Rattle.grammar.proofs.Keys.{found_is}
 use Rattle.st_check.proofs.names.Names.number.Goals as goal
 
 pub returns : goal.returns
