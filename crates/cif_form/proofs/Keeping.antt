@@ -5,11 +5,11 @@ use Rattle.std.specs.List.{list_all}
 use Rattle.std.proofs.lemmas.List.{length-append}
 use Rattle.std.proofs.lemmas.Bool.Decides.{nat_tests}
 use Rattle.grammar.specs.Pieces.{Text}
-use Rattle.cif_system.specs.Words.{Member}
+use Rattle.cif_system.specs.Words.{Member, AreDistinct}
 use Rattle.cif_plant.specs.declared.plant.Edge.{Edge}
 use Rattle.cif_plant.specs.declared.plant.Location.{Location}
 use Rattle.cif_plant.specs.declared.plant.Plant.{Plant}
-use Rattle.cif_plant.specs.Plant.{event_names, location_names, edges_of, most_objects, AreDistinct, LeadsTo, EdgeFits, IsPlant}
+use Rattle.cif_plant.specs.Plant.{event_names, location_names, edges_of, most_objects, LeadsTo, EdgeFits, IsPlant}
 use Rattle.cif_plant.specs.Numbers.{number_of}
 use Rattle.cif_form.specs.Checking.{added, event_name, names_of, place_in, is_below, is_from, leads, fits, all_fit, few_from, is_small, has_one_initial, named, keeps}
 use Rattle.cif_form.proofs.Members.{member_left, member_right, member_split, distinct_apart, added-distinct, distinct-added, number-below, below-member, number-left, number-right}

@@ -3,8 +3,7 @@ use Rattle.std.proofs.Common.{◌≡◌, suc, ◌+◌, ◌<◌, ◌≤◌, Bool,
 use Rattle.std.specs.List.{list_any}
 use Rattle.grammar.specs.Pieces.{Text, same}
 use Rattle.grammar.proofs.Texts.{same_self, same_equal}
-use Rattle.cif_system.specs.Words.{Member}
-use Rattle.cif_plant.specs.Plant.{AreDistinct}
+use Rattle.cif_system.specs.Words.{Member, AreDistinct}
 use Rattle.cif_plant.specs.Numbers.{number_of}
 use Rattle.cif_form.specs.Checking.{added}
 

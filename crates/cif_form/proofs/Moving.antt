@@ -4,7 +4,7 @@ use Rattle.std.specs.Prelude.{map}
 use Rattle.cif_system.specs.Words.{Member}
 use Rattle.cif_plant.specs.declared.plant.Location.{Location}
 use Rattle.cif_plant.specs.declared.plant.Plant.{Plant}
-use Rattle.cif_plant.specs.declared.numbered.Move.{Move}
+use Rattle.cif_plant.specs.declared.numbered.NumberedEdge.{NumberedEdge}
 use Rattle.cif_plant.specs.Numbers.{move_of, moves_from}
 use Rattle.cif_form.proofs.Naming.{drop_item}
 
@@ -23,12 +23,12 @@ made_step {A = A} {B = B} f front more xs i x l e is =
 pub made_end : {A B : Type 0} (f : A → B) (front : List B) (xs : List A) (i : ℕ) → length xs ≤ i → front ++ map f (drop i xs) ≡ front
 made_end {A = A} f front xs i l = ap (λ (ys : List A). front ++ map f ys) (drop_of_length-le xs l) ∙ append-nil front
 
-pub moves_step : (p : Plant) (front more : List Move) (ls : List Location) (i : ℕ) (l : Location) → i < length ls → l ≡ get_or ls i l → more ≡ front ++ map (move_of p i) l.edges
+pub moves_step : (p : Plant) (front more : List NumberedEdge) (ls : List Location) (i : ℕ) (l : Location) → i < length ls → l ≡ get_or ls i l → more ≡ front ++ map (move_of p i) l.edges
     → front ++ moves_from p i (drop i ls) ≡ more ++ moves_from p (i + 1) (drop (i + 1) ls)
 moves_step p front more ls i l less e is =
     ap (λ (rest : List Location). front ++ moves_from p i rest) (drop_item ls i l less e)
     ∙ sym (append_assoc front (map (move_of p i) l.edges) (moves_from p (i + 1) (drop (i + 1) ls)))
-    ∙ ap (λ (ms : List Move). ms ++ moves_from p (i + 1) (drop (i + 1) ls)) (sym is)
+    ∙ ap (λ (ms : List NumberedEdge). ms ++ moves_from p (i + 1) (drop (i + 1) ls)) (sym is)
 
-pub moves_end : (p : Plant) (front : List Move) (ls : List Location) (i : ℕ) → length ls ≤ i → front ++ moves_from p i (drop i ls) ≡ front
+pub moves_end : (p : Plant) (front : List NumberedEdge) (ls : List Location) (i : ℕ) → length ls ≤ i → front ++ moves_from p i (drop i ls) ≡ front
 moves_end p front ls i l = ap (λ (rest : List Location). front ++ moves_from p i rest) (drop_of_length-le ls l) ∙ append-nil front

@@ -1,16 +1,16 @@
 -- The numbers of a plant's names.
 use Rattle.std.proofs.Common.{◌≡◌, ℕ, suc, ◌+◌, ◌<◌, ◌≤◌, Bool, true, false, cond, not, List, [], ◌∷◌, length, Option, Some, None, refl, sym, ap, subst, ◌∙◌, arith, inl, inr}
-use Rattle.std.specs.Prelude.{Result, Ok, Err, IfOk, map, filter, position, unwrap_or, nat_lt, if◌then◌else◌}
+use Rattle.std.specs.Prelude.{Result, Ok, Err, IfOk, map, filter, position, unwrap_or}
 use Rattle.std.specs.List.{prefix_len, position_or_len}
-use Rattle.std.proofs.lemmas.Bool.Decides.{nat_tests}
 use Rattle.std.proofs.lemmas.List.Sums.{prefix_len-le-length}
 use Rattle.grammar.specs.Pieces.{Text}
+use Rattle.grammar.proofs.Runs.{or_length}
 use Rattle.cif_system.specs.Words.{Member}
 use Rattle.cif_plant.specs.declared.plant.Event.{Event}
 use Rattle.cif_plant.specs.declared.plant.Edge.{Edge}
 use Rattle.cif_plant.specs.declared.plant.Location.{Location}
 use Rattle.cif_plant.specs.declared.plant.Plant.{Plant}
-use Rattle.cif_plant.specs.declared.numbered.Move.{Move}
+use Rattle.cif_plant.specs.declared.numbered.NumberedEdge.{NumberedEdge}
 use Rattle.cif_plant.specs.declared.numbered.NumberedPlant.{NumberedPlant}
 use Rattle.cif_plant.specs.Meaning.{IsNumbered}
 use Rattle.cif_plant.specs.Plant.{event_names, location_names, LeadsTo, EdgeFits, IsPlant}
@@ -48,14 +48,6 @@ first_prefix (l ∷ ls) = go l.initial (first_prefix ls)
     go true e = refl
     go false e = omega (arith, e)
 
--- the place of the first that passes a test, or how many there are
-or_length : (n m : ℕ) → n ≤ m → unwrap_or (if◌then◌else◌ (nat_lt n m) (Some n) None) m ≡ n
-or_length n m l = go (nat_lt n m) refl
-  where
-    go : (b : Bool) → nat_lt n m ≡ b → unwrap_or (if◌then◌else◌ b (Some n) None) m ≡ n
-    go true e = refl
-    go false e = grind (arith, nat_tests)
-
 pub first_is : (ls : List Location) → unwrap_or (position (λ (l : Location). l.initial) ls) (length ls) ≡ first_initial ls
 first_is ls = or_length (position_or_len (λ (l : Location). l.initial) ls) (length ls) (prefix_len-le-length (λ (l : Location). not l.initial) ls) ∙ first_prefix ls
 
@@ -78,7 +70,7 @@ member_map f [] y m = absurd m
 member_map f (x ∷ xs) y (inl e) = (x, inl refl, e)
 member_map f (x ∷ xs) y (inr m) = let r = member_map f xs y m in (r.0, inr r.1, r.2)
 
-abbrev IsInside : Plant → Move → Type 0
+abbrev IsInside : Plant → NumberedEdge → Type 0
 IsInside p m = (m.event < length p.events) × (m.from < length p.locations) × (m.to < length p.locations)
 
 edge_inside : (p : Plant) (from : ℕ) (e : Edge) → IsPlant p → from < length p.locations → EdgeFits p e → IsInside p (move_of p from e)
@@ -89,11 +81,11 @@ edge_inside p from e k l f = (event_few p e.event k f.0, l, target e.target f.1)
     target (Some x) t = location_few p x k t
 
 moves_inside : (p : Plant) (from : ℕ) (ls : List Location) → IsPlant p → from + length ls ≤ length p.locations → ((e : Edge) → Member e (edges_in ls) → EdgeFits p e)
-    → (m : Move) → Member m (moves_from p from ls) → IsInside p m
+    → (m : NumberedEdge) → Member m (moves_from p from ls) → IsInside p m
 moves_inside p from [] k l f m w = absurd w
 moves_inside p from (x ∷ ls) k l f m w = elim (member_split m (map (move_of p from) x.edges) (moves_from p (from + 1) ls) w) [
   | inl u ↦ let r = member_map (move_of p from) x.edges m u in
-      subst (λ (v : Move). IsInside p v) (sym r.2) (edge_inside p from r.0 k (omega arith) (f r.0 (member_left r.0 x.edges (edges_in ls) r.1)))
+      subst (λ (v : NumberedEdge). IsInside p v) (sym r.2) (edge_inside p from r.0 k (omega arith) (f r.0 (member_left r.0 x.edges (edges_in ls) r.1)))
   | inr u ↦ moves_inside p (from + 1) ls k (omega arith) (λ e v. f e (member_right e x.edges (edges_in ls) v)) m u
 ]
 

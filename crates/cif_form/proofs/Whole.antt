@@ -1,17 +1,19 @@
 -- The tests give the plant whose form a tree has.
-use Rattle.std.proofs.Common.{◌≡◌, ℕ, Bool, true, false, cond, ◌&&◌, [], ◌∷◌, Option, Some, None, Result, Ok, Err, refl, sym, ap, subst, ◌∙◌}
-use Rattle.std.specs.Prelude.{IfOk}
+use Rattle.std.proofs.Common.{◌≡◌, ◌≤◌, ℕ, Bool, true, false, cond, ◌&&◌, [], ◌∷◌, Option, Some, None, Result, Ok, Err, refl, sym, ap, subst, ◌∙◌, arith}
+use Rattle.std.specs.Prelude.{IfOk, nat_le, length}
 use Rattle.std.specs.List.{list_all}
+use Rattle.std.proofs.lemmas.Bool.Decides.{nat_tests}
 use Rattle.grammar.specs.Pieces.{Text, AllAre}
 use Rattle.grammar.proofs.Texts.{and_left, and_right}
 use Rattle.cif_ast.specs.declared.components.Spec.{Spec}
 use Rattle.cif_parse.specs.Grammar.{Reads}
 use Rattle.cif_plant.specs.declared.plant.Plant.{Plant}
-use Rattle.cif_plant.specs.Named.{is_letter, IsNameText}
+use Rattle.grammar.specs.Bytes.{is_letter}
+use Rattle.cif_plant.specs.Named.{IsNameText}
 use Rattle.cif_form.specs.declared.error.FormErr.{FormErr}
 use Rattle.cif_form.specs.declared.error.FormErr.TheVariants.{Memory, NotBuilt}
 use Rattle.cif_form.specs.Gives.{Fails, Gives}
-use Rattle.cif_form.specs.Form.{items_of, is_word, has_words}
+use Rattle.cif_form.specs.Form.{plant_of_items, is_word, has_words, most_letters}
 use Rattle.cif_form.specs.Checking.{keeps}
 use Rattle.cif_form.specs.Source.{HasForm, ReadsAsPlant}
 use Rattle.cif_form.specs.Whole.{kept, plant_in}
@@ -29,7 +31,7 @@ kept_some (Some q) p e = go (has_words q && keeps q) refl e
 found_form : (tree : Spec) (p : Plant) → plant_in tree ≡ Some p → HasForm tree p
 unfolding plant_in
 found_form tree p e =
-    let k = kept_some (items_of tree.items) p e in
+    let k = kept_some (plant_of_items tree.items) p e in
     record { shown = k.0; words = and_left (has_words p) (keeps p) k.1; keeps = keeps-plant p (and_right (has_words p) (keeps p) k.1) }
 
 form_found : (tree : Spec) (p : Plant) → HasForm tree p → plant_in tree ≡ Some p
@@ -67,10 +69,13 @@ all_letters : (w : Text) → list_all is_letter w ≡ true → AllAre is_letter 
 all_letters [] e = tt
 all_letters (b ∷ w) e = (and_left (is_letter b) (list_all is_letter w) e, all_letters w (and_right (is_letter b) (list_all is_letter w) e))
 
+at_most : (n : ℕ) → nat_le n most_letters ≡ true → n ≤ 40
+at_most n e = grind (arith, nat_tests)
+
 word_letters : (w : Text) → is_word w ≡ true → IsNameText w
 unfolding is_word
 word_letters [] e = absurd cc
-word_letters (b ∷ w) e = record { some = tt; letters = all_letters (b ∷ w) (and_left _ _ (and_right _ _ (and_right _ _ e))) }
+word_letters (b ∷ w) e = record { some = tt; letters = all_letters (b ∷ w) (and_left _ _ (and_right _ _ (and_right _ _ e))); few = at_most (length (b ∷ w)) (and_left _ _ (and_right _ _ e)) }
 
 -- the name of a plant that is read consists of letters
 pub read_is_named : (text : Text) (p : Plant) → ReadsAsPlant text p → IsNameText p.name

@@ -34,7 +34,7 @@ use Rattle.cif_plant.specs.declared.plant.Event.{Event}
 use Rattle.cif_plant.specs.declared.plant.Edge.{Edge}
 use Rattle.cif_plant.specs.declared.plant.Location.{Location}
 use Rattle.cif_plant.specs.declared.plant.Plant.{Plant}
-use Rattle.cif_plant.specs.Named.{is_letter}
+use Rattle.grammar.specs.Bytes.{is_letter}
 
 -- ---- lists and options
 
@@ -140,23 +140,23 @@ abbrev pub body_of : Ident → Body-F Body Item Comp Def → Option Plant
 body_of name (one_level.Group items) = None
 body_of name (one_level.Auto b) = automaton_of name b
 
-abbrev pub component_of : Comp → Option Plant
-component_of c = body_of (out-Comp c).name (out-Body (out-Comp c).body)
+abbrev pub plant_of_component : Comp → Option Plant
+plant_of_component c = body_of (out-Comp c).name (out-Body (out-Comp c).body)
 
 abbrev pub item_shown : Item-F Body Item Comp Def → Option Plant
 item_shown (one_level.Decl d) = None
-item_shown (one_level.Comp c) = component_of c
+item_shown (one_level.Comp c) = plant_of_component c
 item_shown (one_level.Def d) = None
 item_shown (one_level.Inst i) = None
 
-abbrev pub item_of : Item → Option Plant
-item_of i = item_shown (out-Item i)
+abbrev pub plant_of_item : Item → Option Plant
+plant_of_item i = item_shown (out-Item i)
 
 -- the only item
-abbrev pub items_of : List Item → Option Plant
-items_of [] = None
-items_of (i ∷ []) = item_of i
-items_of (i ∷ j ∷ is) = None
+abbrev pub plant_of_items : List Item → Option Plant
+plant_of_items [] = None
+plant_of_items (i ∷ []) = plant_of_item i
+plant_of_items (i ∷ j ∷ is) = None
 
 -- ---- names
 

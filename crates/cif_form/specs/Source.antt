@@ -5,11 +5,11 @@ use Rattle.cif_ast.specs.declared.components.Spec.{Spec}
 use Rattle.cif_parse.specs.Grammar.{Reads}
 use Rattle.cif_plant.specs.declared.plant.Plant.{Plant}
 use Rattle.cif_plant.specs.Plant.{IsPlant}
-use Rattle.cif_form.specs.Form.{items_of, has_words}
+use Rattle.cif_form.specs.Form.{plant_of_items, has_words}
 
 -- the tree has the form of the plant, which has names of the form and keeps the rules
 pub record HasForm (tree : Spec) (p : Plant) : Type 0 where
-  pub shown : items_of tree.items ≡ Some p
+  pub shown : plant_of_items tree.items ≡ Some p
   pub words : has_words p ≡ true
   pub keeps : IsPlant p
 

@@ -2,7 +2,7 @@
 use Rattle.std.specs.Prelude.{◌&&◌, Option, Some, None, if◌then◌else◌}
 use Rattle.cif_ast.specs.declared.components.Spec.{Spec}
 use Rattle.cif_plant.specs.declared.plant.Plant.{Plant}
-use Rattle.cif_form.specs.Form.{items_of, has_words}
+use Rattle.cif_form.specs.Form.{plant_of_items, has_words}
 use Rattle.cif_form.specs.Checking.{keeps}
 
 abbrev pub kept : Option Plant → Option Plant
@@ -11,4 +11,4 @@ kept (Some p) = if has_words p && keeps p then Some p else None
 
 -- the plant of a tree, where there is one
 unfoldable pub plant_in : Spec → Option Plant
-plant_in tree = kept (items_of tree.items)
+plant_in tree = kept (plant_of_items tree.items)

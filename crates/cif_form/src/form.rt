@@ -13,7 +13,7 @@ ghost use Rattle.cif_form.specs.declared.error.FormErr.TheVariants.{NotBuilt};
 use crate::automaton::automaton;
 use crate::error::FormErr;
 use crate::misfit::misfit;
-use crate::places::{decl_place, item_place};
+use crate::places::{decl_place, other_item_place};
 use crate::rules::keeps_rules;
 use crate::words::has_words;
 use cif_ast::{Body, Comp, Item, Spec};
@@ -23,7 +23,7 @@ use std::alloc::Global;
 
 /// The plant that a component stands for.
 fn shown_component(alloc: Global, comp: &Comp) -> Result<Plant, FormErr>
-    ensures { Gives (λ p. p) result (form.component_of comp.now) }
+    ensures { Gives (λ p. p) result (form.plant_of_component comp.now) }
 {
     match &comp.body {
         Body::Auto(body) => automaton(alloc, &comp.name, body),
@@ -33,7 +33,7 @@ fn shown_component(alloc: Global, comp: &Comp) -> Result<Plant, FormErr>
 
 /// The plant that an item stands for.
 fn shown_item(alloc: Global, item: &Item) -> Result<Plant, FormErr>
-    ensures { Gives (λ p. p) result (form.item_of item.now) }
+    ensures { Gives (λ p. p) result (form.plant_of_item item.now) }
 {
     match item {
         Item::Comp(comp) => shown_component(alloc, comp),
@@ -51,13 +51,13 @@ fn shown_item(alloc: Global, item: &Item) -> Result<Plant, FormErr>
 
 /// The plant that the only item stands for.
 fn shown(alloc: Global, items: &[Item]) -> Result<Plant, FormErr>
-    ensures { Gives (λ p. p) result (form.items_of items.now) }
+    ensures { Gives (λ p. p) result (form.plant_of_items items.now) }
 {
     match items {
         [] => Err(FormErr::NotBuilt { at: u32::MAX }),
         [item] => shown_item(alloc, item),
-        [_, second, ..] => Err(FormErr::NotBuilt {
-            at: item_place(second),
+        _ => Err(FormErr::NotBuilt {
+            at: other_item_place(items),
         }),
     }
 }
@@ -93,7 +93,7 @@ pub fn one_plant()
     one_tree();
 }
 
-/// The name of a plant that is read consists of letters.
+/// The name of a plant that is read consists of letters, at most 40.
 pub fn names_are_letters()
     ensures { (text : Text) (p : Plant) → ReadsAsPlant text p → IsNameText p.name }
 {}

@@ -17,6 +17,3 @@ mod words;
 pub use error::FormErr;
 pub use form::{names_are_letters, one_plant, plant_of};
 pub use numbering::{number_plant, numbers_name_things};
-
-#[cfg(test)]
-mod tests;

@@ -111,7 +111,8 @@ fn past_limit(body: &AutoBody) -> u32 {
         .min(edge_past_limit(body.locs.as_slice()))
 }
 
-/// The first place in an automaton where it breaks a rule, or the greatest number where no place by itself does.
+/// The first place in an automaton where it breaks a rule, or the greatest number where no location is initial, since no
+/// place in it does then.
 fn misfit_in(alloc: Global, body: &AutoBody) -> Result<u32, Memory> {
     let most = past_limit(body);
     let mut names = Names::new(alloc);
@@ -124,12 +125,15 @@ fn misfit_in(alloc: Global, body: &AutoBody) -> Result<u32, Memory> {
     Ok(most.min(wrong_inside(&names, body.decls.len(), body.locs.as_slice())))
 }
 
-/// The first place where the plant of a tree breaks a rule, or the greatest number where no place by itself does.
+/// The first place where the plant of a tree breaks a rule: the automaton's name where no location is initial.
 pub fn misfit(alloc: Global, spec: &Spec) -> Result<u32, Memory> {
     match spec.items.as_slice() {
         [Item::Comp(comp)] if !is_word(&comp.name.text) => Ok(comp.name.at),
         [Item::Comp(comp)] => match &comp.body {
-            Body::Auto(body) => misfit_in(alloc, body),
+            Body::Auto(body) => {
+                let at = misfit_in(alloc, body)?;
+                Ok(if at == u32::MAX { comp.name.at } else { at })
+            }
             Body::Group(_) => Ok(comp.name.at),
         },
         _ => Ok(u32::MAX),

@@ -12,7 +12,7 @@ ghost use Rattle.cif_form.specs.Checking as checking;
 use crate::names::Names;
 use crate::rules::names_of;
 use cif_base::{Items, Memory, Text};
-use cif_plant::{Class, Edge, Event, Location, Move, NumberedPlant, Plant};
+use cif_plant::{Class, Edge, Event, Location, NumberedEdge, NumberedPlant, Plant};
 use std::alloc::{AllocError, Global};
 
 /// The number of an event.
@@ -50,13 +50,13 @@ fn target_of(names: &Names, plant: &Plant, from: u32, target: &Option<Text>) -> 
     }
 }
 
-fn move_of(names: &Names, plant: &Plant, from: u32, edge: &Edge) -> Move
+fn move_of(names: &Names, plant: &Plant, from: u32, edge: &Edge) -> NumberedEdge
     requires plant { IsPlant plant.now }
     requires names { names.now ≡ checking.names_of plant.now }
     requires declared { EdgeFits plant.now edge.now }
     ensures { result ≡ numbers.move_of plant.now from edge.now }
 {
-    Move {
+    NumberedEdge {
         event: event_number(names, plant, &edge.event),
         from,
         to: target_of(names, plant, from, &edge.target),
@@ -69,8 +69,8 @@ fn add_moves(
     plant: &Plant,
     from: u32,
     edges: &[Edge],
-    mut moves: Items<Move>,
-) -> Result<Items<Move>, Memory>
+    mut moves: Items<NumberedEdge>,
+) -> Result<Items<NumberedEdge>, Memory>
     requires plant { IsPlant plant.now }
     requires names { names.now ≡ checking.names_of plant.now }
     requires declared { (e : Edge) → Member e edges.now → EdgeFits plant.now e }
@@ -83,7 +83,7 @@ fn add_moves(
 }
 
 /// The moves of all locations, in the order of the text.
-fn moves_of(alloc: Global, names: &Names, plant: &Plant) -> Result<Items<Move>, Memory>
+fn moves_of(alloc: Global, names: &Names, plant: &Plant) -> Result<Items<NumberedEdge>, Memory>
     requires plant { IsPlant plant.now }
     requires names { names.now ≡ checking.names_of plant.now }
     ensures { IfOk result (λ all. all ≡ numbers.moves_from plant.now 0 plant.now.locations) }

@@ -1,6 +1,6 @@
 //! Where parts of a tree begin in the text. No clause speaks of these places.
 
-use cif_ast::{Decl, Edge, Expr, Inv, Item, Name, Update};
+use cif_ast::{Body, Decl, Edge, Expr, Inv, Item, Name, Update};
 use cif_base::Items;
 
 /// The place of the first of some names, or another where there is none.
@@ -40,12 +40,32 @@ pub fn decl_place(decl: &Decl) -> u32 {
 }
 
 /// Where an item's name begins.
-pub fn item_place(item: &Item) -> u32 {
+fn item_place(item: &Item) -> u32 {
     match item {
         Item::Decl(decl) => decl_place(decl),
         Item::Comp(comp) => comp.name.at,
         Item::Def(def) => def.name.at,
         Item::Inst(instance) => instance.name.at,
+    }
+}
+
+fn is_automaton(item: &Item) -> bool {
+    match item {
+        Item::Comp(comp) => matches!(comp.body, Body::Auto(_)),
+        _ => false,
+    }
+}
+
+/// Of several items the first that is no automaton, or the second where all are automata.
+pub fn other_item_place(items: &[Item]) -> u32 {
+    for item in items {
+        if !is_automaton(item) {
+            return item_place(item);
+        }
+    }
+    match items {
+        [_, second, ..] => item_place(second),
+        _ => u32::MAX,
     }
 }
 

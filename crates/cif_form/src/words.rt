@@ -2,7 +2,7 @@
 
 ghost use Rattle.std.specs.Prelude.{◌≡◌};
 ghost use Rattle.std.specs.List.{list_all};
-ghost use Rattle.cif_plant.specs.Named.{is_letter};
+ghost use Rattle.grammar.specs.Bytes.{is_letter};
 ghost use Rattle.cif_form.specs.Form as form;
 
 use cif_base::Text;

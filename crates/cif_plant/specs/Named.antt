@@ -1,9 +1,7 @@
--- Which texts are names: one letter or more.
-use Rattle.std.specs.Prelude.{ℕ, Bool, ◌||◌, ◌&&◌, nat_le, [], ◌∷◌}
+-- Which texts are names: one letter or more, and 40 at most.
+use Rattle.std.specs.Prelude.{◌≤◌, [], ◌∷◌, length}
 use Rattle.grammar.specs.Pieces.{Text, AllAre}
-
-abbrev pub is_letter : ℕ → Bool
-is_letter b = nat_le 65 b && nat_le b 90 || nat_le 97 b && nat_le b 122
+use Rattle.grammar.specs.Bytes.{is_letter}
 
 abbrev pub IsNotEmpty : Text → Type 0
 IsNotEmpty [] = ⊥
@@ -12,3 +10,4 @@ IsNotEmpty (b ∷ w) = Unit {0}
 pub record IsNameText (w : Text) : Type 0 where
   pub some : IsNotEmpty w
   pub letters : AllAre is_letter w
+  pub few : length w ≤ 40

@@ -6,7 +6,7 @@ use Rattle.cif_plant.specs.declared.plant.Event.{Event}
 use Rattle.cif_plant.specs.declared.plant.Edge.{Edge}
 use Rattle.cif_plant.specs.declared.plant.Location.{Location}
 use Rattle.cif_plant.specs.declared.plant.Plant.{Plant}
-use Rattle.cif_plant.specs.declared.numbered.Move.{Move}
+use Rattle.cif_plant.specs.declared.numbered.NumberedEdge.{NumberedEdge}
 use Rattle.cif_plant.specs.declared.numbered.NumberedPlant.{NumberedPlant}
 
 -- the place of a name in a list, and the list's length where it isn't there
@@ -19,11 +19,11 @@ abbrev pub target_of : List Text → ℕ → Option Text → ℕ
 target_of names from None = from
 target_of names from (Some x) = number_of names x
 
-abbrev pub move_of : Plant → ℕ → Edge → Move
+abbrev pub move_of : Plant → ℕ → Edge → NumberedEdge
 move_of p from e = record { event = number_of (event_names p) e.event; from = from; to = target_of (location_names p) from e.target }
 
 -- the edges of these locations, of which the first has the number k
-abbrev pub moves_from : Plant → ℕ → List Location → List Move
+abbrev pub moves_from : Plant → ℕ → List Location → List NumberedEdge
 moves_from p k [] = []
 moves_from p k (l ∷ ls) = map (move_of p k) l.edges ++ moves_from p (k + 1) ls
 

@@ -5,7 +5,7 @@ use Rattle.cif_plant.specs.declared.plant.Event.{Event}
 use Rattle.cif_plant.specs.declared.plant.Edge.{Edge}
 use Rattle.cif_plant.specs.declared.plant.Location.{Location}
 use Rattle.cif_plant.specs.declared.plant.Plant.{Plant}
-use Rattle.cif_system.specs.Words.{Member}
+use Rattle.cif_system.specs.Words.{Member, AreDistinct}
 
 abbrev pub event_names : Plant → List Text
 event_names p = map (λ (e : Event). e.name) p.events
@@ -15,11 +15,6 @@ location_names p = map (λ (l : Location). l.name) p.locations
 
 abbrev pub edges_of : Plant → List Edge
 edges_of p = flat_map (λ (l : Location). l.edges) p.locations
-
--- no text stands twice in the list
-abbrev pub AreDistinct : List Text → Type 0
-AreDistinct [] = Unit {0}
-AreDistinct (x ∷ xs) = (Member x xs → ⊥) × AreDistinct xs
 
 -- where a target is given, it is one of these names
 abbrev pub LeadsTo : List Text → Option Text → Type 0

@@ -5,5 +5,5 @@
 mod numbered;
 mod plant;
 
-pub use numbered::{Move, NumberedPlant};
+pub use numbered::{NumberedEdge, NumberedPlant};
 pub use plant::{Class, Edge, Event, Location, Plant};

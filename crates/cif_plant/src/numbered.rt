@@ -5,7 +5,7 @@ use cif_base::{Items, Text};
 
 /// An edge for event number `event`, from location number `from` to location number `to`.
 #[derive(Clone, Copy, Debug, PartialEq, Eq)]
-pub struct Move {
+pub struct NumberedEdge {
     pub event: u32,
     pub from: u32,
     pub to: u32,
@@ -19,5 +19,5 @@ pub struct NumberedPlant {
     pub classes: Items<Class>,
     pub places: u32,
     pub first: u32,
-    pub moves: Items<Move>,
+    pub moves: Items<NumberedEdge>,
 }

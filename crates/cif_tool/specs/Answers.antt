@@ -15,7 +15,10 @@ use Rattle.st_read.specs.Derives.{Derives}
 use Rattle.st_scan.specs.Endings.{stopped}
 use Rattle.st_scan.specs.declared.error.ScanErr.{ScanErr}
 use Rattle.st_scan.specs.declared.error.ScanErr.TheVariants as scan
-use Rattle.plc_back.specs.Texts.{TheProgram, IsProgramOf, NeverFaults, RunsFirstSteps, ScansLegally, ScansExactly}
+use Rattle.cif_plant.specs.Meaning.{system_of}
+use Rattle.plc_face.specs.Scans.{IsProgramOf, NeverFaults, RunsFirstSteps, ScansLegally, ScansExactly, ShowsOutputs, StaysTyped}
+use Rattle.plc_gen.specs.Interface.{face_of}
+use Rattle.plc_back.specs.Texts.{TheProgram}
 use Rattle.cif_tool.specs.declared.status.Status.{Status}
 use Rattle.cif_tool.specs.declared.status.Status.TheVariants as status
 use Rattle.cif_tool.specs.declared.status.Refusal.{Refusal}
@@ -127,11 +130,13 @@ Generated s words content old new P = s ≡ status.Done → (g : Generate) (byte
 
 -- the text is one of a program of the plant, with all that is promised of it for these most rounds of each class
 pub record IsTextOf (unc con : ℕ) (p : Plant) (text : Text) : Type 0 where
-  pub program : TheProgram text (IsProgramOf (numbered p))
-  pub never_faults : TheProgram text (NeverFaults (numbered p))
-  pub runs_first_steps : TheProgram text (RunsFirstSteps (numbered p))
-  pub scans_legally : TheProgram text (ScansLegally unc con (numbered p))
-  pub scans_exactly : TheProgram text (ScansExactly unc con (numbered p))
+  pub program : TheProgram text (IsProgramOf (face_of (numbered p)) (system_of p))
+  pub never_faults : TheProgram text (NeverFaults (system_of p))
+  pub runs_first_steps : TheProgram text (RunsFirstSteps (face_of (numbered p)) (system_of p))
+  pub scans_legally : TheProgram text (ScansLegally unc con (face_of (numbered p)) (system_of p))
+  pub scans_exactly : TheProgram text (ScansExactly unc con (face_of (numbered p)) (system_of p))
+  pub shows_outputs : TheProgram text (ShowsOutputs (face_of (numbered p)) (system_of p))
+  pub stays_typed : TheProgram text (StaysTyped (system_of p))
 
 -- the text is one of a program of the plant that these bytes read as
 abbrev pub IsTextFor : ℕ → ℕ → Text → Text → Type 0

@@ -28,29 +28,29 @@ joined [] = []
 joined (t ∷ ts) = t ++ joined ts
 
 -- a refusal with one field that is a number
-abbrev pub numbered : Text → ℕ → Text
-numbered head n = joined (head ∷ decimal n ∷ [])
+abbrev pub with_number : Text → ℕ → Text
+with_number head n = joined (head ∷ decimal n ∷ [])
 
 abbrev pub refusal_text : Refusal → Text
-refusal_text (why.BadByte at) = numbered (codes "1 BadByte at ") at
-refusal_text (why.NumberTooBig at) = numbered (codes "2 NumberTooBig at ") at
-refusal_text (why.OpenComment at) = numbered (codes "3 OpenComment at ") at
-refusal_text (why.NotRead at) = numbered (codes "4 NotRead at ") at
-refusal_text (why.NotBuilt at) = numbered (codes "30 NotBuilt at ") at
+refusal_text (why.BadByte at) = with_number (codes "1 BadByte at ") at
+refusal_text (why.NumberTooBig at) = with_number (codes "2 NumberTooBig at ") at
+refusal_text (why.OpenComment at) = with_number (codes "3 OpenComment at ") at
+refusal_text (why.NotRead at) = with_number (codes "4 NotRead at ") at
+refusal_text (why.NotBuilt at) = with_number (codes "30 NotBuilt at ") at
 
 abbrev pub st_text : StErr → Text
-st_text (st.StBadByte at) = numbered (codes "31 StBadByte at ") at
-st_text (st.StNumberTooBig at) = numbered (codes "32 StNumberTooBig at ") at
-st_text (st.StOpenComment at) = numbered (codes "33 StOpenComment at ") at
-st_text (st.StNotRead at) = numbered (codes "34 StNotRead at ") at
+st_text (st.StBadByte at) = with_number (codes "31 StBadByte at ") at
+st_text (st.StNumberTooBig at) = with_number (codes "32 StNumberTooBig at ") at
+st_text (st.StOpenComment at) = with_number (codes "33 StOpenComment at ") at
+st_text (st.StNotRead at) = with_number (codes "34 StNotRead at ") at
 st_text st.Memory = []
 
 -- a variable is told by its name
 abbrev pub check_text : Text → StCheckErr → Text
-check_text variable (check.StUnknown k) = numbered (codes "35 StUnknown statement ") k
+check_text variable (check.StUnknown k) = with_number (codes "35 StUnknown statement ") k
 check_text variable (check.StDuplicate k) = joined (codes "36 StDuplicate variable " ∷ variable ∷ [])
-check_text variable (check.StMismatch k) = numbered (codes "37 StMismatch statement ") k
-check_text variable (check.StNotAssignable k) = numbered (codes "38 StNotAssignable statement ") k
+check_text variable (check.StMismatch k) = with_number (codes "37 StMismatch statement ") k
+check_text variable (check.StNotAssignable k) = with_number (codes "38 StNotAssignable statement ") k
 check_text variable (check.StInitRange k) = joined (codes "39 StInitRange variable " ∷ variable ∷ [])
 check_text variable check.Memory = []
 
@@ -59,10 +59,10 @@ st_refusal_text variable (refusal.Text e) = st_text e
 st_refusal_text variable (refusal.Check e) = check_text variable e
 
 abbrev pub row_text : RowErr → Text
-row_text (row.Header c) = numbered (codes "44 Header column ") c
+row_text (row.Header c) = with_number (codes "44 Header column ") c
 row_text (row.Cell r c) = joined (codes "45 Cell row " ∷ decimal r ∷ codes " column " ∷ decimal c ∷ [])
-row_text (row.RowLength r) = numbered (codes "46 RowLength row ") r
-row_text (row.TooManyRows n) = numbered (codes "47 TooManyRows count ") n
+row_text (row.RowLength r) = with_number (codes "46 RowLength row ") r
+row_text (row.TooManyRows n) = with_number (codes "47 TooManyRows count ") n
 row_text row.Memory = []
 
 -- a value outside the subrange of this variable

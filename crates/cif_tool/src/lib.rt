@@ -15,6 +15,3 @@ mod telling;
 
 pub use running::tool;
 pub use status::{Refusal, StRefusal, Status, code};
-
-#[cfg(test)]
-mod tests;

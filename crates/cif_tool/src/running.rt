@@ -13,7 +13,10 @@ ghost use Rattle.st_scan.specs.Endings.{stopped};
 ghost use Rattle.st_scan.specs.declared.error.ScanErr.{ScanErr};
 ghost use Rattle.plc_rows.specs.Rows.{RowsOf};
 ghost use Rattle.plc_rows.specs.declared.error.RowErr.{RowErr};
-ghost use Rattle.plc_back.specs.Texts.{TheProgram, IsProgramOf, NeverFaults, RunsFirstSteps, ScansLegally, ScansExactly};
+ghost use Rattle.cif_plant.specs.Meaning.{system_of};
+ghost use Rattle.plc_face.specs.Scans.{IsProgramOf, NeverFaults, RunsFirstSteps, ScansLegally, ScansExactly, ShowsOutputs, StaysTyped};
+ghost use Rattle.plc_gen.specs.Interface.{face_of};
+ghost use Rattle.plc_back.specs.Texts.{TheProgram};
 ghost use Rattle.cif_tool.specs.declared.status.Refusal.{Refusal};
 ghost use Rattle.cif_tool.specs.declared.status.StRefusal.{StRefusal};
 ghost use Rattle.cif_tool.specs.Asked.{asked};
@@ -196,19 +199,25 @@ pub fn tool<F: Files, O: Sink, E: Sink>(
     // scans.
     ensures program { Generated result (map string_bytes words.now) (F.content files.old)
         (O.written out.old) (O.written out.new)
-        (λ g p text. TheProgram text (IsProgramOf (numbered p))) }
+        (λ g p text. TheProgram text (IsProgramOf (face_of (numbered p)) (system_of p))) }
     ensures never_faults { Generated result (map string_bytes words.now) (F.content files.old)
         (O.written out.old) (O.written out.new)
-        (λ g p text. TheProgram text (NeverFaults (numbered p))) }
+        (λ g p text. TheProgram text (NeverFaults (system_of p))) }
     ensures runs_first_steps { Generated result (map string_bytes words.now) (F.content files.old)
         (O.written out.old) (O.written out.new)
-        (λ g p text. TheProgram text (RunsFirstSteps (numbered p))) }
+        (λ g p text. TheProgram text (RunsFirstSteps (face_of (numbered p)) (system_of p))) }
     ensures scans_legally { Generated result (map string_bytes words.now) (F.content files.old)
         (O.written out.old) (O.written out.new)
-        (λ g p text. TheProgram text (ScansLegally g.unc g.con (numbered p))) }
+        (λ g p text. TheProgram text (ScansLegally g.unc g.con (face_of (numbered p)) (system_of p))) }
     ensures scans_exactly { Generated result (map string_bytes words.now) (F.content files.old)
         (O.written out.old) (O.written out.new)
-        (λ g p text. TheProgram text (ScansExactly g.unc g.con (numbered p))) }
+        (λ g p text. TheProgram text (ScansExactly g.unc g.con (face_of (numbered p)) (system_of p))) }
+    ensures shows_outputs { Generated result (map string_bytes words.now) (F.content files.old)
+        (O.written out.old) (O.written out.new)
+        (λ g p text. TheProgram text (ShowsOutputs (face_of (numbered p)) (system_of p))) }
+    ensures stays_typed { Generated result (map string_bytes words.now) (F.content files.old)
+        (O.written out.old) (O.written out.new)
+        (λ g p text. TheProgram text (StaysTyped (system_of p))) }
 {
     let ended = run(alloc, words, files, out);
     report(alloc, words, ended, err)

@@ -48,8 +48,8 @@ fn decimal_text(alloc: Global, number: i64) -> Result<Text, Memory>
 }
 
 /// A refusal with one field that is a number.
-fn numbered(alloc: Global, head: &[u8], number: u32) -> Result<Text, Memory>
-    ensures { IfOk result (λ text. text ≡ lines.numbered head.now number) }
+fn with_number(alloc: Global, head: &[u8], number: u32) -> Result<Text, Memory>
+    ensures { IfOk result (λ text. text ≡ lines.with_number head.now number) }
 {
     let number = decimal_text(alloc, number as i64)?;
     joined(alloc, &[head, number.as_slice()])
@@ -59,11 +59,11 @@ fn refusal_text(alloc: Global, why: Refusal) -> Result<Text, Memory>
     ensures { IfOk result (λ text. text ≡ lines.refusal_text why) }
 {
     match why {
-        Refusal::BadByte { at } => numbered(alloc, b"1 BadByte at ", at),
-        Refusal::NumberTooBig { at } => numbered(alloc, b"2 NumberTooBig at ", at),
-        Refusal::OpenComment { at } => numbered(alloc, b"3 OpenComment at ", at),
-        Refusal::NotRead { at } => numbered(alloc, b"4 NotRead at ", at),
-        Refusal::NotBuilt { at } => numbered(alloc, b"30 NotBuilt at ", at),
+        Refusal::BadByte { at } => with_number(alloc, b"1 BadByte at ", at),
+        Refusal::NumberTooBig { at } => with_number(alloc, b"2 NumberTooBig at ", at),
+        Refusal::OpenComment { at } => with_number(alloc, b"3 OpenComment at ", at),
+        Refusal::NotRead { at } => with_number(alloc, b"4 NotRead at ", at),
+        Refusal::NotBuilt { at } => with_number(alloc, b"30 NotBuilt at ", at),
     }
 }
 
@@ -71,10 +71,10 @@ fn st_text(alloc: Global, error: StErr) -> Result<Text, Memory>
     ensures { IfOk result (λ text. text ≡ lines.st_text error) }
 {
     match error {
-        StErr::StBadByte { at } => numbered(alloc, b"31 StBadByte at ", at),
-        StErr::StNumberTooBig { at } => numbered(alloc, b"32 StNumberTooBig at ", at),
-        StErr::StOpenComment { at } => numbered(alloc, b"33 StOpenComment at ", at),
-        StErr::StNotRead { at } => numbered(alloc, b"34 StNotRead at ", at),
+        StErr::StBadByte { at } => with_number(alloc, b"31 StBadByte at ", at),
+        StErr::StNumberTooBig { at } => with_number(alloc, b"32 StNumberTooBig at ", at),
+        StErr::StOpenComment { at } => with_number(alloc, b"33 StOpenComment at ", at),
+        StErr::StNotRead { at } => with_number(alloc, b"34 StNotRead at ", at),
         StErr::Memory => Ok(Text::new(alloc)),
     }
 }
@@ -85,16 +85,16 @@ fn check_text(alloc: Global, variable: &[u8], error: StCheckErr) -> Result<Text,
 {
     match error {
         StCheckErr::StUnknown { statement } => {
-            numbered(alloc, b"35 StUnknown statement ", statement)
+            with_number(alloc, b"35 StUnknown statement ", statement)
         }
         StCheckErr::StDuplicate { .. } => {
             joined(alloc, &[b"36 StDuplicate variable ", variable])
         }
         StCheckErr::StMismatch { statement } => {
-            numbered(alloc, b"37 StMismatch statement ", statement)
+            with_number(alloc, b"37 StMismatch statement ", statement)
         }
         StCheckErr::StNotAssignable { statement } => {
-            numbered(alloc, b"38 StNotAssignable statement ", statement)
+            with_number(alloc, b"38 StNotAssignable statement ", statement)
         }
         StCheckErr::StInitRange { .. } => {
             joined(alloc, &[b"39 StInitRange variable ", variable])
@@ -133,10 +133,10 @@ fn row_text(alloc: Global, error: RowErr) -> Result<Text, Memory>
     ensures { IfOk result (λ text. text ≡ lines.row_text error) }
 {
     match error {
-        RowErr::Header { column } => numbered(alloc, b"44 Header column ", column),
+        RowErr::Header { column } => with_number(alloc, b"44 Header column ", column),
         RowErr::Cell { row, column } => cell_text(alloc, row, column),
-        RowErr::RowLength { row } => numbered(alloc, b"46 RowLength row ", row),
-        RowErr::TooManyRows { count } => numbered(alloc, b"47 TooManyRows count ", count),
+        RowErr::RowLength { row } => with_number(alloc, b"46 RowLength row ", row),
+        RowErr::TooManyRows { count } => with_number(alloc, b"47 TooManyRows count ", count),
         RowErr::Memory => Ok(Text::new(alloc)),
     }
 }

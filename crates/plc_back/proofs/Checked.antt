@@ -4,13 +4,13 @@ use Rattle.std.specs.Prelude.{int_le}
 use Rattle.grammar.specs.Pieces.{Text}
 use Rattle.cif_plant.specs.Meaning.{IsNumbered}
 use Rattle.cif_plant.specs.declared.plant.Class.TheVariants as c
-use Rattle.cif_plant.specs.declared.numbered.Move.{Move}
+use Rattle.cif_plant.specs.declared.numbered.NumberedEdge.{NumberedEdge}
 use Rattle.cif_plant.specs.declared.numbered.NumberedPlant.{NumberedPlant}
 use Rattle.st_ast.specs.Names.{folded, same_name, declared}
 use Rattle.st_ast.specs.Checks.{stm_faults, stms_faults, branches_faults, variables_faults, stms_count, stm_count, knows_conditions, boolean_conditions, check_faults}
 use Rattle.st_ast.specs.Tree.{truth, number, named, Stms, assign, choice, no_stms, stms, no_other, append}
 use Rattle.st_ast.specs.declared.tree.StVar.{StVar}
-use Rattle.plc_gen.specs.Frame.{fired, tries_of, one_more_round, one_round, loop_of}
+use Rattle.plc_face.specs.Frame.{fired, tries_of, one_more_round, one_round, loop_of}
 use Rattle.plc_gen.specs.Emitted.{place_name, output_name, events_of, moves_of, taking, move_branches, event_of, body_of, place_variable, place_output, variables_of, outputs_of, program_of}
 
 -- ---- names
@@ -57,15 +57,15 @@ module _ (n : NumberedPlant) where
   place_assigned : (k z : ℕ) → stm_faults (variables_of n) k (assign (place_name n) (number (pos z))) ≡ []
   place_assigned k z = rw (place_is_declared n) refl
 
-  knows-moves : (ms : List Move) → knows_conditions (variables_of n) (move_branches (place_name n) ms) ≡ true
+  knows-moves : (ms : List NumberedEdge) → knows_conditions (variables_of n) (move_branches (place_name n) ms) ≡ true
   knows-moves [] = refl
   knows-moves (m ∷ ms) = rw (place_is_declared n) (knows-moves ms)
 
-  boolean-moves : (ms : List Move) → boolean_conditions (variables_of n) (move_branches (place_name n) ms) ≡ true
+  boolean-moves : (ms : List NumberedEdge) → boolean_conditions (variables_of n) (move_branches (place_name n) ms) ≡ true
   boolean-moves [] = refl
   boolean-moves (m ∷ ms) = rw (place_is_declared n) (boolean-moves ms)
 
-  branches-checked : (k : ℕ) (ms : List Move) → branches_faults (variables_of n) k (move_branches (place_name n) ms) ≡ []
+  branches-checked : (k : ℕ) (ms : List NumberedEdge) → branches_faults (variables_of n) k (move_branches (place_name n) ms) ≡ []
   branches-checked k [] = refl
   branches-checked k (m ∷ ms) =
       let one : stms_faults (variables_of n) k (taking (place_name n) m) ≡ [] =
@@ -73,11 +73,11 @@ module _ (n : NumberedPlant) where
       let rest = branches-checked (k + stms_count (taking (place_name n) m)) ms in
       ap (λ xs. xs ++ branches_faults (variables_of n) (k + stms_count (taking (place_name n) m)) (move_branches (place_name n) ms)) one ∙ rest
 
-  chosen_of : (ms : List Move) (k : ℕ) → knows_conditions (variables_of n) (move_branches (place_name n) ms) ≡ true → boolean_conditions (variables_of n) (move_branches (place_name n) ms) ≡ true
+  chosen_of : (ms : List NumberedEdge) (k : ℕ) → knows_conditions (variables_of n) (move_branches (place_name n) ms) ≡ true → boolean_conditions (variables_of n) (move_branches (place_name n) ms) ≡ true
       → branches_faults (variables_of n) (k + 1) (move_branches (place_name n) ms) ≡ [] → stm_faults (variables_of n) k (choice (move_branches (place_name n) ms) no_other) ≡ []
   chosen_of ms k a b d = rw (a, b, d) refl
 
-  event-checked : (ms : List Move) → AllChecked (variables_of n) (event_of (place_name n) ms)
+  event-checked : (ms : List NumberedEdge) → AllChecked (variables_of n) (event_of (place_name n) ms)
   event-checked [] = tt
   event-checked (m ∷ ms) = ((λ k. chosen k), tt)
     where

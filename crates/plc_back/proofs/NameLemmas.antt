@@ -4,22 +4,22 @@ use Rattle.std.specs.Prelude.{codes}
 use Rattle.std.specs.List.{list_all}
 use Rattle.std.proofs.lemmas.Bool.Decides.{nat_tests}
 use Rattle.grammar.specs.Pieces.{Text, AllAre}
-use Rattle.cif_plant.specs.Named as source
-use Rattle.st_ast.specs.Tokens.{name, is_wordy, is_identifier, kind_of_word}
+use Rattle.grammar.specs.Bytes.{is_letter, is_wordy}
+use Rattle.st_ast.specs.Tokens.{name, is_identifier, kind_of_word}
 use Rattle.st_print.specs.Marks.{is_word_text}
 use Rattle.cif_plant.specs.Named.{IsNameText}
 
-letter-wordy : (b : ℕ) → source.is_letter b ≡ true → is_wordy b ≡ true
+letter-wordy : (b : ℕ) → is_letter b ≡ true → is_wordy b ≡ true
 letter-wordy b e = grind (arith, nat_tests)
 
-letter-no_underscore : (b : ℕ) → source.is_letter b ≡ true → (b == 95) ≡ false
+letter-no_underscore : (b : ℕ) → is_letter b ≡ true → (b == 95) ≡ false
 letter-no_underscore b e = grind (arith, nat_tests)
 
-letters-wordy : (w : Text) → AllAre source.is_letter w → list_all is_wordy w ≡ true
+letters-wordy : (w : Text) → AllAre is_letter w → list_all is_wordy w ≡ true
 letters-wordy [] all = refl
 letters-wordy (b ∷ w) all = rw (letter-wordy b all.0) (letters-wordy w all.1)
 
-letters-identifier : (b : ℕ) (w : Text) → AllAre source.is_letter (b ∷ w) → is_identifier (b ∷ w) ≡ true
+letters-identifier : (b : ℕ) (w : Text) → AllAre is_letter (b ∷ w) → is_identifier (b ∷ w) ≡ true
 letters-identifier b [] all = rw (letter-no_underscore b all.0) refl
 letters-identifier b (d ∷ w) all = rw (letter-no_underscore b all.0) (letters-identifier d w all.1)
 

@@ -1,22 +1,19 @@
 -- The printed program of a plant keeps what is promised of it.
-use Rattle.std.proofs.Common.{◌≡◌, ℕ, ◌+◌, ◌≤◌, ℤ, List, [], ◌∷◌, length, refl, ap, arith}
-use Rattle.cif_system.specs.System.{State, initial}
-use Rattle.cif_system.specs.Scan.{exact_scan}
-use Rattle.cif_system.proofs.FirstRunLaws.{exact_scan-runs}
-use Rattle.cif_system.proofs.ScanLaws.{exact_scan-legal}
+use Rattle.std.proofs.Common.{◌≡◌, ℕ, ◌+◌, ◌≤◌}
 use Rattle.cif_plant.specs.Meaning.{system_of_numbered}
 use Rattle.cif_plant.specs.declared.numbered.NumberedPlant.{NumberedPlant}
 use Rattle.st_ast.specs.Tree.{Program}
-use Rattle.st_ast.specs.Values.{Memory}
-use Rattle.st_ast.specs.Scan.{turns_of_scan, start_memory, later_memories}
+use Rattle.st_ast.specs.Scan.{turns_of_scan}
 use Rattle.st_print.specs.Layout.{printed}
 use Rattle.st_read.proofs.Whole.{one-program}
+use Rattle.plc_face.specs.Scans.{IsProgramOf, NeverFaults, RunsFirstSteps, ScansLegally, ScansExactly, ShowsOutputs, StaysTyped}
+use Rattle.plc_face.proofs.ScanLaws.{exact-legal, exact-first}
 use Rattle.plc_gen.specs.Emitted.{program_of}
-use Rattle.plc_gen.specs.Scans.{Leads, Holds}
-use Rattle.plc_gen.proofs.PlantScans.{all_scans}
+use Rattle.plc_gen.specs.Interface.{face_of}
+use Rattle.plc_gen.proofs.PlantScans.{state_of, starts, plant-exact, plant-shows, plant-typed}
 use Rattle.plc_back.specs.HasProgram.{HasProgram}
-use Rattle.plc_back.specs.Texts.{TheProgram, IsProgramOf, NeverFaults, RunsFirstSteps, ScansLegally, ScansExactly}
-use Rattle.plc_back.proofs.ReadAgain.{printed-reads, program-interface, program-starts}
+use Rattle.plc_back.specs.Texts.{TheProgram}
+use Rattle.plc_back.proofs.ReadAgain.{printed-reads, program-interface}
 
 module _ (n : NumberedPlant) (U C : ℕ) (h : HasProgram n U C) where
   -- what holds of the program holds of the one program that its text reads as
@@ -25,27 +22,27 @@ module _ (n : NumberedPlant) (U C : ℕ) (h : HasProgram n U C) where
       let reads = printed-reads n U C h in
       (program_of n U C, reads, holds, λ q other. one-program (printed (program_of n U C)) q (program_of n U C) other reads)
 
-  pub is_program_of : TheProgram (printed (program_of n U C)) (IsProgramOf n)
-  is_program_of = of_text (IsProgramOf n) (program-interface n U C, program-starts n U C h.numbered)
+  pub is_program_of : TheProgram (printed (program_of n U C)) (IsProgramOf (face_of n) (system_of_numbered n))
+  is_program_of = of_text (IsProgramOf (face_of n) (system_of_numbered n)) (program-interface n U C h.name, state_of n h.name U C _ _ (starts n U C h.numbered))
 
   module _ (enough : U + C ≤ turns_of_scan) where
-    pub scans_exactly : TheProgram (printed (program_of n U C)) (ScansExactly U C n)
-    scans_exactly = of_text (ScansExactly U C n) (all_scans n h.numbered U C enough _ (λ s row. refl))
+    exact : ScansExactly U C (face_of n) (system_of_numbered n) (program_of n U C)
+    exact = plant-exact n h.numbered h.name U C enough
 
-    pub scans_legally : TheProgram (printed (program_of n U C)) (ScansLegally U C n)
-    scans_legally = of_text (ScansLegally U C n) (all_scans n h.numbered U C enough _ (λ s row. exact_scan-legal _ s row U C))
+    pub scans_exactly : TheProgram (printed (program_of n U C)) (ScansExactly U C (face_of n) (system_of_numbered n))
+    scans_exactly = of_text (ScansExactly U C (face_of n) (system_of_numbered n)) exact
 
-    pub runs_first_steps : TheProgram (printed (program_of n U C)) (RunsFirstSteps n)
-    runs_first_steps = of_text (RunsFirstSteps n) (all_scans n h.numbered U C enough _ (λ s row. exact_scan-runs _ s row U C))
+    pub scans_legally : TheProgram (printed (program_of n U C)) (ScansLegally U C (face_of n) (system_of_numbered n))
+    scans_legally = of_text (ScansLegally U C (face_of n) (system_of_numbered n)) (exact-legal (face_of n) (system_of_numbered n) (program_of n U C) U C exact)
 
-    one_each : (R : State → List ℤ → State → Type 0) (Is : Memory → State → Type 0) (rows : List (List ℤ)) (s : State) (ms : List Memory) → Leads R Is s rows ms → length ms ≡ length rows
-    one_each R Is [] s ms l = ap length l
-    one_each R Is (row ∷ rows) s [] l = absurd l
-    one_each R Is (row ∷ rows) s (m ∷ ms) l = omega (arith, one_each R Is rows l.0 ms l.3)
+    pub runs_first_steps : TheProgram (printed (program_of n U C)) (RunsFirstSteps (face_of n) (system_of_numbered n))
+    runs_first_steps = of_text (RunsFirstSteps (face_of n) (system_of_numbered n)) (exact-first (face_of n) (system_of_numbered n) (program_of n U C) U C exact)
 
-    pub never_faults : TheProgram (printed (program_of n U C)) (NeverFaults n)
-    never_faults = of_text (NeverFaults n) (
-        λ rows in_range.
-        one_each (λ s row t. t ≡ exact_scan (system_of_numbered n) s row U C) (Holds n (program_of n U C)) rows (initial (system_of_numbered n)) (later_memories (program_of n U C) (start_memory (program_of n U C)) rows)
-        (all_scans n h.numbered U C enough (λ s row t. t ≡ exact_scan (system_of_numbered n) s row U C) (λ s row. refl) rows in_range)
-        )
+    pub never_faults : TheProgram (printed (program_of n U C)) (NeverFaults (system_of_numbered n))
+    never_faults = of_text (NeverFaults (system_of_numbered n)) exact.0
+
+    pub shows_outputs : TheProgram (printed (program_of n U C)) (ShowsOutputs (face_of n) (system_of_numbered n))
+    shows_outputs = of_text (ShowsOutputs (face_of n) (system_of_numbered n)) (plant-shows n h.numbered h.name U C enough)
+
+    pub stays_typed : TheProgram (printed (program_of n U C)) (StaysTyped (system_of_numbered n))
+    stays_typed = of_text (StaysTyped (system_of_numbered n)) (plant-typed n h.numbered h.name U C enough)

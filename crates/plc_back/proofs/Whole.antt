@@ -4,8 +4,9 @@ use Rattle.std.specs.Prelude.{codes}
 use Rattle.grammar.specs.Lang.{many, flat}
 use Rattle.grammar.specs.Pieces.{Text}
 use Rattle.cif_system.specs.Words.{Member}
+use Rattle.cif_system.proofs.Lists.{filter-within}
 use Rattle.cif_plant.specs.declared.plant.Class.TheVariants as c
-use Rattle.cif_plant.specs.declared.numbered.Move.{Move}
+use Rattle.cif_plant.specs.declared.numbered.NumberedEdge.{NumberedEdge}
 use Rattle.cif_plant.specs.declared.numbered.NumberedPlant.{NumberedPlant}
 use Rattle.st_ast.specs.Tokens.{Token, name, program, end_program, var, var_output, end_var, bool, lint, colon, assigns, semicolon, open_sign, close_sign, dots, false_word, greatest, kind_of_word}
 use Rattle.st_ast.specs.Grammar.{middle, expression, below, max_depth, signed, first_value, subrange_of, type_use, value_of_init, declaration, block, statement, whole}
@@ -20,7 +21,7 @@ use Rattle.st_ast.specs.declared.tree.StClass.TheVariants as class
 use Rattle.st_print.specs.Layout.{expr_marks, stms_marks, number_marks, type_marks, literal_marks, declaration_marks, variables_marks, program_marks}
 use Rattle.st_print.specs.Layout as mark
 use Rattle.st_print.specs.Marks.{tokens_of, is_word_text, AreMarks}
-use Rattle.plc_gen.specs.Frame.{fired, rounds_made, tries_of, goes_on, one_more_round, one_round, loop_of}
+use Rattle.plc_face.specs.Frame.{fired, rounds_made, tries_of, goes_on, one_more_round, one_round, loop_of}
 use Rattle.plc_gen.specs.Emitted.{place_name, output_name, events_of, moves_of, stands_at, taking, move_branches, event_of, body_of, place_variable, place_output, variables_of, outputs_of, program_of}
 use Rattle.plc_back.specs.HasProgram.{HasProgram}
 use Rattle.plc_back.proofs.Derived.{Derives, both_derive, map_derives, left_derives, right_derives, none_derives, more_derive, absent_derives, present_derives}
@@ -72,19 +73,10 @@ loop_of_derives bound tries le all = (
 
 -- ---- the events
 
-filter-within : (p : Move → Bool) (ms : List Move) (m : Move) → Member m (filter p ms) → Member m ms
-filter-within p [] m h = h
-filter-within p (x ∷ ms) m h = go (p x) h (filter-within p ms m)
-  where
-    go : (b : Bool) → Member m (cond b (x ∷ filter p ms) (filter p ms)) → (Member m (filter p ms) → Member m ms) → Member m (x ∷ ms)
-    go true (inl e) rest = inl e
-    go true (inr q) rest = inr (rest q)
-    go false q rest = inr (rest q)
+abbrev AreSmall : List NumberedEdge → Type 0
+AreSmall ms = (m : NumberedEdge) → Member m ms → (m.from ≤ greatest) × (m.to ≤ greatest)
 
-abbrev AreSmall : List Move → Type 0
-AreSmall ms = (m : Move) → Member m ms → (m.from ≤ greatest) × (m.to ≤ greatest)
-
-moves_derive : (place : Text) → kind_of_word place ≡ name → is_word_text place ≡ true → (ms : List Move) → AreSmall ms → BranchesDerive 398 1 (move_branches place ms)
+moves_derive : (place : Text) → kind_of_word place ≡ name → is_word_text place ≡ true → (ms : List NumberedEdge) → AreSmall ms → BranchesDerive 398 1 (move_branches place ms)
 moves_derive place is good [] small = tt
 moves_derive place is good (m ∷ ms) small = (
   equal_derives place m.from is good (small m (inl refl)).0,
@@ -94,7 +86,7 @@ moves_derive place is good (m ∷ ms) small = (
   ),
 )
 
-event_derives : (place : Text) → kind_of_word place ≡ name → is_word_text place ≡ true → (ms : List Move) → AreSmall ms → AllDerive 399 1 (event_of place ms)
+event_derives : (place : Text) → kind_of_word place ≡ name → is_word_text place ≡ true → (ms : List NumberedEdge) → AreSmall ms → AllDerive 399 1 (event_of place ms)
 event_derives place is good [] small = tt
 event_derives place is good (m ∷ ms) small = (choice_derives 398 1 (stands_at place m) (taking place m) (move_branches place ms) (moves_derive place is good (m ∷ ms) small), tt)
 

@@ -2,11 +2,13 @@
 #![tactic(auto)]
 
 ghost use Rattle.std.specs.Prelude.{◌≡◌, ◌+◌, ◌≤◌, ◌<◌, IfOk};
-ghost use Rattle.cif_plant.specs.Meaning.{IsNumbered};
+ghost use Rattle.cif_plant.specs.Meaning.{IsNumbered, system_of_numbered};
 ghost use Rattle.cif_plant.specs.Named.{IsNameText};
 ghost use Rattle.st_print.specs.Layout.{printed};
+ghost use Rattle.plc_face.specs.Scans.{IsProgramOf, NeverFaults, RunsFirstSteps, ScansLegally, ScansExactly, ShowsOutputs, StaysTyped};
 ghost use Rattle.plc_gen.specs.Emitted.{program_of};
-ghost use Rattle.plc_back.specs.Texts.{TheProgram, IsProgramOf, NeverFaults, RunsFirstSteps, ScansLegally, ScansExactly};
+ghost use Rattle.plc_gen.specs.Interface.{face_of};
+ghost use Rattle.plc_back.specs.Texts.{TheProgram};
 
 use cif_base::Memory;
 use cif_plant::NumberedPlant;
@@ -32,13 +34,22 @@ pub fn generate_text(
     requires numbered { IsNumbered plant.now }
     requires named { IsNameText plant.now.name }
     requires turns { bounds.unc + bounds.con ≤ 1000000 }
-    ensures program { IfOk result (λ text. TheProgram text.items (IsProgramOf plant.now)) }
-    ensures never_faults { IfOk result (λ text. TheProgram text.items (NeverFaults plant.now)) }
-    ensures runs_first_steps { IfOk result (λ text. TheProgram text.items (RunsFirstSteps plant.now)) }
+    ensures program { IfOk result (λ text.
+        TheProgram text.items (IsProgramOf (face_of plant.now) (system_of_numbered plant.now))) }
+    ensures never_faults { IfOk result (λ text.
+        TheProgram text.items (NeverFaults (system_of_numbered plant.now))) }
+    ensures runs_first_steps { IfOk result (λ text.
+        TheProgram text.items (RunsFirstSteps (face_of plant.now) (system_of_numbered plant.now))) }
     ensures scans_legally { IfOk result (λ text.
-        TheProgram text.items (ScansLegally bounds.unc bounds.con plant.now)) }
+        TheProgram text.items
+        (ScansLegally bounds.unc bounds.con (face_of plant.now) (system_of_numbered plant.now))) }
     ensures scans_exactly { IfOk result (λ text.
-        TheProgram text.items (ScansExactly bounds.unc bounds.con plant.now)) }
+        TheProgram text.items
+        (ScansExactly bounds.unc bounds.con (face_of plant.now) (system_of_numbered plant.now))) }
+    ensures shows_outputs { IfOk result (λ text.
+        TheProgram text.items (ShowsOutputs (face_of plant.now) (system_of_numbered plant.now))) }
+    ensures stays_typed { IfOk result (λ text.
+        TheProgram text.items (StaysTyped (system_of_numbered plant.now))) }
 {
     let _places = plant.places;
     let text = program_text(alloc, plant, bounds)?;

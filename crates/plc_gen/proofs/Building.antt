@@ -2,7 +2,7 @@
 use Rattle.std.proofs.Common.{◌≡◌, ℕ, ◌+◌, ◌<◌, ◌≤◌, List, [], ◌∷◌, ◌++◌, length, get_or, drop, refl, ap, sym, ◌∙◌}
 use Rattle.std.proofs.lemmas.List.{drop_more, drop_all}
 use Rattle.grammar.specs.Pieces.{Text}
-use Rattle.cif_plant.specs.declared.numbered.Move.{Move}
+use Rattle.cif_plant.specs.declared.numbered.NumberedEdge.{NumberedEdge}
 use Rattle.st_ast.specs.Tree.{Expr, Stms, Branches, no_stms, stms, no_branches, branches, append}
 use Rattle.st_ast.specs.View.{view_stmts, view_stmt, view_branches, view_branch}
 use Rattle.st_ast.specs.declared.tree.Stmt.{Stmt}
@@ -42,7 +42,7 @@ join-pushed [] b more = refl
 join-pushed (x ∷ a) b more = ap (branches (view_branch x).0 (view_branch x).1) (join-pushed a b more)
 
 -- the branch of the next edge goes from what is left to what is done
-pub branches-next : (place : Text) (edges : List Move) (i : ℕ) (d : Move) (all new : List StBranch) (b : StBranch) → i < length edges
+pub branches-next : (place : Text) (edges : List NumberedEdge) (i : ℕ) (d : NumberedEdge) (all new : List StBranch) (b : StBranch) → i < length edges
     → view_branch b ≡ (stands_at place (get_or edges i d), taking place (get_or edges i d)) → new ≡ all ++ b ∷ []
     → join (view_branches new) (move_branches place (drop (i + 1) edges)) ≡ join (view_branches all) (move_branches place (drop i edges))
 branches-next place edges i d all new b within b_is new_is =
@@ -50,10 +50,10 @@ branches-next place edges i d all new b within b_is new_is =
     ap (λ (bs : List StBranch). join (view_branches bs) rest) new_is
     ∙ join-pushed all b rest
     ∙ ap (λ (p : Expr × Stms). join (view_branches all) (branches p.0 p.1 rest)) b_is
-    ∙ sym (ap (λ (es : List Move). join (view_branches all) (move_branches place es)) (drop_more edges i d within))
+    ∙ sym (ap (λ (es : List NumberedEdge). join (view_branches all) (move_branches place es)) (drop_more edges i d within))
 
 -- where no edge is left, all is done
-pub branches-done : (place : Text) (edges : List Move) (i : ℕ) (all : List StBranch) → length edges ≤ i
+pub branches-done : (place : Text) (edges : List NumberedEdge) (i : ℕ) (all : List StBranch) → length edges ≤ i
     → join (view_branches all) (move_branches place (drop i edges)) ≡ view_branches all
 branches-done place edges i all past =
-    ap (λ (es : List Move). join (view_branches all) (move_branches place es)) (drop_all i edges past) ∙ join-none (view_branches all)
+    ap (λ (es : List NumberedEdge). join (view_branches all) (move_branches place es)) (drop_all i edges past) ∙ join-none (view_branches all)

@@ -1,6 +1,5 @@
 pub mod Building
 pub mod ByEvent
-pub mod FrameLaw
 pub mod Places
 pub mod PlantLaw
 pub mod PlantScans

@@ -4,7 +4,7 @@ use Rattle.grammar.specs.Pieces.{Text}
 use Rattle.cif_plant.specs.declared.numbered.NumberedPlant.{NumberedPlant}
 use Rattle.st_ast.specs.Names.{folded, same_name, place_of, declared}
 use Rattle.plc_gen.specs.Emitted.{place_name, output_name, place_variable, place_output, variables_of}
-use Rattle.plc_gen.proofs.FrameLaw.{LoopVars}
+use Rattle.plc_face.proofs.FrameLaw.{LoopVars}
 
 pub same_name-self : (w : Text) → same_name w w ≡ true
 same_name-self [] = refl

@@ -1,16 +1,18 @@
 -- The emitted program of a plant makes the exact scans of the plant.
 use Rattle.std.proofs.Common.{◌≡◌, ℕ, suc, ◌+◌, ◌-◌, ◌^◌, ◌<◌, pos, Bool, true, false, cond, List, [], ◌∷◌, length, map, filter, Option, Some, None, Ok, get_or, inl, inr, refl, sym, ap, subst, ◌∙◌, arith, le-leb}
+use Rattle.std.specs.List.{range_with_len}
 use Rattle.std.specs.Prelude.{nat_eq, slice_get, slice_set, option_map, unwrap_or, if◌then◌else◌}
 use Rattle.std.proofs.lemmas.List.{get_or-set_same, get_or-set_other, length-set}
 use Rattle.std.proofs.lemmas.Bool.Decides.{nat_tests}
 use Rattle.cif_system.specs.Words.{Member}
 use Rattle.cif_system.specs.System.{State}
 use Rattle.cif_system.specs.Step.{is_of, has_class}
-use Rattle.cif_system.specs.Choices.{first_step, count_from}
+use Rattle.cif_system.specs.Choices.{first_step}
 use Rattle.cif_system.specs.Scan.{fire, of_class}
+use Rattle.cif_system.proofs.Lists.{filter-within}
 use Rattle.cif_plant.specs.declared.plant.Class as source
 use Rattle.cif_plant.specs.declared.plant.Class.TheVariants as c
-use Rattle.cif_plant.specs.declared.numbered.Move.{Move}
+use Rattle.cif_plant.specs.declared.numbered.NumberedEdge.{NumberedEdge}
 use Rattle.cif_plant.specs.declared.numbered.NumberedPlant.{NumberedPlant}
 use Rattle.cif_plant.specs.Meaning.{class_of, event_of, system_of_numbered, IsNumbered}
 use Rattle.st_ast.specs.Tree.{truth, number, assign, choice, no_stms, stms, no_other}
@@ -18,10 +20,10 @@ use Rattle.st_ast.specs.Values.{Memory, of_bool, is_true, same_number, value_of,
 use Rattle.st_ast.specs.Exec.{Outcome, Ended, Faulted, Act, is_within, exec, exec_choice, exec_other}
 use Rattle.st_ast.specs.declared.tree.StTy.TheVariants as ty
 use Rattle.st_ast.proofs.Runs.{cons_runs, assign_runs}
-use Rattle.plc_gen.specs.Frame.{fired}
+use Rattle.plc_face.specs.Frame.{fired, HasClass}
 use Rattle.plc_gen.specs.Emitted as emitted
 use Rattle.plc_gen.specs.Emitted.{place_name, events_from, events_of, moves_of, stands_at, taking, move_branches, body_of, variables_of}
-use Rattle.plc_gen.proofs.FrameLaw.{Marked, Tried, Frames}
+use Rattle.plc_face.proofs.FrameLaw.{Marked, Tried, Frames}
 use Rattle.plc_gen.proofs.Places.{place_stands_at, loop_vars}
 use Rattle.plc_gen.proofs.PlantSteps.{at, next_of, first_step-is}
 
@@ -34,12 +36,12 @@ class-same c.Uncontrollable c.Controllable = refl
 class-same c.Uncontrollable c.Uncontrollable = refl
 
 events_from-is : (n : NumberedPlant) (k : source.Class) (i : ℕ) (ds : List source.Class) → ((j : ℕ) → slice_get (map event_of n.classes) (i + j) ≡ slice_get (map event_of ds) j)
-    → filter (is_of (system_of_numbered n) (class_of k)) (count_from i (length (map event_of ds))) ≡ events_from k i ds
+    → filter (is_of (system_of_numbered n) (class_of k)) (range_with_len i (length (map event_of ds))) ≡ events_from k i ds
 events_from-is n k i [] same = refl
 events_from-is n k i (d ∷ ds) same =
     let here : slice_get (map event_of n.classes) i ≡ Some (event_of d) = ap (slice_get (map event_of n.classes)) (omega arith) ∙ same 0 in
     let is : is_of (system_of_numbered n) (class_of k) i ≡ emitted.is_of k d = ap (has_class (class_of k)) here ∙ class-same k d in
-    let rest = events_from-is n k (suc i) ds (λ j. ap (slice_get (map event_of n.classes)) (omega arith) ∙ same (suc j)) in
+    let rest = events_from-is n k (i + 1) ds (λ j. ap (slice_get (map event_of n.classes)) (omega arith) ∙ same (suc j)) ∙ ap (λ j. events_from k j ds) (omega arith) in
     rw (is, rest) refl
 
 pub of_class-is : (n : NumberedPlant) (k : source.Class) → of_class (system_of_numbered n) (class_of k) ≡ events_of k n
@@ -140,7 +142,7 @@ module _ (n : NumberedPlant) where
   same_sides : (a b : ℕ) → nat_eq a b ≡ nat_eq b a
   same_sides a b = grind (arith, nat_tests)
 
-  stands_at_value : (mem : Memory) (s : State) (st : Stands n mem s) (m : Move) → value_of (variables_of n) (stands_at (place_name n) m) mem ≡ Ok (of_bool (nat_eq m.from st.place))
+  stands_at_value : (mem : Memory) (s : State) (st : Stands n mem s) (m : NumberedEdge) → value_of (variables_of n) (stands_at (place_name n) m) mem ≡ Ok (of_bool (nat_eq m.from st.place))
   stands_at_value mem s st m =
       ap (λ p. Ok (of_bool (same_number (get_or mem p (pos 0)) (pos m.from)))) (place_stands_at n)
       ∙ ap (λ z. Ok (of_bool (same_number z (pos m.from)))) st.holds
@@ -158,7 +160,7 @@ module _ (n : NumberedPlant) where
     stands : Stands n after (at (unwrap_or o p))
     marked : MarkedBy o mem after
 
-  took : (k : ℕ) (mem : Memory) (s : State) (m : Move) → m.to < n.places → (st : Stands n mem s) → Did (Some m.to) (exec (variables_of n) (taking (place_name n) m) k mem) k mem st.place
+  took : (k : ℕ) (mem : Memory) (s : State) (m : NumberedEdge) → m.to < n.places → (st : Stands n mem s) → Did (Some m.to) (exec (variables_of n) (taking (place_name n) m) k mem) k mem st.place
   took k mem s m within st =
       let there = slice_set mem 0 (pos m.to) in
       let st_there : Stands n there (at m.to) = moved mem s m.to within st in
@@ -173,13 +175,13 @@ module _ (n : NumberedPlant) where
         marked = get_or-set_same there 1 (pos 1) (pos 0) (omega (arith, st_there.long));
       }
 
-  abbrev Inside : List Move → Type 0
-  Inside ms = (m : Move) → Member m ms → m.to < n.places
+  abbrev Inside : List NumberedEdge → Type 0
+  Inside ms = (m : NumberedEdge) → Member m ms → m.to < n.places
 
-  abbrev chain_of : List Move → Act
+  abbrev chain_of : List NumberedEdge → Act
   chain_of ms = exec_choice (variables_of n) (move_branches (place_name n) ms) (λ l i. exec_other (variables_of n) no_other l i)
 
-  chain : (ms : List Move) → Inside ms → (k : ℕ) (mem : Memory) (s : State) (st : Stands n mem s) → Did (next_of ms st.place) (chain_of ms k mem) k mem st.place
+  chain : (ms : List NumberedEdge) → Inside ms → (k : ℕ) (mem : Memory) (s : State) (st : Stands n mem s) → Did (next_of ms st.place) (chain_of ms k mem) k mem st.place
   chain [] all k mem s st = record { after = mem; ends = refl; kept = refl; stands = subst (λ t. Stands n mem t) st.is st; marked = refl }
   chain (m ∷ ms) all k mem s st =
       subst (λ r. Did (next_of (m ∷ ms) st.place) (with_value r Faulted (λ w. if is_true w then exec (variables_of n) (taking (place_name n) m) k mem else chain_of ms k mem)) k mem st.place)
@@ -191,7 +193,7 @@ module _ (n : NumberedPlant) where
       pick true rest = took k mem s m (all m (inl refl)) st
       pick false rest = rest
 
-  event : (ms : List Move) → Inside ms → (k : ℕ) (mem : Memory) (s : State) (st : Stands n mem s) → Did (next_of ms st.place) (exec (variables_of n) (emitted.event_of (place_name n) ms) k mem) k mem st.place
+  event : (ms : List NumberedEdge) → Inside ms → (k : ℕ) (mem : Memory) (s : State) (st : Stands n mem s) → Did (next_of ms st.place) (exec (variables_of n) (emitted.event_of (place_name n) ms) k mem) k mem st.place
   event [] all k mem s st = record { after = mem; ends = refl; kept = refl; stands = subst (λ t. Stands n mem t) st.is st; marked = refl }
   event (m ∷ ms) all k mem s st =
       let d = chain (m ∷ ms) all k mem s st in
@@ -203,15 +205,6 @@ module _ (n : NumberedPlant) where
         marked = d.marked;
       }
 
-  filter-within : (p : Move → Bool) (ms : List Move) (m : Move) → Member m (filter p ms) → Member m ms
-  filter-within p [] m h = h
-  filter-within p (x ∷ ms) m h = go (p x) h (filter-within p ms m)
-    where
-      go : (b : Bool) → Member m (cond b (x ∷ filter p ms) (filter p ms)) → (Member m (filter p ms) → Member m ms) → Member m (x ∷ ms)
-      go true (inl e) rest = inl e
-      go true (inr q) rest = inr (rest q)
-      go false q rest = inr (rest q)
-
   fire-is : (s : State) (p e : ℕ) (o : Option ℕ) → s ≡ at p → first_step (system_of_numbered n) s e ≡ option_map at o → fire (system_of_numbered n) s e ≡ at (unwrap_or o p)
   fire-is s p e None is first = ap (λ x. unwrap_or x s) first ∙ is
   fire-is s p e (Some t) is first = ap (λ x. unwrap_or x s) first
@@ -220,8 +213,8 @@ module _ (n : NumberedPlant) where
   marked-is None mem after h = h
   marked-is (Some t) mem after h = h
 
-  tried : IsNumbered n → (e k : ℕ) (mem : Memory) (s : State) → Stands n mem s → Tried (variables_of n) 1 2 (loop_vars n) (system_of_numbered n) (Stands n) (body_of n) e k mem s
-  tried h e k mem s st =
+  tried : IsNumbered n → (e k : ℕ) (mem : Memory) (s : State) → HasClass (system_of_numbered n) e → Stands n mem s → Tried (variables_of n) 1 2 (loop_vars n) (system_of_numbered n) (Stands n) (body_of n) e k mem s
+  tried h e k mem s classed st =
       let d = event (moves_of n e) (λ m q. (h.moves_below m (filter-within _ n.moves m q)).2) k mem s st in
       let first : first_step (system_of_numbered n) s e ≡ option_map at (next_of (moves_of n e) st.place) = ap (λ t. first_step (system_of_numbered n) t e) st.is ∙ first_step-is n st.place e in
       record {

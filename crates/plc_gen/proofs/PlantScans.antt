@@ -1,45 +1,109 @@
 -- Every list of scans of the emitted program of a plant is one of exact scans.
-use Rattle.std.proofs.Common.{◌≡◌, ℕ, zero, suc, ◌+◌, ◌-◌, ◌^◌, ◌<◌, ◌≤◌, ℤ, pos, Bool, true, false, List, [], ◌∷◌, length, Some, Ok, get_or, inl, inr, refl, sym, ap, subst, ◌∙◌, arith, lt-ltb}
-use Rattle.std.specs.Prelude.{slice_get, slice_set}
+use Rattle.std.proofs.Common.{◌≡◌, ◌==◌, ℕ, ◌+◌, ◌-◌, ◌≤◌, ℤ, pos, Bool, true, false, ◌&&◌, List, [], ◌∷◌, ◌++◌, Some, Ok, get_or, refl, sym, ap, subst, ◌∙◌, arith}
+use Rattle.std.specs.Prelude.{IsTrue, codes, option_map, slice_get, slice_set}
+use Rattle.std.specs.Fmt.{digits}
 use Rattle.std.proofs.lemmas.List.{get_or-set_same}
-use Rattle.cif_system.specs.System.{State, AllFit, IsState, initial, con, unc}
-use Rattle.cif_system.specs.Scan.{of_class, with_inputs, exact_scan}
+use Rattle.std.proofs.lemmas.Bool.Decides.{nat_tests}
+use Rattle.grammar.specs.Pieces.{Text, AllAre}
+use Rattle.cif_system.specs.System.{State, AllFit, in_range, initial, outputs, con, unc}
+use Rattle.cif_system.specs.Scan.{of_class, with_inputs}
 use Rattle.cif_plant.specs.declared.plant.Class.TheVariants as c
 use Rattle.cif_plant.specs.declared.numbered.NumberedPlant.{NumberedPlant}
 use Rattle.cif_plant.specs.Meaning.{system_of_numbered, IsNumbered}
+use Rattle.grammar.specs.Bytes.{is_letter, is_wordy}
+use Rattle.cif_plant.specs.Named.{IsNameText}
 use Rattle.st_ast.specs.Tree.{named, assign, no_stms}
-use Rattle.st_ast.specs.Values.{Memory, of_bool, value_of}
+use Rattle.st_ast.specs.Names.{place_of}
+use Rattle.st_ast.specs.Values.{Memory, value_of}
 use Rattle.st_ast.specs.Exec.{Ended, exec}
-use Rattle.st_ast.specs.Scan.{store_row, scan_of, start_memory, later_memories, when_ended, turns_of_scan}
+use Rattle.st_ast.specs.Scan.{store_row, start_memory, turns_of_scan}
+use Rattle.st_ast.specs.declared.tree.StTy.{StTy}
 use Rattle.st_ast.specs.declared.tree.StTy.TheVariants as ty
 use Rattle.st_ast.proofs.Runs.{cons_runs, assign_runs}
-use Rattle.plc_gen.specs.Frame.{frame}
-use Rattle.plc_gen.specs.Emitted.{place_name, output_name, place_variable, events_of, body_of, variables_of, outputs_of, program_of}
-use Rattle.plc_gen.specs.Interface.{StateOf}
-use Rattle.plc_gen.specs.Scans.{IsOfType, AreInTypes, Holds, Leads, AllScans, AreRows}
-use Rattle.plc_gen.proofs.FrameLaw.{Ends, framed_events_scan_exactly}
+use Rattle.plc_face.specs.declared.letter.Letter.TheVariants as letter
+use Rattle.plc_face.specs.Names.{underscore, tidied, name_for}
+use Rattle.plc_face.specs.Face.{class_and_type, IsDeclared, StateOf, Shows, AreInTypes, range_of, seen_values}
+use Rattle.plc_face.specs.Scans.{ScansExactly, ShowsOutputs, StaysTyped}
+use Rattle.plc_face.specs.Frame.{frame}
+use Rattle.plc_face.proofs.Tidying.{AreSingle, EndsWell, tidy-same}
+use Rattle.plc_face.proofs.FaceLaws.{slice_get-of}
+use Rattle.plc_face.proofs.Framed.{truth_in_type, count_in_type}
+use Rattle.plc_face.proofs.FrameLaw.{Ends, frame-scans}
+use Rattle.plc_face.proofs.ScanLaws.{OneScan, Scanning, all-exact, all-show, all-typed}
+use Rattle.plc_gen.specs.Emitted.{place_name, output_name, events_of, body_of, variables_of, outputs_of, program_of}
+use Rattle.plc_gen.specs.Interface.{face_of}
 use Rattle.plc_gen.proofs.Places.{place_stands_at, output_stands_at, place_is_declared, loop_vars}
 use Rattle.plc_gen.proofs.PlantSteps.{at}
 use Rattle.plc_gen.proofs.PlantLaw.{Stands, frames, of_class-is, output_written, place_fits}
 
-slice_get-is : (xs : List ℤ) (k : ℕ) → k < length xs → slice_get xs k ≡ Some (get_or xs k (pos 0))
-slice_get-is [] k h = absurd (omega arith)
-slice_get-is (x ∷ xs) zero h = refl
-slice_get-is (x ∷ xs) (suc k) h = slice_get-is xs k (omega arith)
+-- the output shows the place
+pub record ShowsPlace (m : Memory) (s : State) : Type 0 where
+  pub place : ℕ
+  pub is : s ≡ at place
+  pub shown : get_or m 3 (pos 0) ≡ pos place
 
 -- ---- from the places to the names
 
-state_of : (n : NumberedPlant) (U C : ℕ) (m : Memory) (s : State) → Stands n m s → StateOf n (program_of n U C) m s
-state_of n U C m s st = record {
-  variable = place_variable n;
-  declared = place_is_declared n;
-  plain = refl;
-  range = refl;
-  place = st.place;
-  holds = ap (slice_get m) (place_stands_at n) ∙ slice_get-is m 0 (omega (arith, st.long)) ∙ ap Some st.holds;
-  is = st.is;
-  is_state = subst (λ t. IsState (system_of_numbered n) t) (sym st.is) (record { places = (omega (arith, st.within), tt); values = tt; rows = tt });
+-- a name of letters stands in the variables' names as it is
+letter-byte : (b : ℕ) → is_letter b ≡ true → is_wordy b ≡ true
+letter-byte b e = grind (arith, nat_tests)
+
+letter-other : (b : ℕ) → is_letter b ≡ true → (b == underscore) ≡ false
+letter-other b e = grind (arith, nat_tests)
+
+letters-wordy : (w : Text) → AllAre is_letter w → AllAre is_wordy w
+letters-wordy [] a = tt
+letters-wordy (b ∷ w) a = (letter-byte b a.0, letters-wordy w a.1)
+
+letters-single : (c : ℕ) (w : Text) → AllAre is_letter w → AreSingle (c ∷ w)
+letters-single c [] a = tt
+letters-single c (b ∷ w) a = (apart (c == underscore) (b == underscore) (letter-other b a.0), letters-single b w a.1)
+  where
+    apart : (x y : Bool) → y ≡ false → (x && y) ≡ false
+    apart true y e = e
+    apart false y e = refl
+
+letters-well : (w : Text) → AllAre is_letter w → EndsWell w
+letters-well [] a = tt
+letters-well (b ∷ []) a = letter-other b a.0
+letters-well (b ∷ d ∷ w) a = letters-well (d ∷ w) a.1
+
+name-tidied : (w : Text) → IsNameText w → tidied w ≡ w
+name-tidied [] h = absurd h.some
+name-tidied (b ∷ w) h = tidy-same (b ∷ w) record {
+  wordy = letters-wordy (b ∷ w) h.letters;
+  single = letters-single underscore (b ∷ w) h.letters;
+  well = letters-well (b ∷ w) h.letters;
+  some = omega arith;
+  few = h.few;
 }
+
+pub place_name-is : (n : NumberedPlant) → IsNameText n.name → place_name n ≡ name_for letter.L 0 n.name
+unfolding digits
+place_name-is n h = ap (λ w. codes "L0_" ++ w) (sym (name-tidied n.name h))
+
+pub output_name-is : (n : NumberedPlant) → IsNameText n.name → output_name n ≡ name_for letter.P 0 n.name
+unfolding digits
+output_name-is n h = ap (λ w. codes "P0_" ++ w) (sym (name-tidied n.name h))
+
+place_held : (n : NumberedPlant) (U C : ℕ) (m : Memory) (s : State) (st : Stands n m s) (x : Text) → place_name n ≡ x
+    → (IsDeclared (variables_of n) x (ty.Range (pos 0) (pos (n.places - 1)))) × (slice_get m (place_of (variables_of n) x) ≡ Some (pos st.place))
+place_held n U C m s st x is =
+    subst (λ y. (IsDeclared (variables_of n) y (ty.Range (pos 0) (pos (n.places - 1)))) × (slice_get m (place_of (variables_of n) y) ≡ Some (pos st.place))) is
+    (ap (option_map class_and_type) (place_is_declared n), ap (slice_get m) (place_stands_at n) ∙ slice_get-of m 0 (pos 0) (omega (arith, st.long)) ∙ ap Some st.holds)
+
+pub state_of : (n : NumberedPlant) → IsNameText n.name → (U C : ℕ) (m : Memory) (s : State) → Stands n m s → StateOf (face_of n) (system_of_numbered n) (program_of n U C) m s
+state_of n letters U C m s st =
+    let held = place_held n U C m s st (name_for letter.L 0 n.name) (place_name-is n letters) in
+    subst (λ t. StateOf (face_of n) (system_of_numbered n) (program_of n U C) m t) (sym st.is) record {
+      places = (record { is_declared = held.0; holds = held.1 }, tt);
+      values = tt;
+      inputs = tt;
+      is_state = record { places = (omega (arith, st.within), tt); values = tt; inputs = tt };
+    }
+
+abbrev InType : StTy → ℤ → Type 0
+InType t z = IsTrue (in_range (range_of t) z)
 
 in_types : (n : NumberedPlant) (U C : ℕ) (m : Memory) (s : State) → Stands n m s → AreInTypes (program_of n U C) m
 in_types n U C [] s st = absurd (omega (arith, st.long))
@@ -48,30 +112,29 @@ in_types n U C (a ∷ b ∷ []) s st = absurd (omega (arith, st.long))
 in_types n U C (a ∷ b ∷ d ∷ []) s st = absurd (omega (arith, st.long))
 in_types n U C (a ∷ b ∷ d ∷ e ∷ f ∷ m) s st = absurd (omega (arith, st.long))
 in_types n U C (a ∷ b ∷ d ∷ e ∷ []) s st = (
-  subst (λ z. IsOfType (ty.Range (pos 0) (pos (n.places - 1))) z) (sym st.holds) (place_fits n st.place st.within),
+  subst (InType (ty.Range (pos 0) (pos (n.places - 1)))) (sym st.holds) (place_fits n st.place st.within),
   (
-    subst (λ z. IsOfType ty.Bool z) (sym st.mark_is) (truth st.mark),
+    subst (InType ty.Bool) (sym st.mark_is) (truth_in_type st.mark),
     (
-      subst (λ z. IsOfType ty.Lint z) (sym st.count_is) (lt-ltb st.count (2 ^ 63) st.count_small),
-      (subst (λ z. IsOfType (ty.Range (pos 0) (pos (n.places - 1))) z) (sym st.shown_is) (place_fits n st.shown st.shown_within), tt),
+      subst (InType ty.Lint) (sym st.count_is) (count_in_type st.count st.count_small),
+      (subst (InType (ty.Range (pos 0) (pos (n.places - 1)))) (sym st.shown_is) (place_fits n st.shown st.shown_within), tt),
     ),
   ),
 )
-  where
-    truth : (x : Bool) → IsOfType ty.Bool (of_bool x)
-    truth false = inl refl
-    truth true = inr refl
+
+shows : (n : NumberedPlant) (U C : ℕ) (m : Memory) (s : State) → Stands n m s → ShowsPlace m s → Shows (system_of_numbered n) (program_of n U C) m s
+shows n U C [] s st sh = absurd (omega (arith, st.long))
+shows n U C (a ∷ []) s st sh = absurd (omega (arith, st.long))
+shows n U C (a ∷ b ∷ []) s st sh = absurd (omega (arith, st.long))
+shows n U C (a ∷ b ∷ d ∷ []) s st sh = absurd (omega (arith, st.long))
+shows n U C (a ∷ b ∷ d ∷ e ∷ f ∷ m) s st sh = absurd (omega (arith, st.long))
+shows n U C (a ∷ b ∷ d ∷ e ∷ []) s st sh =
+    ap (λ z. z ∷ []) sh.shown ∙ ap (λ t. seen_values (outputs (system_of_numbered n) t)) (sym sh.is)
 
 -- ---- the ends of a scan
 
 abbrev InRange : NumberedPlant → List ℤ → Type 0
 InRange n row = AllFit (system_of_numbered n).inputs row
-
--- the output shows the place
-pub record ShowsPlace (m : Memory) (s : State) : Type 0 where
-  pub place : ℕ
-  pub is : s ≡ at place
-  pub shown : get_or m 3 (pos 0) ≡ pos place
 
 store_nothing : (n : NumberedPlant) (m : Memory) → store_row (variables_of n) [] m ≡ m
 store_nothing n [] = refl
@@ -100,21 +163,10 @@ ends n h = record { latched = latched; written = written }
 
 -- ---- scans
 
--- a memory that stands for a state and shows its output
-pub record Shown (n : NumberedPlant) (m : Memory) (s : State) : Type 0 where
-  pub stands : Stands n m s
-  pub shows : ShowsPlace m s
-
--- one scan, whose turns are enough for the bounds
-record OneScan (n : NumberedPlant) (U C : ℕ) (m : Memory) (row : List ℤ) (s : State) : Type 0 where
-  left : ℕ
-  after : Memory
-  ends : scan_of (program_of n U C) m row ≡ Ended left after
-  shown : Shown n after (exact_scan (system_of_numbered n) s row U C)
-
-one_scan : (n : NumberedPlant) (h : IsNumbered n) (U C : ℕ) → U + C ≤ turns_of_scan → (m : Memory) (row : List ℤ) (s : State) → InRange n row → Stands n m s → OneScan n U C m row s
+one_scan : (n : NumberedPlant) (h : IsNumbered n) (U C : ℕ) → U + C ≤ turns_of_scan → (m : Memory) (row : List ℤ) (s : State) → InRange n row → Stands n m s
+    → OneScan (face_of n) (system_of_numbered n) (program_of n U C) (Stands n) ShowsPlace U C m row s
 one_scan n h U C enough m row s in_range st =
-    let scanned = framed_events_scan_exactly (variables_of n) 1 2 (loop_vars n) (system_of_numbered n) (Stands n) (body_of n) (frames n h) no_stms (outputs_of n) (InRange n) ShowsPlace
+    let scanned = frame-scans (variables_of n) 1 2 (loop_vars n) (system_of_numbered n) (Stands n) (body_of n) (frames n h) no_stms (outputs_of n) (InRange n) ShowsPlace
     (ends n h) U C turns_of_scan row m s in_range st (omega arith) (omega arith) enough in
     let unc_events : of_class (system_of_numbered n) unc ≡ events_of c.Uncontrollable n = of_class-is n c.Uncontrollable in
     let con_events : of_class (system_of_numbered n) con ≡ events_of c.Controllable n = of_class-is n c.Controllable in
@@ -124,33 +176,11 @@ one_scan n h U C enough m row s in_range st =
       ends = ap (λ es. exec (variables_of n) (frame no_stms (body_of n) es (events_of c.Controllable n) U C (outputs_of n)) turns_of_scan (store_row (variables_of n) row m)) (sym unc_events)
           ∙ ap (λ es. exec (variables_of n) (frame no_stms (body_of n) (of_class (system_of_numbered n) unc) es U C (outputs_of n)) turns_of_scan (store_row (variables_of n) row m)) (sym con_events)
           ∙ scanned.ends;
-      shown = record { stands = scanned.stands; shows = scanned.shows };
+      stands = scanned.stands;
+      shown = scanned.shows;
     }
 
-holds : (n : NumberedPlant) (U C : ℕ) (m : Memory) (s : State) → Shown n m s → Holds n (program_of n U C) m s
-holds n U C m s sh = record {
-  state = state_of n U C m s sh.stands;
-  shows = record {
-    place = sh.shows.place;
-    holds = ap (slice_get m) (output_stands_at n) ∙ slice_get-is m 3 (omega (arith, sh.stands.long)) ∙ ap Some sh.shows.shown;
-    is = ap (λ (t : State). t.locs) sh.shows.is;
-  };
-  typed = in_types n U C m s sh.stands;
-}
-
--- from any memory that stands for a state
-scans_lead : (n : NumberedPlant) (h : IsNumbered n) (U C : ℕ) → U + C ≤ turns_of_scan → (R : State → List ℤ → State → Type 0)
-    → ((s : State) (row : List ℤ) → R s row (exact_scan (system_of_numbered n) s row U C))
-    → (rows : List (List ℤ)) → AreRows (system_of_numbered n) rows → (m : Memory) (s : State) → Stands n m s
-    → Leads R (Holds n (program_of n U C)) s rows (later_memories (program_of n U C) m rows)
-scans_lead n h U C enough R leads [] in_range m s st = refl
-scans_lead n h U C enough R leads (row ∷ rows) in_range m s st =
-    let one = one_scan n h U C enough m row s in_range.0 st in
-    let next = exact_scan (system_of_numbered n) s row U C in
-    subst (λ o. Leads R (Holds n (program_of n U C)) s (row ∷ rows) (when_ended o (λ after. after ∷ later_memories (program_of n U C) after rows))) (sym one.ends)
-    (next, leads s row, holds n U C one.after next one.shown, scans_lead n h U C enough R leads rows in_range.1 one.after next one.shown.stands)
-
-starts : (n : NumberedPlant) (U C : ℕ) → IsNumbered n → Stands n (start_memory (program_of n U C)) (initial (system_of_numbered n))
+pub starts : (n : NumberedPlant) (U C : ℕ) → IsNumbered n → Stands n (start_memory (program_of n U C)) (initial (system_of_numbered n))
 starts n U C h = record {
   long = refl;
   place = n.first;
@@ -167,7 +197,15 @@ starts n U C h = record {
   shown_is = refl;
 }
 
--- Whatever the exact scan is, each scan of the program is.
-pub all_scans : (n : NumberedPlant) → IsNumbered n → (U C : ℕ) → U + C ≤ turns_of_scan → (R : State → List ℤ → State → Type 0)
-    → ((s : State) (row : List ℤ) → R s row (exact_scan (system_of_numbered n) s row U C)) → AllScans n (program_of n U C) R
-all_scans n h U C enough R leads rows in_range = scans_lead n h U C enough R leads rows in_range (start_memory (program_of n U C)) (initial (system_of_numbered n)) (starts n U C h)
+module _ (n : NumberedPlant) (h : IsNumbered n) (letters : IsNameText n.name) (U C : ℕ) (enough : U + C ≤ turns_of_scan) where
+  scanning : Scanning (face_of n) (system_of_numbered n) (program_of n U C) (Stands n) ShowsPlace U C
+  scanning = record { one = one_scan n h U C enough; state = state_of n letters U C; shows = shows n U C; typed = in_types n U C }
+
+  pub plant-exact : ScansExactly U C (face_of n) (system_of_numbered n) (program_of n U C)
+  plant-exact = all-exact (face_of n) (system_of_numbered n) (program_of n U C) (Stands n) ShowsPlace U C scanning (starts n U C h)
+
+  pub plant-shows : ShowsOutputs (face_of n) (system_of_numbered n) (program_of n U C)
+  plant-shows = all-show (face_of n) (system_of_numbered n) (program_of n U C) (Stands n) ShowsPlace U C scanning (starts n U C h)
+
+  pub plant-typed : StaysTyped (system_of_numbered n) (program_of n U C)
+  plant-typed = all-typed (face_of n) (system_of_numbered n) (program_of n U C) (Stands n) ShowsPlace U C scanning (starts n U C h)

@@ -5,12 +5,12 @@ use Rattle.std.proofs.lemmas.List.{drop_more, drop_all}
 use Rattle.std.proofs.lemmas.Option.{slice_get-get_or}
 use Rattle.grammar.specs.Pieces.{Text}
 use Rattle.cif_plant.specs.declared.plant.Class.{Class}
-use Rattle.cif_plant.specs.declared.numbered.Move.{Move}
+use Rattle.cif_plant.specs.declared.numbered.NumberedEdge.{NumberedEdge}
 use Rattle.cif_plant.specs.declared.numbered.NumberedPlant.{NumberedPlant}
 use Rattle.st_ast.specs.Tree.{Stms, append}
 use Rattle.st_ast.specs.View.{view_stmts}
 use Rattle.st_ast.specs.declared.tree.Stmt.{Stmt}
-use Rattle.plc_gen.specs.Frame.{tries_of}
+use Rattle.plc_face.specs.Frame.{tries_of}
 use Rattle.plc_gen.specs.Emitted.{is_of, events_from, place_name, event_of, body_of, moves_of}
 use Rattle.plc_gen.specs.Buckets.{AreBuckets}
 use Rattle.plc_gen.proofs.Building.{view-append, append-assoc, append-none}
@@ -50,7 +50,7 @@ tries-done body k classes i all past =
     ap (λ (cs : List Class). append (view_stmts all) (tries_of body (events_from k i cs))) (drop_all i classes past) ∙ append-none (view_stmts all)
 
 -- the statements of the edges in an event's bucket are the event's
-pub bucket-body : (n : NumberedPlant) (buckets : List (List Move)) (e : ℕ) (bucket : List Move) (place : Text) (body : Stms) → AreBuckets n buckets
+pub bucket-body : (n : NumberedPlant) (buckets : List (List NumberedEdge)) (e : ℕ) (bucket : List NumberedEdge) (place : Text) (body : Stms) → AreBuckets n buckets
     → e < length n.classes → bucket ≡ get_or buckets e bucket → place ≡ place_name n → body ≡ event_of place bucket → body ≡ body_of n e
 bucket-body n buckets e bucket place body held numbered bucket_is place_is body_is =
     let found : Some bucket ≡ Some (moves_of n e) =

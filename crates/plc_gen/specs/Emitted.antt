@@ -8,9 +8,9 @@ use Rattle.st_ast.specs.declared.tree.StLit.TheVariants as lit
 use Rattle.st_ast.specs.declared.tree.StClass.TheVariants as class
 use Rattle.cif_plant.specs.declared.plant.Class.{Class}
 use Rattle.cif_plant.specs.declared.plant.Class.TheVariants as c
-use Rattle.cif_plant.specs.declared.numbered.Move.{Move}
+use Rattle.cif_plant.specs.declared.numbered.NumberedEdge.{NumberedEdge}
 use Rattle.cif_plant.specs.declared.numbered.NumberedPlant.{NumberedPlant}
-use Rattle.plc_gen.specs.Frame.{fired, rounds_made, frame}
+use Rattle.plc_face.specs.Frame.{fired, rounds_made, frame}
 
 -- A variable's name: a letter, the number of what it stands for, `_` and the path. A path of letters alone, at most 40 of
 -- them, stands as it is. L is the location of an automaton, and P the output that shows it; the automaton's number is 0.
@@ -35,22 +35,22 @@ abbrev pub events_of : Class → NumberedPlant → List ℕ
 events_of k n = events_from k 0 n.classes
 
 -- the edges of an event in the order of the text
-abbrev pub moves_of : NumberedPlant → ℕ → List Move
-moves_of n e = filter (λ (m : Move). nat_eq m.event e) n.moves
+abbrev pub moves_of : NumberedPlant → ℕ → List NumberedEdge
+moves_of n e = filter (λ (m : NumberedEdge). nat_eq m.event e) n.moves
 
 -- where the automaton is in the edge's location, it goes to its end
-abbrev pub stands_at : Text → Move → Expr
+abbrev pub stands_at : Text → NumberedEdge → Expr
 stands_at place m = equal (named place) true (number (pos m.from))
 
-abbrev pub taking : Text → Move → Stms
+abbrev pub taking : Text → NumberedEdge → Stms
 taking place m = stms (assign place (number (pos m.to))) (stms (assign fired (truth true)) no_stms)
 
-abbrev pub move_branches : Text → List Move → Branches
+abbrev pub move_branches : Text → List NumberedEdge → Branches
 move_branches place [] = no_branches
 move_branches place (m ∷ ms) = branches (stands_at place m) (taking place m) (move_branches place ms)
 
 -- the first edge that leaves the location; no statement where the event has no edge
-abbrev pub event_of : Text → List Move → Stms
+abbrev pub event_of : Text → List NumberedEdge → Stms
 event_of place [] = no_stms
 event_of place (m ∷ ms) = stms (choice (move_branches place (m ∷ ms)) no_other) no_stms
 

@@ -1,5 +1,3 @@
 pub mod Buckets
 pub mod Emitted
-pub mod Frame
 pub mod Interface
-pub mod Scans

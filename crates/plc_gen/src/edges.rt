@@ -5,11 +5,11 @@ ghost use Rattle.cif_plant.specs.Meaning.{IsNumbered};
 ghost use Rattle.plc_gen.specs.Buckets.{AreBuckets};
 
 use cif_base::{Items, Memory};
-use cif_plant::{Move, NumberedPlant};
+use cif_plant::{NumberedEdge, NumberedPlant};
 use std::alloc::Global;
 
 /// Lists without an edge, as many as that.
-fn empty_buckets(alloc: Global, number: usize) -> Result<Vec<Items<Move>>, Memory>
+fn empty_buckets(alloc: Global, number: usize) -> Result<Vec<Items<NumberedEdge>>, Memory>
     ensures { IfOk result (λ buckets. buckets.items ≡ replicate number []) }
 {
     let mut buckets = Vec::new(alloc);
@@ -20,7 +20,10 @@ fn empty_buckets(alloc: Global, number: usize) -> Result<Vec<Items<Move>>, Memor
 }
 
 /// For each event the list of its edges, in one pass over all edges.
-pub fn edges_by_event(alloc: Global, plant: &NumberedPlant) -> Result<Vec<Items<Move>>, Memory>
+pub fn edges_by_event(
+    alloc: Global,
+    plant: &NumberedPlant,
+) -> Result<Vec<Items<NumberedEdge>>, Memory>
     requires { IsNumbered plant.now }
     ensures { IfOk result (λ buckets. AreBuckets plant.now buckets.items) }
 {

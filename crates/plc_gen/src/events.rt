@@ -6,12 +6,12 @@ ghost use Rattle.plc_gen.specs.Emitted.{stands_at, taking, move_branches, event_
 
 use crate::frame::marking;
 use cif_base::{Boxed, Items, Memory, Text};
-use cif_plant::Move;
+use cif_plant::NumberedEdge;
 use st_ast::{StBranch, StExpr, Stmt};
 use std::alloc::Global;
 
 /// Whether the automaton is where the edge begins.
-fn standing_at(alloc: Global, place: &Text, edge: Move) -> Result<StExpr, Memory>
+fn standing_at(alloc: Global, place: &Text, edge: NumberedEdge) -> Result<StExpr, Memory>
     ensures { IfOk result (λ e. view_expr e ≡ stands_at place.now edge) }
 {
     let left = Boxed::new(alloc, StExpr::Named(place.copy(alloc)?))?;
@@ -24,7 +24,7 @@ fn standing_at(alloc: Global, place: &Text, edge: Move) -> Result<StExpr, Memory
 }
 
 /// Goes to where the edge ends, and marks that something fired.
-fn firing(alloc: Global, place: &Text, edge: Move) -> Result<Items<Stmt>, Memory>
+fn firing(alloc: Global, place: &Text, edge: NumberedEdge) -> Result<Items<Stmt>, Memory>
     ensures { IfOk result (λ ss. view_stmts ss ≡ taking place.now edge) }
 {
     let target = place.copy(alloc)?;
@@ -38,7 +38,7 @@ fn firing(alloc: Global, place: &Text, edge: Move) -> Result<Items<Stmt>, Memory
     Ok(body)
 }
 
-fn branch(alloc: Global, place: &Text, edge: Move) -> Result<StBranch, Memory>
+fn branch(alloc: Global, place: &Text, edge: NumberedEdge) -> Result<StBranch, Memory>
     ensures { IfOk result (λ b. view_branch b ≡ (stands_at place.now edge, taking place.now edge)) }
 {
     let cond = standing_at(alloc, place, edge)?;
@@ -46,7 +46,11 @@ fn branch(alloc: Global, place: &Text, edge: Move) -> Result<StBranch, Memory>
     Ok(StBranch { cond, body })
 }
 
-fn all_branches(alloc: Global, place: &Text, edges: &[Move]) -> Result<Items<StBranch>, Memory>
+fn all_branches(
+    alloc: Global,
+    place: &Text,
+    edges: &[NumberedEdge],
+) -> Result<Items<StBranch>, Memory>
     ensures { IfOk result (λ bs. view_branches bs ≡ move_branches place.now edges.now) }
 {
     let mut all = Items::new(alloc);
@@ -58,7 +62,7 @@ fn all_branches(alloc: Global, place: &Text, edges: &[Move]) -> Result<Items<StB
 
 /// Takes the first of an event's edges that leaves the location in the variable `place`. It is no statement where the
 /// event has no edge.
-pub fn trying(alloc: Global, place: &Text, edges: &[Move]) -> Result<Items<Stmt>, Memory>
+pub fn trying(alloc: Global, place: &Text, edges: &[NumberedEdge]) -> Result<Items<Stmt>, Memory>
     ensures { IfOk result (λ ss. view_stmts ss ≡ event_of place.now edges.now) }
 {
     let mut body = Items::new(alloc);

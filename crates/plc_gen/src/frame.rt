@@ -3,7 +3,7 @@
 ghost use Rattle.std.specs.Prelude.{◌≡◌, IfOk, pos};
 ghost use Rattle.st_ast.specs.Tree.{truth, number, assign};
 ghost use Rattle.st_ast.specs.View.{view_expr, view_stmt, view_stmts};
-ghost use Rattle.plc_gen.specs.Frame.{fired, rounds_made, goes_on, one_more_round, one_round, loop_of};
+ghost use Rattle.plc_face.specs.Frame.{fired, rounds_made, goes_on, one_more_round, one_round, loop_of};
 
 use crate::names::{name_of_counter, name_of_mark};
 use cif_base::{Boxed, Items, Memory};

@@ -8,8 +8,6 @@ mod frame;
 mod names;
 mod program;
 mod scan;
-#[cfg(test)]
-mod tests;
 mod variables;
 
 pub use program::{Bounds, emit};

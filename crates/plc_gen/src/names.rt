@@ -1,7 +1,7 @@
 //! The names of the variables of a program.
 
 ghost use Rattle.std.specs.Prelude.{◌≡◌, IfOk};
-ghost use Rattle.plc_gen.specs.Frame.{fired, rounds_made};
+ghost use Rattle.plc_face.specs.Frame.{fired, rounds_made};
 ghost use Rattle.plc_gen.specs.Emitted.{place_name, output_name};
 
 use cif_base::{Memory, Text};

@@ -4,7 +4,7 @@ ghost use Rattle.std.specs.Prelude.{◌≡◌, ◌<◌, length, IfOk};
 ghost use Rattle.cif_plant.specs.declared.plant.Class.TheVariants as class;
 ghost use Rattle.st_ast.specs.Tree.{no_stms};
 ghost use Rattle.st_ast.specs.View.{view_stmts};
-ghost use Rattle.plc_gen.specs.Frame.{tries_of, loop_of, frame};
+ghost use Rattle.plc_face.specs.Frame.{tries_of, loop_of, frame};
 ghost use Rattle.plc_gen.specs.Emitted.{is_of, events_of, body_of, outputs_of};
 ghost use Rattle.plc_gen.specs.Buckets.{AreBuckets};
 
@@ -13,7 +13,7 @@ use crate::events::trying;
 use crate::frame::rounds;
 use crate::names::{name_of_output, name_of_place};
 use cif_base::{Items, Memory};
-use cif_plant::{Class, Move, NumberedPlant};
+use cif_plant::{Class, NumberedEdge, NumberedPlant};
 use st_ast::{StExpr, Stmt};
 use std::alloc::Global;
 
@@ -28,7 +28,7 @@ fn is_in(class: Class, event: Class) -> bool
 fn event_statements(
     alloc: Global,
     plant: &NumberedPlant,
-    edges: &[Items<Move>],
+    edges: &[Items<NumberedEdge>],
     event: usize,
 ) -> Result<Items<Stmt>, Memory>
     requires by_event { AreBuckets plant.now edges.now }
@@ -43,7 +43,7 @@ fn event_statements(
 fn tries(
     alloc: Global,
     plant: &NumberedPlant,
-    edges: &[Items<Move>],
+    edges: &[Items<NumberedEdge>],
     class: Class,
 ) -> Result<Items<Stmt>, Memory>
     requires { AreBuckets plant.now edges.now }
@@ -62,7 +62,7 @@ fn tries(
 fn class_rounds(
     alloc: Global,
     plant: &NumberedPlant,
-    edges: &[Items<Move>],
+    edges: &[Items<NumberedEdge>],
     class: Class,
     bound: u32,
 ) -> Result<Items<Stmt>, Memory>
@@ -92,7 +92,7 @@ fn outputs(alloc: Global, plant: &NumberedPlant) -> Result<Items<Stmt>, Memory>
 pub fn statements(
     alloc: Global,
     plant: &NumberedPlant,
-    edges: &[Items<Move>],
+    edges: &[Items<NumberedEdge>],
     bounds: Bounds,
 ) -> Result<Items<Stmt>, Memory>
     requires { AreBuckets plant.now edges.now }

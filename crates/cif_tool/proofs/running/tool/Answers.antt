@@ -1,6 +1,9 @@
 use Rattle.std.proofs.Common.{map, string_bytes}
 use Rattle.cif_plant.specs.Numbers.{numbered}
-use Rattle.plc_back.specs.Texts.{TheProgram, IsProgramOf, NeverFaults, RunsFirstSteps, ScansLegally, ScansExactly}
+use Rattle.cif_plant.specs.Meaning.{system_of}
+use Rattle.plc_face.specs.Scans.{IsProgramOf, NeverFaults, RunsFirstSteps, ScansLegally, ScansExactly, ShowsOutputs, StaysTyped}
+use Rattle.plc_gen.specs.Interface.{face_of}
+use Rattle.plc_back.specs.Texts.{TheProgram}
 use Rattle.cif_tool.specs.Answers.{Call}
 use Rattle.cif_tool.proofs.ToolLemmas as tool
 use Rattle.cif_tool.proofs.CompleteLemmas as complete
@@ -117,24 +120,34 @@ returns-clause-told g c = named_told _ _ _ _ _ _ c.run-ended.result.status c.rep
 pub returns-clause-program : goal.returns-clause-program
 unfolding call
 returns-clause-program g c = tool.generated (call g c) c.run-ended.result.status c.report.result c.run-ended.ensures.ran c.report.ensures.unless_memory
-    (λ m p text. TheProgram text (IsProgramOf (numbered p))) (λ m p text h. h.program)
+    (λ m p text. TheProgram text (IsProgramOf (face_of (numbered p)) (system_of p))) (λ m p text h. h.program)
 
 pub returns-clause-never_faults : goal.returns-clause-never_faults
 unfolding call
 returns-clause-never_faults g c = tool.generated (call g c) c.run-ended.result.status c.report.result c.run-ended.ensures.ran c.report.ensures.unless_memory
-    (λ m p text. TheProgram text (NeverFaults (numbered p))) (λ m p text h. h.never_faults)
+    (λ m p text. TheProgram text (NeverFaults (system_of p))) (λ m p text h. h.never_faults)
 
 pub returns-clause-runs_first_steps : goal.returns-clause-runs_first_steps
 unfolding call
 returns-clause-runs_first_steps g c = tool.generated (call g c) c.run-ended.result.status c.report.result c.run-ended.ensures.ran c.report.ensures.unless_memory
-    (λ m p text. TheProgram text (RunsFirstSteps (numbered p))) (λ m p text h. h.runs_first_steps)
+    (λ m p text. TheProgram text (RunsFirstSteps (face_of (numbered p)) (system_of p))) (λ m p text h. h.runs_first_steps)
 
 pub returns-clause-scans_legally : goal.returns-clause-scans_legally
 unfolding call
 returns-clause-scans_legally g c = tool.generated (call g c) c.run-ended.result.status c.report.result c.run-ended.ensures.ran c.report.ensures.unless_memory
-    (λ m p text. TheProgram text (ScansLegally m.unc m.con (numbered p))) (λ m p text h. h.scans_legally)
+    (λ m p text. TheProgram text (ScansLegally m.unc m.con (face_of (numbered p)) (system_of p))) (λ m p text h. h.scans_legally)
 
 pub returns-clause-scans_exactly : goal.returns-clause-scans_exactly
 unfolding call
 returns-clause-scans_exactly g c = tool.generated (call g c) c.run-ended.result.status c.report.result c.run-ended.ensures.ran c.report.ensures.unless_memory
-    (λ m p text. TheProgram text (ScansExactly m.unc m.con (numbered p))) (λ m p text h. h.scans_exactly)
+    (λ m p text. TheProgram text (ScansExactly m.unc m.con (face_of (numbered p)) (system_of p))) (λ m p text h. h.scans_exactly)
+
+pub returns-clause-shows_outputs : goal.returns-clause-shows_outputs
+unfolding call
+returns-clause-shows_outputs g c = tool.generated (call g c) c.run-ended.result.status c.report.result c.run-ended.ensures.ran c.report.ensures.unless_memory
+    (λ m p text. TheProgram text (ShowsOutputs (face_of (numbered p)) (system_of p))) (λ m p text h. h.shows_outputs)
+
+pub returns-clause-stays_typed : goal.returns-clause-stays_typed
+unfolding call
+returns-clause-stays_typed g c = tool.generated (call g c) c.run-ended.result.status c.report.result c.run-ended.ensures.ran c.report.ensures.unless_memory
+    (λ m p text. TheProgram text (StaysTyped (system_of p))) (λ m p text h. h.stays_typed)

@@ -1,7 +1,7 @@
 use Rattle.std.proofs.Common.{◌≡◌, drop}
 use Rattle.st_ast.specs.Tree.{append}
 use Rattle.st_ast.specs.View.{view_stmts}
-use Rattle.plc_gen.specs.Frame.{tries_of}
+use Rattle.plc_face.specs.Frame.{tries_of}
 use Rattle.plc_gen.specs.Emitted.{body_of, events_from, events_of}
 use Rattle.plc_gen.proofs.scan.tries.Given as goal
 

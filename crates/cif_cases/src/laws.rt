@@ -1,0 +1,19 @@
+//! The laws of the libraries: functions whose contracts are laws, and which do nothing.
+
+use crate::fault::Fault;
+use cif_form::{names_are_letters, numbers_name_things, one_plant};
+use cif_lex::{no_tokens_where_refused, one_token_list, spans_rise};
+use cif_parse::one_tree;
+
+/// `laws`: each is called.
+pub fn laws_case(page: &mut String) -> Result<(), Fault> {
+    one_token_list();
+    no_tokens_where_refused();
+    spans_rise();
+    one_tree();
+    one_plant();
+    names_are_letters();
+    numbers_name_things();
+    page.push_str("  called\n")?;
+    Ok(())
+}

@@ -1,0 +1,342 @@
+//! Cases of whole CIF sources.
+
+use crate::declarations::{decl_word, put_decls};
+use crate::expressions::{put_shape, put_tree};
+use crate::fault::Fault;
+use crate::fields::Fields;
+use crate::page::put_text;
+use crate::told::{Put, put_lex_error, put_parse_error};
+use cif_ast::{
+    AutoBody, Body, Decl, Edge, EventUse, Expr, Ident, Inv, Item, Loc, Name, Role, Spec, Update,
+    UpdateBranch,
+};
+use cif_base::Items;
+use cif_lex::{LexErr, lex};
+use cif_parse::{ParseErr, parse};
+use std::alloc::Global;
+
+/// The most bytes of a source.
+const MOST_BYTES: usize = 4_194_304;
+
+/// Why a text has no tree.
+#[derive(Clone, Copy)]
+pub enum NoTree {
+    TooLong,
+    Lex(LexErr),
+    Parse(ParseErr),
+}
+
+/// The tree of a text.
+pub fn spec_of(alloc: Global, text: &[u8]) -> Result<Spec, NoTree> {
+    if text.len() > MOST_BYTES {
+        return Err(NoTree::TooLong);
+    }
+    match lex(alloc, text) {
+        Err(error) => Err(NoTree::Lex(error)),
+        Ok(tokens) => match parse(alloc, text, tokens.as_slice()) {
+            Ok(spec) => Ok(spec),
+            Err(error) => Err(NoTree::Parse(error)),
+        },
+    }
+}
+
+pub fn put_no_tree(page: &mut String, why: NoTree) -> Put {
+    page.push_str("  ")?;
+    match why {
+        NoTree::TooLong => page.push_str("too long")?,
+        NoTree::Lex(error) => put_lex_error(page, error)?,
+        NoTree::Parse(error) => put_parse_error(page, error)?,
+    }
+    page.push('\n')
+}
+
+/// What is printed of a tree.
+#[derive(Clone, Copy)]
+pub enum Sight {
+    Items,
+    Automaton,
+    Location,
+    Edge,
+    Choice,
+    Outline,
+    Shape,
+    Tree,
+    Copy,
+}
+
+/// A case of a whole source.
+pub fn source_case(fields: &Fields<'_>, page: &mut String, sight: Sight) -> Result<(), Fault> {
+    let text = fields.text()?;
+    match spec_of(fields.alloc, text.as_slice()) {
+        Err(why) => put_no_tree(page, why)?,
+        Ok(spec) => put_sight(fields.alloc, page, sight, spec.items.as_slice())?,
+    }
+    Ok(())
+}
+
+fn put_sight(alloc: Global, page: &mut String, sight: Sight, items: &[Item]) -> Result<(), Fault> {
+    match sight {
+        Sight::Items => put_item_line(page, items)?,
+        Sight::Outline => put_outline(page, items)?,
+        Sight::Automaton => match automaton_of(items) {
+            Some(body) => put_automaton(page, body)?,
+            None => page.push_str("  no automaton\n")?,
+        },
+        Sight::Location => put_location(page, items)?,
+        Sight::Edge => put_edge(page, items)?,
+        Sight::Choice => put_choice(page, items)?,
+        Sight::Shape | Sight::Tree | Sight::Copy => match value_of(items) {
+            Some(value) => put_value(alloc, page, sight, value)?,
+            None => page.push_str("  no value\n")?,
+        },
+    }
+    Ok(())
+}
+
+/// The word of an item, with that of its body where it has one.
+fn item_word(item: &Item) -> &'static str {
+    match item {
+        Item::Decl(decl) => decl_word(decl),
+        Item::Comp(comp) => match comp.body {
+            Body::Group(_) => "group",
+            Body::Auto(_) => "automaton",
+        },
+        Item::Def(_) => "def",
+        Item::Inst(_) => "instance",
+    }
+}
+
+fn put_items(page: &mut String, items: &[Item]) -> Put {
+    if items.is_empty() {
+        page.push_str("none")?;
+    }
+    let mut gap = "";
+    for item in items {
+        page.push_str(gap)?;
+        page.push_str(item_word(item))?;
+        gap = " ";
+    }
+    Ok(())
+}
+
+fn put_item_line(page: &mut String, items: &[Item]) -> Put {
+    page.push_str("  ")?;
+    put_items(page, items)?;
+    page.push('\n')
+}
+
+/// The items, and those of each component in them.
+#[cycle(outline)]
+fn put_outline(page: &mut String, items: &[Item]) -> Put {
+    put_item_line(page, items)?;
+    for item in items {
+        put_component(page, item)?;
+    }
+    Ok(())
+}
+
+#[cycle(outline)]
+fn put_component(page: &mut String, item: &Item) -> Put {
+    let Item::Comp(comp) = item else {
+        return Ok(());
+    };
+    page.push_str("  in ")?;
+    put_text(page, comp.name.text.as_slice())?;
+    page.push('\n')?;
+    match &comp.body {
+        Body::Group(items) => put_outline(page, items.as_slice()),
+        Body::Auto(body) => {
+            put_automaton(page, body)?;
+            put_ways(page, body.locs.as_slice())
+        }
+    }
+}
+
+/// The name of each location, and behind it the targets of its edges.
+fn put_ways(page: &mut String, locs: &[Loc]) -> Put {
+    page.push_str("  ways")?;
+    for loc in locs {
+        page.push(' ')?;
+        put_target(page, &loc.name)?;
+        for edge in loc.edges.as_slice() {
+            page.push('>')?;
+            put_target(page, &edge.target)?;
+        }
+    }
+    page.push('\n')
+}
+
+/// A name that may be missing.
+fn put_target(page: &mut String, name: &Option<Ident>) -> Put {
+    match name {
+        Some(name) => put_text(page, name.text.as_slice()),
+        None => page.push('-'),
+    }
+}
+
+/// How many names there are where they are declared.
+fn put_count(page: &mut String, names: &Option<Items<Name>>) -> Put {
+    match names {
+        Some(names) => {
+            let count = names.len();
+            write!(page, "{count}")
+        }
+        None => page.push('-'),
+    }
+}
+
+fn put_automaton(page: &mut String, body: &AutoBody) -> Put {
+    page.push_str("  ")?;
+    put_decls(page, body.decls.as_slice())?;
+    page.push_str("; alphabet ")?;
+    put_count(page, &body.alphabet)?;
+    page.push_str(", monitor ")?;
+    put_count(page, &body.monitor)?;
+    let count = body.locs.len();
+    write!(page, ", locations {count}\n")
+}
+
+/// The automaton that is the last of some items.
+fn automaton_of(items: &[Item]) -> Option<&AutoBody> {
+    let [.., Item::Comp(comp)] = items else {
+        return None;
+    };
+    match &comp.body {
+        Body::Auto(body) => Some(body),
+        Body::Group(_) => None,
+    }
+}
+
+/// The first location of the automaton that is the last of some items.
+fn location_of(items: &[Item]) -> Option<&Loc> {
+    match automaton_of(items) {
+        Some(body) => body.locs.get(0),
+        None => None,
+    }
+}
+
+fn put_location(page: &mut String, items: &[Item]) -> Put {
+    let Some(loc) = location_of(items) else {
+        return page.push_str("  no location\n");
+    };
+    page.push_str("  ")?;
+    put_target(page, &loc.name)?;
+    if loc.initial {
+        page.push_str(" initial")?;
+    }
+    let (marked, equations, edges) = (loc.marked.len(), loc.equations.len(), loc.edges.len());
+    write!(
+        page,
+        "; marked {marked}, equations {equations}, edges {edges}\n"
+    )
+}
+
+/// The first edge of the first location of the automaton that is the last of some items.
+fn edge_of(items: &[Item]) -> Option<&Edge> {
+    match location_of(items) {
+        Some(loc) => loc.edges.get(0),
+        None => None,
+    }
+}
+
+/// What an automaton does with each event: `=` where it synchronises, `!1` where it sends a value.
+fn put_roles(page: &mut String, uses: &[EventUse]) -> Put {
+    for one in uses {
+        page.push_str(match &one.role {
+            Role::Sync => " =",
+            Role::Send(None) => " !",
+            Role::Send(Some(_)) => " !1",
+            Role::Recv => " ?",
+        })?;
+    }
+    Ok(())
+}
+
+/// The form of each update.
+fn put_updates(page: &mut String, updates: &[Update]) -> Put {
+    for update in updates {
+        page.push_str(match update {
+            Update::Set { .. } => " :=",
+            Update::If { .. } => " if",
+        })?;
+    }
+    Ok(())
+}
+
+fn put_edge(page: &mut String, items: &[Item]) -> Put {
+    let Some(edge) = edge_of(items) else {
+        return page.push_str("  no edge\n");
+    };
+    page.push_str("  uses")?;
+    put_roles(page, edge.uses.as_slice())?;
+    let guards = edge.guards.len();
+    write!(page, ", guards {guards}, do")?;
+    put_updates(page, edge.updates.as_slice())?;
+    page.push_str(", goto ")?;
+    put_target(page, &edge.target)?;
+    page.push('\n')
+}
+
+/// How many conditions and updates there are in branches.
+fn parts(branches: &[UpdateBranch]) -> (usize, usize) {
+    let mut conds = 0usize;
+    let mut updates = 0usize;
+    for branch in branches {
+        conds = conds.saturating_add(branch.conds.len());
+        updates = updates.saturating_add(branch.updates.len());
+    }
+    (conds, updates)
+}
+
+/// The `if` update that is the first of an edge.
+fn put_choice(page: &mut String, items: &[Item]) -> Put {
+    let Some(edge) = edge_of(items) else {
+        return page.push_str("  no edge\n");
+    };
+    let Some(Update::If { branches, other }) = edge.updates.get(0) else {
+        return page.push_str("  no choice\n");
+    };
+    let count = branches.len();
+    let (conds, updates) = parts(branches.as_slice());
+    write!(
+        page,
+        "  branches {count}, conditions {conds}, updates {updates}, else"
+    )?;
+    put_updates(page, other.as_slice())?;
+    page.push('\n')
+}
+
+/// The value or the predicate of the last of some items, if that is a declaration that has one.
+fn value_of(items: &[Item]) -> Option<&Expr> {
+    let [.., Item::Decl(decl)] = items else {
+        return None;
+    };
+    match decl {
+        Decl::Const { value, .. } => Some(value),
+        Decl::Alg { value, .. } => value.as_ref(),
+        Decl::Equation { value, .. } => Some(value),
+        Decl::Inv(Inv::State(p)) => Some(p),
+        Decl::Marked(p) => Some(p),
+        _ => None,
+    }
+}
+
+/// Whether the copy of an expression is printed as the expression is.
+fn is_copied(alloc: Global, value: &Expr) -> Result<bool, Fault> {
+    let copy = value.copy(alloc)?;
+    let first = format!(in alloc; "{value:?}")?;
+    let second = format!(in alloc; "{copy:?}")?;
+    Ok(first.as_str() == second.as_str())
+}
+
+fn put_value(alloc: Global, page: &mut String, sight: Sight, value: &Expr) -> Result<(), Fault> {
+    page.push_str("  ")?;
+    match sight {
+        Sight::Tree => put_tree(page, value)?,
+        Sight::Copy if is_copied(alloc, value)? => page.push_str("the same")?,
+        Sight::Copy => page.push_str("another")?,
+        _ => put_shape(page, value)?,
+    }
+    page.push('\n')?;
+    Ok(())
+}

@@ -1,0 +1,10 @@
+pub mod Source
+pub mod Components
+pub mod Lookup
+pub mod Objects
+pub mod Slots
+pub mod Value
+pub mod Types
+pub mod Step
+pub mod Uses
+pub mod Scoping

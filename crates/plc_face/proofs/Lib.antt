@@ -1,0 +1,9 @@
+pub mod Example
+pub mod FaceLaws
+pub mod Framed
+pub mod FrameLaw
+pub mod Latches
+pub mod NameLaws
+pub mod Rows
+pub mod ScanLaws
+pub mod Tidying
