@@ -1,0 +1,4 @@
+pub mod Lists
+pub mod SearchLaws
+pub mod OrderLaws
+pub mod SpreadLaws
