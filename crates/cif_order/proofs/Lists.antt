@@ -50,18 +50,6 @@ pub distinct-apart : {A : Type 0} (x : A) (xs : List A) → AreDistinct (xs ++ x
 distinct-apart x [] h m = m
 distinct-apart x (y ∷ xs) h m = elim m [ inl e ↦ h.0 (subst (λ z. Member z (xs ++ x ∷ [])) e (member-last x xs)) | inr w ↦ distinct-apart x xs h.1 w ]
 
-pub push-same : {A : Type 0} (xs ys : List A) (x y : A) → xs ++ x ∷ [] ≡ ys ++ y ∷ [] → (xs ≡ ys) × (x ≡ y)
-push-same [] [] x y h = (refl, cc)
-push-same [] (b ∷ []) x y h = absurd cc
-push-same [] (b ∷ c ∷ ys) x y h = absurd cc
-push-same (a ∷ []) [] x y h = absurd cc
-push-same (a ∷ c ∷ xs) [] x y h = absurd cc
-push-same (a ∷ xs) (b ∷ ys) x y h =
-    let tails : xs ++ x ∷ [] ≡ ys ++ y ∷ [] = cc in
-    let heads : a ≡ b = cc in
-    let r = push-same xs ys x y tails in
-    let e : xs ≡ ys = r.0 in (cc, r.1)
-
 -- ---- one written element
 
 pub written-same : {A : Type 0} (xs : List A) (k : ℕ) (x : A) → k < length xs → slice_get (slice_set xs k x) k ≡ Some x

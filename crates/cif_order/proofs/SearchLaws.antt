@@ -1,6 +1,6 @@
 -- What the steps of the search keep.
 use Rattle.std.proofs.Common.{◌≡◌, ◌≢◌, ℕ, zero, suc, ◌+◌, ◌<◌, ◌≤◌, inl, inr, List, [], ◌∷◌, ◌++◌, length, take, Some, refl, sym, ◌∙◌, ap, subst, arith}
-use Rattle.std.specs.Prelude.{slice_get, slice_set, slice_index_or}
+use Rattle.std.specs.Prelude.{slice_get, slice_set}
 use Rattle.std.proofs.Math.ListN.{length-set}
 use Rattle.cif_system.specs.Words.{Member, Before, Chain, one}
 use Rattle.cif_system.proofs.Lists.{none-some, some-same}
@@ -141,12 +141,6 @@ last-open needs marks front path order z m s e at =
 
 pub last-inside : (needs : List (List ℕ)) (marks : List Mark) (front path order : List ℕ) (z : ℕ) → IsSound needs marks path order → path ≡ front ++ z ∷ [] → z < length marks
 last-inside needs marks front path order z s e = let o = s.opened z (subst (Member z) (sym e) (member-last z front)) in get-within marks z (Open o.0) o.1
-
--- what is read at a place is the list of needs there
-pub needs-read : (needs : List (List ℕ)) (z : ℕ) (ys : List ℕ) → z < length needs → ys ≡ slice_index_or needs z ys → needs_of needs z ≡ ys
-needs-read [] z ys inside h = absurd (omega arith)
-needs-read (xs ∷ needs) zero ys inside h = sym h
-needs-read (xs ∷ needs) (suc z) ys inside h = needs-read needs z ys (omega arith) h
 
 -- ---- the steps
 

@@ -32,7 +32,7 @@ fn first_cyclic(alloc: Global, needs: &[Items<u32>]) -> Result<Option<u32>, Memo
 {
     let mut spread = Spread::new(alloc, needs.len())?;
     for start in 0..needs.len() {
-        if spread.returns(needs, start as u32)? {
+        if spread.reaches_itself(needs, start as u32)? {
             return Ok(Some(start as u32));
         }
     }
@@ -57,7 +57,7 @@ impl Spread {
     }
 
     /// Whether needs lead from the node back to it.
-    fn returns(&mut self, needs: &[Items<u32>], start: u32) -> Result<bool, Memory>
+    fn reaches_itself(&mut self, needs: &[Items<u32>], start: u32) -> Result<bool, Memory>
         requires inside { AreInside needs.now }
         requires start { start < length needs.now }
         requires sized { length self.old.met ≡ length needs.now }

@@ -1,5 +1,5 @@
 use Rattle.cif_order.specs.Spread.{IsSpread, visits_left}
-use Rattle.cif_order.proofs.cycles.Spread.returns.Given as goal
+use Rattle.cif_order.proofs.cycles.Spread.reaches_itself.Given as goal
 
 abbrev pub invariant-loop-node : goal.invariant-loop-node
 invariant-loop-node l = IsSpread l.needs l.start l.self.met l.self.waiting
