@@ -1,5 +1,5 @@
 -- Where needs have an order no node reaches itself, and places in the order are ranks.
-use Rattle.std.proofs.Common.{◌≡◌, ◌≢◌, ℕ, zero, suc, ◌<◌, ◌≤◌, true, false, cond, eqb, inl, inr, List, [], ◌∷◌, length, Some, refl, ap, subst, arith}
+use Rattle.std.proofs.Common.{◌≡◌, ◌≢◌, ℕ, zero, suc, ◌<◌, ◌≤◌, true, false, cond, eqb, inl, inr, List, [], ◌∷◌, length, replicate, Some, refl, sym, ap, subst, arith}
 use Rattle.std.specs.Prelude.{slice_get}
 use Rattle.std.specs.List.{IsDistinct, AllByRecursion, list_any}
 use Rattle.std.proofs.lemmas.Bool.{eq-eqb, ne_eqb}
@@ -118,3 +118,34 @@ order-whole needs marks path order s empty begun = record {
 
     each : (x : ℕ) → x < length needs → Member x order
     each x h = let m = marked marks x (omega (arith, s.sized)) in by_mark x h m.0 m.1
+
+-- the search starts with new nodes alone
+all-new : (x n : ℕ) (m : Mark) → slice_get (replicate n New) x ≡ Some m → m ≡ New
+all-new x zero m h = absurd cc
+all-new zero (suc n) m h = cc
+all-new (suc x) (suc n) m h = all-new x n m h
+
+replicate-length : (n : ℕ) (m : Mark) → length (replicate n m) ≡ n
+replicate-length zero m = refl
+replicate-length (suc n) m = omega (arith, replicate-length n m)
+
+pub start-sound : (needs : List (List ℕ)) (marks : List Mark) (path order : List ℕ) → marks ≡ replicate (length needs) New → path ≡ [] → order ≡ [] → IsSound needs marks path order
+start-sound needs marks path order m p o =
+    subst (λ v. IsSound needs v path order) (sym m) (subst (λ v. IsSound needs news v order) (sym p) (subst (IsSound needs news []) (sym o) first))
+  where
+    news : List Mark
+    news = replicate (length needs) New
+
+    first : IsSound needs (replicate (length needs) New) [] []
+    first = record {
+      sized = replicate-length (length needs) New;
+      opened = λ x h. absurd h;
+      on_path = λ x k h. absurd (let e = all-new x (length needs) (Open k) h in cc);
+      done = λ x h. absurd h;
+      listed = λ x h. absurd (let e = all-new x (length needs) Done h in cc);
+      path_once = tt;
+      order_once = tt;
+      chained = λ x y h. absurd h;
+      partly = λ x k y h m. absurd (let e = all-new x (length needs) (Open k) h in cc);
+      after = λ x y h n. absurd h;
+    }
