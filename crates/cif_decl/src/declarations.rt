@@ -11,7 +11,7 @@ use crate::types::type_use;
 use crate::values::{Algebraic, Constant, Discrete, Input, Marking, NamedType};
 use cif_ast::Decl;
 use cif_base::Items;
-use cif_expr::{Read, expr, ident, ids, separated, sign, starts, word};
+use cif_expr::{Read, expr, ident, ids, separated_boxes, sign, starts, word};
 use cif_lex::{Mark, Token, TokenKind, Word};
 use std::alloc::Global;
 
@@ -20,7 +20,7 @@ fn type_declaration<'a>(alloc: Global, text: &[u8], tokens: &'a [Token]) -> Read
     ensures { Gives (λ x. (x.0, x.1.now)) result (reading.type_declaration_at text.now tokens.now) }
 {
     let (_type, rest) = word(tokens, Word::Type)?;
-    let (found, rest) = separated(&NamedType, alloc, text, Mark::Comma, rest)?;
+    let (found, rest) = separated_boxes(&NamedType, alloc, text, Mark::Comma, rest)?;
     let (_end, rest) = sign(rest, Mark::Semicolon)?;
     Ok((found, rest))
 }
@@ -54,7 +54,13 @@ fn const_declaration<'a>(alloc: Global, text: &[u8], tokens: &'a [Token]) -> Rea
 {
     let (_const, rest) = word(tokens, Word::Const)?;
     let (ty, rest) = type_use(alloc, text, rest)?;
-    let (found, rest) = separated(&Constant { ty: &ty }, alloc, text, Mark::Comma, rest)?;
+    let (found, rest) = separated_boxes(
+        &Constant { ty: ty.get() },
+        alloc,
+        text,
+        Mark::Comma,
+        rest,
+    )?;
     let (_end, rest) = sign(rest, Mark::Semicolon)?;
     Ok((found, rest))
 }
@@ -65,7 +71,13 @@ fn alg_declaration<'a>(alloc: Global, text: &[u8], tokens: &'a [Token]) -> Read<
 {
     let (_alg, rest) = word(tokens, Word::Alg)?;
     let (ty, rest) = type_use(alloc, text, rest)?;
-    let (found, rest) = separated(&Algebraic { ty: &ty }, alloc, text, Mark::Comma, rest)?;
+    let (found, rest) = separated_boxes(
+        &Algebraic { ty: ty.get() },
+        alloc,
+        text,
+        Mark::Comma,
+        rest,
+    )?;
     let (_end, rest) = sign(rest, Mark::Semicolon)?;
     Ok((found, rest))
 }
@@ -76,7 +88,7 @@ fn input_declaration<'a>(alloc: Global, text: &[u8], tokens: &'a [Token]) -> Rea
 {
     let (_input, rest) = word(tokens, Word::Input)?;
     let (ty, rest) = type_use(alloc, text, rest)?;
-    let (found, rest) = separated(&Input { ty: &ty }, alloc, text, Mark::Comma, rest)?;
+    let (found, rest) = separated_boxes(&Input { ty: ty.get() }, alloc, text, Mark::Comma, rest)?;
     let (_end, rest) = sign(rest, Mark::Semicolon)?;
     Ok((found, rest))
 }
@@ -92,7 +104,13 @@ pub fn disc_declaration<'a>(
 {
     let (_disc, rest) = word(tokens, Word::Disc)?;
     let (ty, rest) = type_use(alloc, text, rest)?;
-    let (found, rest) = separated(&Discrete { ty: &ty }, alloc, text, Mark::Comma, rest)?;
+    let (found, rest) = separated_boxes(
+        &Discrete { ty: ty.get() },
+        alloc,
+        text,
+        Mark::Comma,
+        rest,
+    )?;
     let (_end, rest) = sign(rest, Mark::Semicolon)?;
     Ok((found, rest))
 }
@@ -107,6 +125,7 @@ fn equation<'a>(alloc: Global, text: &[u8], tokens: &'a [Token]) -> Read<'a, Ite
     let (value, rest) = expr(alloc, text, rest)?;
     let (_end, rest) = sign(rest, Mark::Semicolon)?;
     let mut all = Items::new(alloc);
+    let value = value.into_inner();
     all.push(Decl::Equation { name, value })?;
     Ok((all, rest))
 }
@@ -116,7 +135,7 @@ fn marked_declaration<'a>(alloc: Global, text: &[u8], tokens: &'a [Token]) -> Re
     ensures { Gives (λ x. (x.0, x.1.now)) result (reading.marked_declaration_at text.now tokens.now) }
 {
     let (_marked, rest) = word(tokens, Word::Marked)?;
-    let (found, rest) = separated(&Marking, alloc, text, Mark::Comma, rest)?;
+    let (found, rest) = separated_boxes(&Marking, alloc, text, Mark::Comma, rest)?;
     let (_end, rest) = sign(rest, Mark::Semicolon)?;
     Ok((found, rest))
 }

@@ -6,10 +6,10 @@ ghost use Rattle.cif_decl.specs.Reading as reading;
 ghost use Rattle.cif_decl.specs.Trees as tree;
 
 use crate::sight::is_bare;
-use crate::types::channel;
+use crate::types::{channel, channel_again};
 use cif_ast::{Chan, Class, Decl, Param};
-use cif_base::Items;
-use cif_expr::{Part, Read, any_of, code, ident, separated};
+use cif_base::{Boxed, Items};
+use cif_expr::{Part, Read, any_of, code, ident, separated_boxes};
 use cif_lex::{Mark, Token, TokenKind, Word};
 use std::alloc::Global;
 
@@ -50,7 +50,7 @@ struct Event<'c> {
 }
 
 impl<'c> Part for Event<'c> {
-    type Tree = Decl;
+    type Tree = Boxed<Decl>;
 
     ghost use Rattle.cif_decl.specs.Reading as reading;
     ghost use Rattle.cif_decl.specs.Trees as tree;
@@ -58,11 +58,12 @@ impl<'c> Part for Event<'c> {
     ghost tree_at = { λ s text. reading.made_at text (tree.event s.class s.chan.now) };
 
     #[tactic(auto, unfolding(crate::specs::Reading::made_at))]
-    fn read<'a>(&self, alloc: Global, text: &[u8], tokens: &'a [Token]) -> Read<'a, Decl> {
+    fn read<'a>(&self, alloc: Global, text: &[u8], tokens: &'a [Token]) -> Read<'a, Boxed<Decl>> {
         let (name, rest) = ident(alloc, text, tokens)?;
-        let chan = self.chan.copy(alloc)?;
+        let chan = channel_again(alloc, self.chan)?.into_inner();
         let class = self.class;
-        Ok((Decl::Event { class, chan, name }, rest))
+        let found = Boxed::new(alloc, Decl::Event { class, chan, name })?;
+        Ok((found, rest))
     }
 }
 
@@ -74,7 +75,7 @@ struct EventParameter<'c> {
 }
 
 impl<'c> Part for EventParameter<'c> {
-    type Tree = Param;
+    type Tree = Boxed<Param>;
 
     ghost use Rattle.cif_decl.specs.Reading as reading;
     ghost use Rattle.cif_decl.specs.Trees as tree;
@@ -82,11 +83,12 @@ impl<'c> Part for EventParameter<'c> {
     ghost tree_at = { λ s text. reading.made_at text (tree.event_parameter s.class s.chan.now) };
 
     #[tactic(auto, unfolding(crate::specs::Reading::made_at))]
-    fn read<'a>(&self, alloc: Global, text: &[u8], tokens: &'a [Token]) -> Read<'a, Param> {
+    fn read<'a>(&self, alloc: Global, text: &[u8], tokens: &'a [Token]) -> Read<'a, Boxed<Param>> {
         let (name, rest) = ident(alloc, text, tokens)?;
-        let chan = self.chan.copy(alloc)?;
+        let chan = channel_again(alloc, self.chan)?.into_inner();
         let class = self.class;
-        Ok((Param::Event { class, chan, name }, rest))
+        let found = Boxed::new(alloc, Param::Event { class, chan, name })?;
+        Ok((found, rest))
     }
 }
 
@@ -103,11 +105,14 @@ fn channelled<'a>(
     if is_bare(tokens) {
         let chan = Chan::No;
         let part = Event { class, chan: &chan };
-        return separated(&part, alloc, text, Mark::Comma, tokens);
+        return separated_boxes(&part, alloc, text, Mark::Comma, tokens);
     }
     let (chan, rest) = channel(alloc, text, tokens)?;
-    let part = Event { class, chan: &chan };
-    separated(&part, alloc, text, Mark::Comma, rest)
+    let part = Event {
+        class,
+        chan: chan.get(),
+    };
+    separated_boxes(&part, alloc, text, Mark::Comma, rest)
 }
 
 /// Event parameters of a class, with a channel or without.
@@ -123,11 +128,14 @@ fn channelled_parameters<'a>(
     if is_bare(tokens) {
         let chan = Chan::No;
         let part = EventParameter { class, chan: &chan };
-        return separated(&part, alloc, text, Mark::Comma, tokens);
+        return separated_boxes(&part, alloc, text, Mark::Comma, tokens);
     }
     let (chan, rest) = channel(alloc, text, tokens)?;
-    let part = EventParameter { class, chan: &chan };
-    separated(&part, alloc, text, Mark::Comma, rest)
+    let part = EventParameter {
+        class,
+        chan: chan.get(),
+    };
+    separated_boxes(&part, alloc, text, Mark::Comma, rest)
 }
 
 /// Events with the word before them.

@@ -2,15 +2,17 @@
 
 ghost use Rattle.std.specs.Prelude.{◌≡◌, IfOk};
 ghost use Rattle.cif_lex.specs.declared.token.Word.TheVariants as word;
+ghost use Rattle.cif_ast.specs.declared.declarations.Inv.TheVariants as inv;
+ghost use Rattle.cif_ast.specs.declared.declarations.Decl.TheVariants as decl;
 ghost use Rattle.cif_expr.specs.Gives.{Gives};
 ghost use Rattle.cif_expr.specs.Reading as expressions;
 ghost use Rattle.cif_decl.specs.Reading as reading;
 
 use crate::sight::is_labelled;
-use cif_ast::{Decl, Inv, Name};
-use cif_base::{Items, Memory};
+use cif_ast::{Decl, Expr, Inv, Name};
+use cif_base::{Boxed, Items, Memory};
 use cif_expr::{
-    Part, Read, ReadError, any_of, expr, ident, name, names, separated, sign, starts, word,
+    Part, Read, ReadError, any_of, expr, ident, name, names, separated_boxes, sign, starts, word,
 };
 use cif_lex::{Mark, Token, TokenKind, Word};
 use std::alloc::Global;
@@ -66,24 +68,28 @@ fn event_names<'a>(alloc: Global, text: &[u8], tokens: &'a [Token]) -> Read<'a, 
 
 /// The name of an event before `needs`, and the predicate.
 #[tactic(auto, unfolding(crate::specs::Reading::needs_at))]
-fn single_needs<'a>(alloc: Global, text: &[u8], tokens: &'a [Token]) -> Read<'a, Inv>
+fn single_needs<'a>(alloc: Global, text: &[u8], tokens: &'a [Token]) -> Read<'a, Boxed<Inv>>
     ensures { Gives (λ x. (x.0, x.1.now)) result (reading.needs_at text.now (reading.single_at text.now) tokens.now) }
 {
     let (events, rest) = single(alloc, text, tokens)?;
     let (_needs, rest) = word(rest, Word::Needs)?;
     let (p, rest) = expr(alloc, text, rest)?;
-    Ok((Inv::Needs { events, p }, rest))
+    let p = p.into_inner();
+    let found = Boxed::new(alloc, Inv::Needs { events, p })?;
+    Ok((found, rest))
 }
 
 /// Events in braces before `needs`, and the predicate.
 #[tactic(auto, unfolding(crate::specs::Reading::needs_at))]
-fn braced_needs<'a>(alloc: Global, text: &[u8], tokens: &'a [Token]) -> Read<'a, Inv>
+fn braced_needs<'a>(alloc: Global, text: &[u8], tokens: &'a [Token]) -> Read<'a, Boxed<Inv>>
     ensures { Gives (λ x. (x.0, x.1.now)) result (reading.needs_at text.now (reading.braced_at text.now) tokens.now) }
 {
     let (events, rest) = braced(alloc, text, tokens)?;
     let (_needs, rest) = word(rest, Word::Needs)?;
     let (p, rest) = expr(alloc, text, rest)?;
-    Ok((Inv::Needs { events, p }, rest))
+    let p = p.into_inner();
+    let found = Boxed::new(alloc, Inv::Needs { events, p })?;
+    Ok((found, rest))
 }
 
 /// `disables` and events.
@@ -95,17 +101,39 @@ fn disabled<'a>(alloc: Global, text: &[u8], tokens: &'a [Token]) -> Read<'a, Ite
     event_names(alloc, text, rest)
 }
 
+/// The invariant of the state that a predicate is.
+fn state(alloc: Global, p: Boxed<Expr>) -> Result<Boxed<Inv>, Memory>
+    ensures { IfOk result (λ i. i ≡ inv.State p) }
+{
+    Boxed::new(alloc, Inv::State(p.into_inner()))
+}
+
+/// The invariant that a predicate and the events that it disables are.
+fn disables(alloc: Global, p: Boxed<Expr>, events: Items<Name>) -> Result<Boxed<Inv>, Memory>
+    ensures { IfOk result (λ i. i ≡ inv.Disables p events) }
+{
+    let p = p.into_inner();
+    Boxed::new(alloc, Inv::Disables { p, events })
+}
+
+/// The declaration that an invariant is.
+fn declared(alloc: Global, found: Boxed<Inv>) -> Result<Boxed<Decl>, Memory>
+    ensures { IfOk result (λ d. d ≡ decl.Inv found) }
+{
+    Boxed::new(alloc, Decl::Inv(found.into_inner()))
+}
+
 /// A predicate, and the events that it disables where it does.
 #[tactic(auto, unfolding(crate::specs::Reading::predicate_at))]
-fn predicate<'a>(alloc: Global, text: &[u8], tokens: &'a [Token]) -> Read<'a, Inv>
+fn predicate<'a>(alloc: Global, text: &[u8], tokens: &'a [Token]) -> Read<'a, Boxed<Inv>>
     ensures { Gives (λ x. (x.0, x.1.now)) result (reading.predicate_at text.now tokens.now) }
 {
     let (p, rest) = expr(alloc, text, tokens)?;
     if !starts(rest, &[TokenKind::Reserved(Word::Disables)]) {
-        return Ok((Inv::State(p), rest));
+        return Ok((state(alloc, p)?, rest));
     }
     let (events, rest) = disabled(alloc, text, rest)?;
-    Ok((Inv::Disables { p, events }, rest))
+    Ok((disables(alloc, p, events)?, rest))
 }
 
 /// Whether the name of an event comes, and after it `needs`.
@@ -122,7 +150,7 @@ fn is_before_needs(alloc: Global, text: &[u8], tokens: &[Token]) -> Result<bool,
 
 /// An invariant without a label.
 #[tactic(auto, unfolding(crate::specs::Reading::invariant_at))]
-fn invariant<'a>(alloc: Global, text: &[u8], tokens: &'a [Token]) -> Read<'a, Inv>
+fn invariant<'a>(alloc: Global, text: &[u8], tokens: &'a [Token]) -> Read<'a, Boxed<Inv>>
     ensures { Gives (λ x. (x.0, x.1.now)) result (reading.invariant_at text.now tokens.now) }
 {
     if is_before_needs(alloc, text, tokens)? {
@@ -136,7 +164,7 @@ fn invariant<'a>(alloc: Global, text: &[u8], tokens: &'a [Token]) -> Read<'a, In
 
 /// A label and an invariant.
 #[tactic(auto, unfolding(crate::specs::Reading::labelled_at))]
-fn labelled<'a>(alloc: Global, text: &[u8], tokens: &'a [Token]) -> Read<'a, Inv>
+fn labelled<'a>(alloc: Global, text: &[u8], tokens: &'a [Token]) -> Read<'a, Boxed<Inv>>
     ensures { Gives (λ x. (x.0, x.1.now)) result (reading.labelled_at text.now tokens.now) }
 {
     let (_label, rest) = ident(alloc, text, tokens)?;
@@ -146,7 +174,7 @@ fn labelled<'a>(alloc: Global, text: &[u8], tokens: &'a [Token]) -> Read<'a, Inv
 
 /// An invariant, with a label or without.
 #[tactic(auto, unfolding(crate::specs::Reading::named_invariant_at))]
-fn named_invariant<'a>(alloc: Global, text: &[u8], tokens: &'a [Token]) -> Read<'a, Inv>
+fn named_invariant<'a>(alloc: Global, text: &[u8], tokens: &'a [Token]) -> Read<'a, Boxed<Inv>>
     ensures { Gives (λ x. (x.0, x.1.now)) result (reading.named_invariant_at text.now tokens.now) }
 {
     if is_labelled(tokens) {
@@ -160,16 +188,16 @@ fn named_invariant<'a>(alloc: Global, text: &[u8], tokens: &'a [Token]) -> Read<
 struct NamedInvariantPart;
 
 impl Part for NamedInvariantPart {
-    type Tree = Decl;
+    type Tree = Boxed<Decl>;
 
     ghost use Rattle.cif_decl.specs.Reading as reading;
 
     ghost tree_at = { λ s. reading.named_declared_at };
 
     #[tactic(auto, unfolding(crate::specs::Reading::named_declared_at))]
-    fn read<'a>(&self, alloc: Global, text: &[u8], tokens: &'a [Token]) -> Read<'a, Decl> {
+    fn read<'a>(&self, alloc: Global, text: &[u8], tokens: &'a [Token]) -> Read<'a, Boxed<Decl>> {
         let (found, rest) = named_invariant(alloc, text, tokens)?;
-        Ok((Decl::Inv(found), rest))
+        Ok((declared(alloc, found)?, rest))
     }
 }
 
@@ -177,16 +205,16 @@ impl Part for NamedInvariantPart {
 struct InvariantPart;
 
 impl Part for InvariantPart {
-    type Tree = Decl;
+    type Tree = Boxed<Decl>;
 
     ghost use Rattle.cif_decl.specs.Reading as reading;
 
     ghost tree_at = { λ s. reading.declared_at };
 
     #[tactic(auto, unfolding(crate::specs::Reading::declared_at))]
-    fn read<'a>(&self, alloc: Global, text: &[u8], tokens: &'a [Token]) -> Read<'a, Decl> {
+    fn read<'a>(&self, alloc: Global, text: &[u8], tokens: &'a [Token]) -> Read<'a, Boxed<Decl>> {
         let (found, rest) = invariant(alloc, text, tokens)?;
-        Ok((Decl::Inv(found), rest))
+        Ok((declared(alloc, found)?, rest))
     }
 }
 
@@ -196,7 +224,7 @@ pub fn invariants<'a>(alloc: Global, text: &[u8], tokens: &'a [Token]) -> Read<'
     ensures { Gives (λ x. (x.0, x.1.now)) result (reading.invariants_at text.now tokens.now) }
 {
     let (_invariant, rest) = word(tokens, Word::Invariant)?;
-    let (found, rest) = separated(&NamedInvariantPart, alloc, text, Mark::Comma, rest)?;
+    let (found, rest) = separated_boxes(&NamedInvariantPart, alloc, text, Mark::Comma, rest)?;
     let (_end, rest) = sign(rest, Mark::Semicolon)?;
     Ok((found, rest))
 }
@@ -206,7 +234,7 @@ pub fn invariants<'a>(alloc: Global, text: &[u8], tokens: &'a [Token]) -> Read<'
 fn unnamed_invariants<'a>(alloc: Global, text: &[u8], tokens: &'a [Token]) -> Read<'a, Items<Decl>>
     ensures { Gives (λ x. (x.0, x.1.now)) result (reading.unnamed_invariants_at text.now tokens.now) }
 {
-    let (found, rest) = separated(&InvariantPart, alloc, text, Mark::Comma, tokens)?;
+    let (found, rest) = separated_boxes(&InvariantPart, alloc, text, Mark::Comma, tokens)?;
     let (_end, rest) = sign(rest, Mark::Semicolon)?;
     Ok((found, rest))
 }

@@ -6,10 +6,10 @@ ghost use Rattle.cif_decl.specs.Reading as reading;
 ghost use Rattle.cif_decl.specs.Trees as tree;
 
 use crate::events::event_parameters;
-use crate::types::type_use;
+use crate::types::{type_again, type_use};
 use cif_ast::{Param, TypeUse};
-use cif_base::Items;
-use cif_expr::{Part, Read, ident, joined_list, optional, separated, sign, starts, word};
+use cif_base::{Boxed, Items};
+use cif_expr::{Part, Read, ident, joined_list, optional, separated_boxes, sign, starts, word};
 use cif_lex::{Mark, Token, TokenKind, Word};
 use std::alloc::Global;
 
@@ -20,7 +20,7 @@ struct AlgParameter<'t> {
 }
 
 impl<'t> Part for AlgParameter<'t> {
-    type Tree = Param;
+    type Tree = Boxed<Param>;
 
     ghost use Rattle.cif_decl.specs.Reading as reading;
     ghost use Rattle.cif_decl.specs.Trees as tree;
@@ -28,10 +28,11 @@ impl<'t> Part for AlgParameter<'t> {
     ghost tree_at = { λ s text. reading.made_at text (tree.algebraic_parameter s.ty.now) };
 
     #[tactic(auto, unfolding(crate::specs::Reading::made_at))]
-    fn read<'a>(&self, alloc: Global, text: &[u8], tokens: &'a [Token]) -> Read<'a, Param> {
+    fn read<'a>(&self, alloc: Global, text: &[u8], tokens: &'a [Token]) -> Read<'a, Boxed<Param>> {
         let (name, rest) = ident(alloc, text, tokens)?;
-        let ty = self.ty.copy(alloc)?;
-        Ok((Param::Alg { ty, name }, rest))
+        let ty = type_again(alloc, self.ty)?.into_inner();
+        let found = Boxed::new(alloc, Param::Alg { ty, name })?;
+        Ok((found, rest))
     }
 }
 
@@ -39,7 +40,7 @@ impl<'t> Part for AlgParameter<'t> {
 struct LocationParameter;
 
 impl Part for LocationParameter {
-    type Tree = Param;
+    type Tree = Boxed<Param>;
 
     ghost use Rattle.cif_decl.specs.Reading as reading;
     ghost use Rattle.cif_decl.specs.Trees as tree;
@@ -47,9 +48,9 @@ impl Part for LocationParameter {
     ghost tree_at = { λ s text. reading.made_at text tree.location_parameter };
 
     #[tactic(auto, unfolding(crate::specs::Reading::made_at))]
-    fn read<'a>(&self, alloc: Global, text: &[u8], tokens: &'a [Token]) -> Read<'a, Param> {
+    fn read<'a>(&self, alloc: Global, text: &[u8], tokens: &'a [Token]) -> Read<'a, Boxed<Param>> {
         let (name, rest) = ident(alloc, text, tokens)?;
-        Ok((Param::Location { name }, rest))
+        Ok((Boxed::new(alloc, Param::Location { name })?, rest))
     }
 }
 
@@ -59,7 +60,13 @@ fn alg_parameters<'a>(alloc: Global, text: &[u8], tokens: &'a [Token]) -> Read<'
 {
     let (_alg, rest) = word(tokens, Word::Alg)?;
     let (ty, rest) = type_use(alloc, text, rest)?;
-    separated(&AlgParameter { ty: &ty }, alloc, text, Mark::Comma, rest)
+    separated_boxes(
+        &AlgParameter { ty: ty.get() },
+        alloc,
+        text,
+        Mark::Comma,
+        rest,
+    )
 }
 
 #[tactic(auto, unfolding(crate::specs::Reading::location_parameter_at))]
@@ -71,7 +78,7 @@ fn location_parameters<'a>(
     ensures { Gives (λ x. (x.0, x.1.now)) result (reading.location_parameter_at text.now tokens.now) }
 {
     let (_location, rest) = word(tokens, Word::Location)?;
-    separated(&LocationParameter, alloc, text, Mark::Comma, rest)
+    separated_boxes(&LocationParameter, alloc, text, Mark::Comma, rest)
 }
 
 /// Parameters that stand before a semicolon.

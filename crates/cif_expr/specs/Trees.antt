@@ -78,8 +78,11 @@ least (word, (left, (a, (comma, (b, right))))) = node word.span.from (f.Min a b)
 abbrev pub greatest : Token × (Token × (Expr × (Token × (Expr × Token)))) → Expr
 greatest (word, (left, (a, (comma, (b, right))))) = node word.span.from (f.Max a b)
 
+abbrev pub branch_of : List Expr → Expr → Branch
+branch_of conditions value = roll-Branch (record { conds = conditions; value = value })
+
 abbrev pub branch : List Expr × (Token × Expr) → Branch
-branch (conditions, (colon, value)) = roll-Branch (record { conds = conditions; value = value })
+branch (conditions, (colon, value)) = branch_of conditions value
 
 abbrev pub choice : Token × (List Branch × Expr) → Expr
 choice (word, (branches, other)) = node word.span.from (f.If branches other)
@@ -100,8 +103,11 @@ negation (word, e) = node word.span.from (f.Not e)
 abbrev pub mul_op : TokenKind → MulOp
 mul_op k = if code k == code (Reserved w.Div) then mul.Div else (if code k == code (Reserved w.Mod) then mul.Mod else mul.Times)
 
+abbrev pub factor_of : MulOp → Expr → Factor
+factor_of op e = roll-Factor (record { op = op; value = e })
+
 abbrev pub factor : Token × Expr → Factor
-factor (sign, e) = roll-Factor (record { op = mul_op sign.kind; value = e })
+factor (sign, e) = factor_of (mul_op sign.kind) e
 
 abbrev pub product : Expr → List Factor → Expr
 product first rest = node (place first) (f.Product first rest)
@@ -109,8 +115,11 @@ product first rest = node (place first) (f.Product first rest)
 abbrev pub is_minus : TokenKind → Bool
 is_minus k = code k == code (Sign m.Minus)
 
+abbrev pub term_of : Bool → Expr → Term
+term_of minus e = roll-Term (record { minus = minus; value = e })
+
 abbrev pub term : Token × Expr → Term
-term (sign, e) = roll-Term (record { minus = is_minus sign.kind; value = e })
+term (sign, e) = term_of (is_minus sign.kind) e
 
 abbrev pub sum : Expr → List Term → Expr
 sum first rest = node (place first) (f.Sum first rest)

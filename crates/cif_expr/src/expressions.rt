@@ -8,16 +8,16 @@ ghost use Rattle.cif_expr.specs.Reading as reading;
 use crate::error::ReadError;
 use crate::levels::{Grammar, MAX_DEPTH};
 use crate::operands::un;
-use crate::parts::{Part, separated};
+use crate::parts::{Part, separated_boxes};
 use crate::tokens::Read;
 use cif_ast::Expr;
-use cif_base::Items;
+use cif_base::{Boxed, Items};
 use cif_lex::{Mark, Token};
 use std::alloc::Global;
 
 /// An expression at the front, of depth at most 100. Where it is deeper, its first token is told.
 #[tactic(auto, unfolding(crate::specs::Reading::expr_at))]
-pub fn expr<'a>(alloc: Global, text: &[u8], tokens: &'a [Token]) -> Read<'a, Expr>
+pub fn expr<'a>(alloc: Global, text: &[u8], tokens: &'a [Token]) -> Read<'a, Boxed<Expr>>
     ensures { Gives (λ x. (x.0, x.1.now)) result (reading.expr_at text.now tokens.now) }
 {
     let fuel = MAX_DEPTH + 1;
@@ -39,13 +39,13 @@ pub fn expr<'a>(alloc: Global, text: &[u8], tokens: &'a [Token]) -> Read<'a, Exp
 pub struct ExprPart;
 
 impl Part for ExprPart {
-    type Tree = Expr;
+    type Tree = Boxed<Expr>;
 
     ghost use Rattle.cif_expr.specs.Reading as reading;
 
     ghost tree_at = { λ s. reading.expr_at };
 
-    fn read<'a>(&self, alloc: Global, text: &[u8], tokens: &'a [Token]) -> Read<'a, Expr> {
+    fn read<'a>(&self, alloc: Global, text: &[u8], tokens: &'a [Token]) -> Read<'a, Boxed<Expr>> {
         expr(alloc, text, tokens)
     }
 }
@@ -55,7 +55,7 @@ impl Part for ExprPart {
 pub fn expr_list<'a>(alloc: Global, text: &[u8], tokens: &'a [Token]) -> Read<'a, Items<Expr>>
     ensures { Gives (λ x. (x.0, x.1.now)) result (parts.expr_list_at text.now tokens.now) }
 {
-    separated(&ExprPart, alloc, text, Mark::Comma, tokens)
+    separated_boxes(&ExprPart, alloc, text, Mark::Comma, tokens)
 }
 
 /// Expressions with commas between them, as a part.

@@ -58,135 +58,182 @@ fn place(e: &Expr) -> u32
     e.at
 }
 
-pub fn product(alloc: Global, first: Expr, rest: Items<Factor>) -> Result<Expr, Memory>
+/// A form with its place, in a box: a tree is handed on in one until it has its place, since a `Result` with all forms of an
+/// expression in it is slow to check.
+pub fn node(alloc: Global, form: Form, at: u32) -> Result<Boxed<Expr>, Memory>
+    ensures { IfOk result (λ e. e ≡ tree.node at form) }
+{
+    Boxed::new(alloc, Expr { form, at })
+}
+
+pub fn factor(alloc: Global, op: MulOp, value: Boxed<Expr>) -> Result<Boxed<Factor>, Memory>
+    ensures { IfOk result (λ f. f ≡ tree.factor_of op value) }
+{
+    let value = value.into_inner();
+    Boxed::new(alloc, Factor { op, value })
+}
+
+pub fn term(alloc: Global, minus: bool, value: Boxed<Expr>) -> Result<Boxed<Term>, Memory>
+    ensures { IfOk result (λ t. t ≡ tree.term_of minus value) }
+{
+    let value = value.into_inner();
+    Boxed::new(alloc, Term { minus, value })
+}
+
+pub fn product(
+    alloc: Global,
+    first: Boxed<Expr>,
+    rest: Items<Factor>,
+) -> Result<Boxed<Expr>, Memory>
     ensures { IfOk result (λ e. e ≡ tree.product first rest) }
 {
-    let at = place(&first);
-    let first = Boxed::new(alloc, first)?;
+    let at = place(first.get());
     let rest = fitted(rest);
-    let form = Form::Product { first, rest };
-    Ok(Expr { form, at })
+    node(alloc, Form::Product { first, rest }, at)
 }
 
-pub fn sum(alloc: Global, first: Expr, rest: Items<Term>) -> Result<Expr, Memory>
+pub fn sum(alloc: Global, first: Boxed<Expr>, rest: Items<Term>) -> Result<Boxed<Expr>, Memory>
     ensures { IfOk result (λ e. e ≡ tree.sum first rest) }
 {
-    let at = place(&first);
-    let first = Boxed::new(alloc, first)?;
+    let at = place(first.get());
     let rest = fitted(rest);
-    let form = Form::Sum { first, rest };
-    Ok(Expr { form, at })
+    node(alloc, Form::Sum { first, rest }, at)
 }
 
-pub fn comparison(alloc: Global, left: Expr, sign: &Token, right: Expr) -> Result<Expr, Memory>
+pub fn comparison(
+    alloc: Global,
+    left: Boxed<Expr>,
+    sign: &Token,
+    right: Boxed<Expr>,
+) -> Result<Boxed<Expr>, Memory>
     ensures { IfOk result (λ e. e ≡ tree.comparison left (sign.now, right)) }
 {
-    let at = place(&left);
+    let at = place(left.get());
     let op = cmp_op(sign.kind);
-    let left = Boxed::new(alloc, left)?;
-    let right = Boxed::new(alloc, right)?;
-    let form = Form::Compare { left, op, right };
-    Ok(Expr { form, at })
+    node(alloc, Form::Compare { left, op, right }, at)
 }
 
-fn joined(alloc: Global, first: Expr, rest: Items<Expr>) -> Result<Items<Expr>, Memory>
+fn joined(alloc: Global, first: Boxed<Expr>, rest: Items<Expr>) -> Result<Items<Expr>, Memory>
     ensures { IfOk result (λ all. all ≡ first ∷ rest) }
 {
     let mut all = Items::new(alloc);
-    all.push(first)?;
+    all.push(first.into_inner())?;
     all.append(rest)?;
     Ok(fitted(all))
 }
 
-pub fn conjunction(alloc: Global, first: Expr, rest: Items<Expr>) -> Result<Expr, Memory>
+pub fn conjunction(
+    alloc: Global,
+    first: Boxed<Expr>,
+    rest: Items<Expr>,
+) -> Result<Boxed<Expr>, Memory>
     ensures { IfOk result (λ e. e ≡ tree.conjunction first rest) }
 {
-    let at = place(&first);
-    let form = Form::And(joined(alloc, first, rest)?);
-    Ok(Expr { form, at })
+    let at = place(first.get());
+    let all = joined(alloc, first, rest)?;
+    node(alloc, Form::And(all), at)
 }
 
-pub fn disjunction(alloc: Global, first: Expr, rest: Items<Expr>) -> Result<Expr, Memory>
+pub fn disjunction(
+    alloc: Global,
+    first: Boxed<Expr>,
+    rest: Items<Expr>,
+) -> Result<Boxed<Expr>, Memory>
     ensures { IfOk result (λ e. e ≡ tree.disjunction first rest) }
 {
-    let at = place(&first);
-    let form = Form::Or(joined(alloc, first, rest)?);
-    Ok(Expr { form, at })
+    let at = place(first.get());
+    let all = joined(alloc, first, rest)?;
+    node(alloc, Form::Or(all), at)
 }
 
-pub fn implication(alloc: Global, left: Expr, sign: &Token, right: Expr) -> Result<Expr, Memory>
+pub fn implication(
+    alloc: Global,
+    left: Boxed<Expr>,
+    sign: &Token,
+    right: Boxed<Expr>,
+) -> Result<Boxed<Expr>, Memory>
     ensures { IfOk result (λ e. e ≡ tree.implication left (sign.now, right)) }
 {
-    let at = place(&left);
-    let left = Boxed::new(alloc, left)?;
-    let right = Boxed::new(alloc, right)?;
-    let form = if code(sign.kind) == code(TokenKind::Sign(Mark::Implies)) {
-        Form::Implies(left, right)
+    let at = place(left.get());
+    if code(sign.kind) == code(TokenKind::Sign(Mark::Implies)) {
+        node(alloc, Form::Implies(left, right), at)
     } else {
-        Form::Iff(left, right)
-    };
-    Ok(Expr { form, at })
+        node(alloc, Form::Iff(left, right), at)
+    }
 }
 
 // ---- operands, each with the place where it begins
 
-pub fn negative(alloc: Global, at: u32, inner: Expr) -> Result<Expr, Memory>
+pub fn negative(alloc: Global, at: u32, inner: Boxed<Expr>) -> Result<Boxed<Expr>, Memory>
     ensures { IfOk result (λ e. e ≡ tree.node at (f.Neg inner)) }
 {
-    let form = Form::Neg(Boxed::new(alloc, inner)?);
-    Ok(Expr { form, at })
+    node(alloc, Form::Neg(inner), at)
 }
 
-pub fn positive(alloc: Global, at: u32, inner: Expr) -> Result<Expr, Memory>
+pub fn positive(alloc: Global, at: u32, inner: Boxed<Expr>) -> Result<Boxed<Expr>, Memory>
     ensures { IfOk result (λ e. e ≡ tree.node at (f.Plus inner)) }
 {
-    let form = Form::Plus(Boxed::new(alloc, inner)?);
-    Ok(Expr { form, at })
+    node(alloc, Form::Plus(inner), at)
 }
 
-pub fn negation(alloc: Global, at: u32, inner: Expr) -> Result<Expr, Memory>
+pub fn negation(alloc: Global, at: u32, inner: Boxed<Expr>) -> Result<Boxed<Expr>, Memory>
     ensures { IfOk result (λ e. e ≡ tree.node at (f.Not inner)) }
 {
-    let form = Form::Not(Boxed::new(alloc, inner)?);
-    Ok(Expr { form, at })
+    node(alloc, Form::Not(inner), at)
 }
 
-pub fn paren(alloc: Global, at: u32, inner: Expr) -> Result<Expr, Memory>
+pub fn paren(alloc: Global, at: u32, inner: Boxed<Expr>) -> Result<Boxed<Expr>, Memory>
     ensures { IfOk result (λ e. e ≡ tree.node at (f.Paren inner)) }
 {
-    let form = Form::Paren(Boxed::new(alloc, inner)?);
-    Ok(Expr { form, at })
+    node(alloc, Form::Paren(inner), at)
 }
 
-pub fn absolute(alloc: Global, at: u32, inner: Expr) -> Result<Expr, Memory>
+pub fn absolute(alloc: Global, at: u32, inner: Boxed<Expr>) -> Result<Boxed<Expr>, Memory>
     ensures { IfOk result (λ e. e ≡ tree.node at (f.Abs inner)) }
 {
-    let form = Form::Abs(Boxed::new(alloc, inner)?);
-    Ok(Expr { form, at })
+    node(alloc, Form::Abs(inner), at)
 }
 
-pub fn least(alloc: Global, at: u32, first: Expr, other: Expr) -> Result<Expr, Memory>
+pub fn least(
+    alloc: Global,
+    at: u32,
+    first: Boxed<Expr>,
+    other: Boxed<Expr>,
+) -> Result<Boxed<Expr>, Memory>
     ensures { IfOk result (λ e. e ≡ tree.node at (f.Min first other)) }
 {
-    let first = Boxed::new(alloc, first)?;
-    let other = Boxed::new(alloc, other)?;
-    let form = Form::Min(first, other);
-    Ok(Expr { form, at })
+    node(alloc, Form::Min(first, other), at)
 }
 
-pub fn greatest(alloc: Global, at: u32, first: Expr, other: Expr) -> Result<Expr, Memory>
+pub fn greatest(
+    alloc: Global,
+    at: u32,
+    first: Boxed<Expr>,
+    other: Boxed<Expr>,
+) -> Result<Boxed<Expr>, Memory>
     ensures { IfOk result (λ e. e ≡ tree.node at (f.Max first other)) }
 {
-    let first = Boxed::new(alloc, first)?;
-    let other = Boxed::new(alloc, other)?;
-    let form = Form::Max(first, other);
-    Ok(Expr { form, at })
+    node(alloc, Form::Max(first, other), at)
 }
 
-pub fn choice(alloc: Global, at: u32, branches: Items<Branch>, other: Expr) -> Result<Expr, Memory>
+pub fn branch(
+    alloc: Global,
+    conds: Items<Expr>,
+    value: Boxed<Expr>,
+) -> Result<Boxed<Branch>, Memory>
+    ensures { IfOk result (λ b. b ≡ tree.branch_of conds value) }
+{
+    let value = value.into_inner();
+    Boxed::new(alloc, Branch { conds, value })
+}
+
+pub fn choice(
+    alloc: Global,
+    at: u32,
+    branches: Items<Branch>,
+    other: Boxed<Expr>,
+) -> Result<Boxed<Expr>, Memory>
     ensures { IfOk result (λ e. e ≡ tree.node at (f.If branches other)) }
 {
-    let other = Boxed::new(alloc, other)?;
-    let form = Form::If { branches, other };
-    Ok(Expr { form, at })
+    node(alloc, Form::If { branches, other }, at)
 }

@@ -10,11 +10,11 @@ ghost use Rattle.cif_expr.specs.ReadsUn.{ReadsUn};
 
 use crate::error::ReadError;
 use crate::forms::{
-    comparison, conjunction, disjunction, implication, is_minus, mul_op, product, sum,
+    comparison, conjunction, disjunction, factor, implication, is_minus, mul_op, product, sum, term,
 };
 use crate::tokens::{Read, any_of, starts, word};
 use cif_ast::{Expr, Factor, Term};
-use cif_base::Items;
+use cif_base::{Boxed, Items};
 use cif_lex::{Mark, Token, TokenKind, Word};
 use std::alloc::Global;
 
@@ -34,7 +34,7 @@ pub struct Grammar<'t, F> {
 
 /// One more level.
 #[tactic(auto, unfolding(grammar::specs::Reader::level))]
-pub fn level(e: Expr, depth: u8, rest: &[Token]) -> Read<'_, (Expr, u8)>
+pub fn level(e: Boxed<Expr>, depth: u8, rest: &[Token]) -> Read<'_, (Boxed<Expr>, u8)>
     ensures { Gives (λ x. (x.0, x.1.now)) result (reader.level 100 e depth rest.now) }
 {
     if depth < MAX_DEPTH {
@@ -51,16 +51,16 @@ impl<
         &'t [u8],
         &'a [Token],
         u8,
-    ) -> Result<((Expr, u8), &'a [Token]), ReadError>,
+    ) -> Result<((Boxed<Expr>, u8), &'a [Token]), ReadError>,
 > Grammar<'t, F> {
-    fn operand<'a>(&self, tokens: &'a [Token]) -> Read<'a, (Expr, u8)>
+    fn operand<'a>(&self, tokens: &'a [Token]) -> Read<'a, (Boxed<Expr>, u8)>
         requires { ReadsUn self.now.text self.now.fuel (F.pre self.now.un) (F.post self.now.un) }
         ensures { Gives (λ x. (x.0, x.1.now)) result (reading.un_at self.now.text.now self.now.fuel tokens.now) }
     {
         (self.un)(self.alloc, self.text, tokens, self.fuel)
     }
 
-    pub fn inner_operand<'a>(&self, tokens: &'a [Token]) -> Read<'a, (Expr, u8)>
+    pub fn inner_operand<'a>(&self, tokens: &'a [Token]) -> Read<'a, (Boxed<Expr>, u8)>
         requires { ReadsUn self.now.text self.now.fuel (F.pre self.now.un) (F.post self.now.un) }
         ensures { Gives (λ x. (x.0, x.1.now)) result (reader.inside 100 (reading.un_at self.now.text.now self.now.fuel) tokens.now) }
     {
@@ -70,7 +70,7 @@ impl<
 
     /// A further operand of a product.
     #[tactic(auto, unfolding(crate::specs::Reading::factor_at))]
-    fn factor<'a>(&self, tokens: &'a [Token]) -> Read<'a, (Factor, u8)>
+    fn factor<'a>(&self, tokens: &'a [Token]) -> Read<'a, (Boxed<Factor>, u8)>
         requires { ReadsUn self.now.text self.now.fuel (F.pre self.now.un) (F.post self.now.un) }
         ensures { Gives (λ x. (x.0, x.1.now)) result (reading.factor_at (reading.un_at self.now.text.now self.now.fuel) tokens.now) }
     {
@@ -84,7 +84,7 @@ impl<
         )?;
         let ((value, depth), rest) = self.inner_operand(rest)?;
         let op = mul_op(sign.kind);
-        Ok(((Factor { op, value }, depth), rest))
+        Ok(((factor(self.alloc, op, value)?, depth), rest))
     }
 
     /// The operands of a product after the first.
@@ -108,7 +108,7 @@ impl<
                 return Ok(((found, deep), rest));
             }
             let ((item, depth), left) = self.factor(rest)?;
-            found.push(item)?;
+            found.push(item.into_inner())?;
             deep = deep.max(depth);
             rest = left;
         }
@@ -117,7 +117,7 @@ impl<
 
     /// A product, or an operand alone.
     #[tactic(auto, using(grammar::proofs::Loops::chained_more), unfolding(crate::specs::Reading::prod_from))]
-    fn prod<'a>(&self, tokens: &'a [Token]) -> Read<'a, (Expr, u8)>
+    fn prod<'a>(&self, tokens: &'a [Token]) -> Read<'a, (Boxed<Expr>, u8)>
         requires { ReadsUn self.now.text self.now.fuel (F.pre self.now.un) (F.post self.now.un) }
         ensures { Gives (λ x. (x.0, x.1.now)) result (reading.prod_from (reading.un_at self.now.text.now self.now.fuel) tokens.now) }
     {
@@ -130,7 +130,7 @@ impl<
         Ok(((product(self.alloc, first, more)?, depth.max(deep)), rest))
     }
 
-    fn inner_prod<'a>(&self, tokens: &'a [Token]) -> Read<'a, (Expr, u8)>
+    fn inner_prod<'a>(&self, tokens: &'a [Token]) -> Read<'a, (Boxed<Expr>, u8)>
         requires { ReadsUn self.now.text self.now.fuel (F.pre self.now.un) (F.post self.now.un) }
         ensures { Gives (λ x. (x.0, x.1.now)) result (reader.inside 100 (reading.prod_from (reading.un_at self.now.text.now self.now.fuel)) tokens.now) }
     {
@@ -140,7 +140,7 @@ impl<
 
     /// A further operand of a sum.
     #[tactic(auto, unfolding(crate::specs::Reading::term_at))]
-    fn term<'a>(&self, tokens: &'a [Token]) -> Read<'a, (Term, u8)>
+    fn term<'a>(&self, tokens: &'a [Token]) -> Read<'a, (Boxed<Term>, u8)>
         requires { ReadsUn self.now.text self.now.fuel (F.pre self.now.un) (F.post self.now.un) }
         ensures { Gives (λ x. (x.0, x.1.now)) result (reading.term_at (reading.un_at self.now.text.now self.now.fuel) tokens.now) }
     {
@@ -150,7 +150,7 @@ impl<
         )?;
         let ((value, depth), rest) = self.inner_prod(rest)?;
         let minus = is_minus(sign.kind);
-        Ok(((Term { minus, value }, depth), rest))
+        Ok(((term(self.alloc, minus, value)?, depth), rest))
     }
 
     /// The operands of a sum after the first.
@@ -170,7 +170,7 @@ impl<
                 return Ok(((found, deep), rest));
             }
             let ((item, depth), left) = self.term(rest)?;
-            found.push(item)?;
+            found.push(item.into_inner())?;
             deep = deep.max(depth);
             rest = left;
         }
@@ -179,7 +179,7 @@ impl<
 
     /// A sum, or an operand alone.
     #[tactic(auto, using(grammar::proofs::Loops::chained_more), unfolding(crate::specs::Reading::sum_from))]
-    fn sum<'a>(&self, tokens: &'a [Token]) -> Read<'a, (Expr, u8)>
+    fn sum<'a>(&self, tokens: &'a [Token]) -> Read<'a, (Boxed<Expr>, u8)>
         requires { ReadsUn self.now.text self.now.fuel (F.pre self.now.un) (F.post self.now.un) }
         ensures { Gives (λ x. (x.0, x.1.now)) result (reading.sum_from (reading.un_at self.now.text.now self.now.fuel) tokens.now) }
     {
@@ -192,7 +192,7 @@ impl<
         Ok(((sum(self.alloc, first, more)?, depth.max(deep)), rest))
     }
 
-    fn inner_sum<'a>(&self, tokens: &'a [Token]) -> Read<'a, (Expr, u8)>
+    fn inner_sum<'a>(&self, tokens: &'a [Token]) -> Read<'a, (Boxed<Expr>, u8)>
         requires { ReadsUn self.now.text self.now.fuel (F.pre self.now.un) (F.post self.now.un) }
         ensures { Gives (λ x. (x.0, x.1.now)) result (reader.inside 100 (reading.sum_from (reading.un_at self.now.text.now self.now.fuel)) tokens.now) }
     {
@@ -202,7 +202,7 @@ impl<
 
     /// A comparison, or an operand alone.
     #[tactic(auto, unfolding(crate::specs::Reading::cmp_from, crate::specs::Reading::compared_at))]
-    fn cmp<'a>(&self, tokens: &'a [Token]) -> Read<'a, (Expr, u8)>
+    fn cmp<'a>(&self, tokens: &'a [Token]) -> Read<'a, (Boxed<Expr>, u8)>
         requires { ReadsUn self.now.text self.now.fuel (F.pre self.now.un) (F.post self.now.un) }
         ensures { Gives (λ x. (x.0, x.1.now)) result (reading.cmp_from (reading.un_at self.now.text.now self.now.fuel) tokens.now) }
     {
@@ -239,7 +239,7 @@ impl<
         ))
     }
 
-    fn inner_cmp<'a>(&self, tokens: &'a [Token]) -> Read<'a, (Expr, u8)>
+    fn inner_cmp<'a>(&self, tokens: &'a [Token]) -> Read<'a, (Boxed<Expr>, u8)>
         requires { ReadsUn self.now.text self.now.fuel (F.pre self.now.un) (F.post self.now.un) }
         ensures { Gives (λ x. (x.0, x.1.now)) result (reader.inside 100 (reading.cmp_from (reading.un_at self.now.text.now self.now.fuel)) tokens.now) }
     {
@@ -249,7 +249,7 @@ impl<
 
     /// An operand after the word.
     #[tactic(auto, unfolding(crate::specs::Reading::and_next_at))]
-    fn and_next<'a>(&self, tokens: &'a [Token]) -> Read<'a, (Expr, u8)>
+    fn and_next<'a>(&self, tokens: &'a [Token]) -> Read<'a, (Boxed<Expr>, u8)>
         requires { ReadsUn self.now.text self.now.fuel (F.pre self.now.un) (F.post self.now.un) }
         ensures { Gives (λ x. (x.0, x.1.now)) result (reading.and_next_at (reading.un_at self.now.text.now self.now.fuel) tokens.now) }
     {
@@ -271,7 +271,7 @@ impl<
                 return Ok(((found, deep), rest));
             }
             let ((item, depth), left) = self.and_next(rest)?;
-            found.push(item)?;
+            found.push(item.into_inner())?;
             deep = deep.max(depth);
             rest = left;
         }
@@ -280,7 +280,7 @@ impl<
 
     /// Operands with the word between them, or one alone.
     #[tactic(auto, using(grammar::proofs::Loops::chained_more), unfolding(crate::specs::Reading::and_from))]
-    fn and<'a>(&self, tokens: &'a [Token]) -> Read<'a, (Expr, u8)>
+    fn and<'a>(&self, tokens: &'a [Token]) -> Read<'a, (Boxed<Expr>, u8)>
         requires { ReadsUn self.now.text self.now.fuel (F.pre self.now.un) (F.post self.now.un) }
         ensures { Gives (λ x. (x.0, x.1.now)) result (reading.and_from (reading.un_at self.now.text.now self.now.fuel) tokens.now) }
     {
@@ -296,7 +296,7 @@ impl<
         ))
     }
 
-    fn inner_and<'a>(&self, tokens: &'a [Token]) -> Read<'a, (Expr, u8)>
+    fn inner_and<'a>(&self, tokens: &'a [Token]) -> Read<'a, (Boxed<Expr>, u8)>
         requires { ReadsUn self.now.text self.now.fuel (F.pre self.now.un) (F.post self.now.un) }
         ensures { Gives (λ x. (x.0, x.1.now)) result (reader.inside 100 (reading.and_from (reading.un_at self.now.text.now self.now.fuel)) tokens.now) }
     {
@@ -306,7 +306,7 @@ impl<
 
     /// An operand after the word.
     #[tactic(auto, unfolding(crate::specs::Reading::or_next_at))]
-    fn or_next<'a>(&self, tokens: &'a [Token]) -> Read<'a, (Expr, u8)>
+    fn or_next<'a>(&self, tokens: &'a [Token]) -> Read<'a, (Boxed<Expr>, u8)>
         requires { ReadsUn self.now.text self.now.fuel (F.pre self.now.un) (F.post self.now.un) }
         ensures { Gives (λ x. (x.0, x.1.now)) result (reading.or_next_at (reading.un_at self.now.text.now self.now.fuel) tokens.now) }
     {
@@ -328,7 +328,7 @@ impl<
                 return Ok(((found, deep), rest));
             }
             let ((item, depth), left) = self.or_next(rest)?;
-            found.push(item)?;
+            found.push(item.into_inner())?;
             deep = deep.max(depth);
             rest = left;
         }
@@ -337,7 +337,7 @@ impl<
 
     /// Operands with the word between them, or one alone.
     #[tactic(auto, using(grammar::proofs::Loops::chained_more), unfolding(crate::specs::Reading::or_from))]
-    fn or<'a>(&self, tokens: &'a [Token]) -> Read<'a, (Expr, u8)>
+    fn or<'a>(&self, tokens: &'a [Token]) -> Read<'a, (Boxed<Expr>, u8)>
         requires { ReadsUn self.now.text self.now.fuel (F.pre self.now.un) (F.post self.now.un) }
         ensures { Gives (λ x. (x.0, x.1.now)) result (reading.or_from (reading.un_at self.now.text.now self.now.fuel) tokens.now) }
     {
@@ -353,7 +353,7 @@ impl<
         ))
     }
 
-    fn inner_or<'a>(&self, tokens: &'a [Token]) -> Read<'a, (Expr, u8)>
+    fn inner_or<'a>(&self, tokens: &'a [Token]) -> Read<'a, (Boxed<Expr>, u8)>
         requires { ReadsUn self.now.text self.now.fuel (F.pre self.now.un) (F.post self.now.un) }
         ensures { Gives (λ x. (x.0, x.1.now)) result (reader.inside 100 (reading.or_from (reading.un_at self.now.text.now self.now.fuel)) tokens.now) }
     {
@@ -363,7 +363,7 @@ impl<
 
     /// An expression.
     #[tactic(auto, unfolding(crate::specs::Reading::expr_from, crate::specs::Reading::implied_at))]
-    pub fn expr<'a>(&self, tokens: &'a [Token]) -> Read<'a, (Expr, u8)>
+    pub fn expr<'a>(&self, tokens: &'a [Token]) -> Read<'a, (Boxed<Expr>, u8)>
         requires { ReadsUn self.now.text self.now.fuel (F.pre self.now.un) (F.post self.now.un) }
         ensures { Gives (λ x. (x.0, x.1.now)) result (reading.expr_from (reading.un_at self.now.text.now self.now.fuel) tokens.now) }
     {

@@ -15,5 +15,8 @@ mod tokens;
 pub use error::ReadError;
 pub use expressions::{ExprListPart, ExprPart, expr, expr_list};
 pub use naming::{IdentPart, NamePart, NamesPart, ident, ids, name, names};
-pub use parts::{Part, fitted, joined, joined_list, only, optional, repeated, separated};
+pub use parts::{
+    Part, fitted, inside, joined, joined_list, only, optional, repeated, repeated_boxes, separated,
+    separated_boxes,
+};
 pub use tokens::{Read, any_of, code, kind, sign, starts, word};

@@ -13,30 +13,32 @@ ghost use Rattle.cif_expr.specs.ReadsUn.{ReadsUn};
 ghost use Rattle.cif_expr.specs.Trees as tree;
 
 use crate::error::ReadError;
-use crate::forms::{absolute, choice, greatest, least, negation, negative, paren, positive};
+use crate::forms::{
+    absolute, branch, choice, greatest, least, negation, negative, node, paren, positive,
+};
 use crate::levels::{Grammar, level};
 use crate::naming::name;
 use crate::parts::only;
 use crate::spelling::value;
 use crate::tokens::{Read, kind, sign, starts, word};
 use cif_ast::{Branch, Expr, Form};
-use cif_base::Items;
+use cif_base::{Boxed, Items};
 use cif_lex::{Mark, Token, TokenKind, Word};
 use std::alloc::Global;
 
 /// `true` or `false`.
-fn boolean(tokens: &[Token], name: Word, value: bool) -> Read<'_, (Expr, u8)>
+fn boolean(alloc: Global, tokens: &[Token], name: Word, value: bool) -> Read<'_, (Boxed<Expr>, u8)>
     ensures { Gives (λ x. (x.0, x.1.now)) result (reader.deep_map (tree.boolean value) (reading.flat_word name) tokens.now) }
 {
     let (token, rest) = word(tokens, name)?;
     let form = Form::Bool(value);
     let at = token.span.from;
-    Ok(((Expr { form, at }, 0), rest))
+    Ok(((node(alloc, form, at)?, 0), rest))
 }
 
 /// A number.
 #[tactic(auto, unfolding(crate::specs::Reading::number_at, crate::specs::Spelling::is_small, crate::specs::Spelling::value, cif_lex::specs::Tokens::small_number))]
-fn number<'a>(text: &[u8], tokens: &'a [Token]) -> Read<'a, (Expr, u8)>
+fn number<'a>(alloc: Global, text: &[u8], tokens: &'a [Token]) -> Read<'a, (Boxed<Expr>, u8)>
     ensures { Gives (λ x. (x.0, x.1.now)) result (reader.flat_at (reading.number_at text.now) tokens.now) }
 {
     let (token, rest) = kind(tokens, TokenKind::Number)?;
@@ -44,30 +46,30 @@ fn number<'a>(text: &[u8], tokens: &'a [Token]) -> Read<'a, (Expr, u8)>
         Some(value) => {
             let form = Form::Int(i64::from(value));
             let at = token.span.from;
-            Ok(((Expr { form, at }, 0), rest))
+            Ok(((node(alloc, form, at)?, 0), rest))
         }
         None => Err(ReadError::NotRead(tokens.len())),
     }
 }
 
 /// A name.
-fn named<'a>(alloc: Global, text: &[u8], tokens: &'a [Token]) -> Read<'a, (Expr, u8)>
+fn named<'a>(alloc: Global, text: &[u8], tokens: &'a [Token]) -> Read<'a, (Boxed<Expr>, u8)>
     ensures { Gives (λ x. (x.0, x.1.now)) result (reader.deep_map tree.named (reader.flat_at (reading.name_at text.now)) tokens.now) }
 {
     let (name, rest) = name(alloc, text, tokens)?;
     let at = name.at;
     let form = Form::Named(name);
-    Ok(((Expr { form, at }, 0), rest))
+    Ok(((node(alloc, form, at)?, 0), rest))
 }
 
 /// `?`.
-fn received(tokens: &[Token]) -> Read<'_, (Expr, u8)>
+fn received(alloc: Global, tokens: &[Token]) -> Read<'_, (Boxed<Expr>, u8)>
     ensures { Gives (λ x. (x.0, x.1.now)) result (reader.deep_map tree.received (reading.flat_sign m.Question) tokens.now) }
 {
     let (token, rest) = sign(tokens, Mark::Question)?;
     let form = Form::Received;
     let at = token.span.from;
-    Ok(((Expr { form, at }, 0), rest))
+    Ok(((node(alloc, form, at)?, 0), rest))
 }
 
 impl<
@@ -77,9 +79,9 @@ impl<
         &'t [u8],
         &'a [Token],
         u8,
-    ) -> Result<((Expr, u8), &'a [Token]), ReadError>,
+    ) -> Result<((Boxed<Expr>, u8), &'a [Token]), ReadError>,
 > Grammar<'t, F> {
-    fn inner_expr<'a>(&self, tokens: &'a [Token]) -> Read<'a, (Expr, u8)>
+    fn inner_expr<'a>(&self, tokens: &'a [Token]) -> Read<'a, (Boxed<Expr>, u8)>
         requires { ReadsUn self.now.text self.now.fuel (F.pre self.now.un) (F.post self.now.un) }
         ensures { Gives (λ x. (x.0, x.1.now)) result (reading.whole_at self.now.text.now self.now.fuel tokens.now) }
     {
@@ -89,7 +91,7 @@ impl<
 
     /// An expression after a comma.
     #[tactic(auto, unfolding(crate::specs::Reading::next_at))]
-    fn next<'a>(&self, tokens: &'a [Token]) -> Read<'a, (Expr, u8)>
+    fn next<'a>(&self, tokens: &'a [Token]) -> Read<'a, (Boxed<Expr>, u8)>
         requires { ReadsUn self.now.text self.now.fuel (F.pre self.now.un) (F.post self.now.un) }
         ensures { Gives (λ x. (x.0, x.1.now)) result (reading.next_at (reading.whole_at self.now.text.now self.now.fuel) tokens.now) }
     {
@@ -114,7 +116,7 @@ impl<
                 return Ok(((found, deep), rest));
             }
             let ((item, depth), left) = self.next(rest)?;
-            found.push(item)?;
+            found.push(item.into_inner())?;
             deep = deep.max(depth);
             rest = left;
         }
@@ -128,25 +130,25 @@ impl<
         ensures { Gives (λ x. (x.0, x.1.now)) result (reading.exprs_at (reading.whole_at self.now.text.now self.now.fuel) tokens.now) }
     {
         let ((first, depth), rest) = self.inner_expr(tokens)?;
-        let found = only(self.alloc, first)?;
+        let found = only(self.alloc, first.into_inner())?;
         self.exprs_more(rest, found, depth)
     }
 
     /// Conditions and the value for them.
     #[tactic(auto, unfolding(crate::specs::Reading::branch_at))]
-    fn branch<'a>(&self, tokens: &'a [Token]) -> Read<'a, (Branch, u8)>
+    fn branch<'a>(&self, tokens: &'a [Token]) -> Read<'a, (Boxed<Branch>, u8)>
         requires { ReadsUn self.now.text self.now.fuel (F.pre self.now.un) (F.post self.now.un) }
         ensures { Gives (λ x. (x.0, x.1.now)) result (reading.branch_at (reading.whole_at self.now.text.now self.now.fuel) tokens.now) }
     {
         let ((conds, depth), rest) = self.exprs(tokens)?;
         let (_colon, rest) = sign(rest, Mark::Colon)?;
         let ((value, deep), rest) = self.inner_expr(rest)?;
-        Ok(((Branch { conds, value }, depth.max(deep)), rest))
+        Ok(((branch(self.alloc, conds, value)?, depth.max(deep)), rest))
     }
 
     /// A branch after `elif`.
     #[tactic(auto, unfolding(crate::specs::Reading::other_at))]
-    fn other<'a>(&self, tokens: &'a [Token]) -> Read<'a, (Branch, u8)>
+    fn other<'a>(&self, tokens: &'a [Token]) -> Read<'a, (Boxed<Branch>, u8)>
         requires { ReadsUn self.now.text self.now.fuel (F.pre self.now.un) (F.post self.now.un) }
         ensures { Gives (λ x. (x.0, x.1.now)) result (reading.other_at (reading.whole_at self.now.text.now self.now.fuel) tokens.now) }
     {
@@ -171,7 +173,7 @@ impl<
                 return Ok(((found, deep), rest));
             }
             let ((item, depth), left) = self.other(rest)?;
-            found.push(item)?;
+            found.push(item.into_inner())?;
             deep = deep.max(depth);
             rest = left;
         }
@@ -184,13 +186,13 @@ impl<
         ensures { Gives (λ x. (x.0, x.1.now)) result (reading.branches_at (reading.whole_at self.now.text.now self.now.fuel) tokens.now) }
     {
         let ((first, depth), rest) = self.branch(tokens)?;
-        let found = only(self.alloc, first)?;
+        let found = only(self.alloc, first.into_inner())?;
         self.others(rest, found, depth)
     }
 
     /// What an `if` ends with.
     #[tactic(auto, unfolding(crate::specs::Reading::otherwise_at))]
-    fn otherwise<'a>(&self, tokens: &'a [Token]) -> Read<'a, (Expr, u8)>
+    fn otherwise<'a>(&self, tokens: &'a [Token]) -> Read<'a, (Boxed<Expr>, u8)>
         requires { ReadsUn self.now.text self.now.fuel (F.pre self.now.un) (F.post self.now.un) }
         ensures { Gives (λ x. (x.0, x.1.now)) result (reading.otherwise_at (reading.whole_at self.now.text.now self.now.fuel) tokens.now) }
     {
@@ -202,7 +204,7 @@ impl<
 
     /// An `if`.
     #[tactic(auto, unfolding(crate::specs::Reading::choice_at))]
-    fn choice<'a>(&self, tokens: &'a [Token]) -> Read<'a, (Expr, u8)>
+    fn choice<'a>(&self, tokens: &'a [Token]) -> Read<'a, (Boxed<Expr>, u8)>
         requires { ReadsUn self.now.text self.now.fuel (F.pre self.now.un) (F.post self.now.un) }
         ensures { Gives (λ x. (x.0, x.1.now)) result (reading.choice_at (reading.whole_at self.now.text.now self.now.fuel) tokens.now) }
     {
@@ -215,7 +217,7 @@ impl<
 
     /// An expression in parentheses.
     #[tactic(auto, unfolding(crate::specs::Reading::paren_at))]
-    fn paren<'a>(&self, tokens: &'a [Token]) -> Read<'a, (Expr, u8)>
+    fn paren<'a>(&self, tokens: &'a [Token]) -> Read<'a, (Boxed<Expr>, u8)>
         requires { ReadsUn self.now.text self.now.fuel (F.pre self.now.un) (F.post self.now.un) }
         ensures { Gives (λ x. (x.0, x.1.now)) result (reading.paren_at (reading.whole_at self.now.text.now self.now.fuel) tokens.now) }
     {
@@ -226,7 +228,7 @@ impl<
     }
 
     #[tactic(auto, unfolding(crate::specs::Reading::abs_at))]
-    fn absolute<'a>(&self, tokens: &'a [Token]) -> Read<'a, (Expr, u8)>
+    fn absolute<'a>(&self, tokens: &'a [Token]) -> Read<'a, (Boxed<Expr>, u8)>
         requires { ReadsUn self.now.text self.now.fuel (F.pre self.now.un) (F.post self.now.un) }
         ensures { Gives (λ x. (x.0, x.1.now)) result (reading.abs_at (reading.whole_at self.now.text.now self.now.fuel) tokens.now) }
     {
@@ -238,7 +240,7 @@ impl<
     }
 
     #[tactic(auto, unfolding(crate::specs::Reading::two_at))]
-    fn least<'a>(&self, tokens: &'a [Token]) -> Read<'a, (Expr, u8)>
+    fn least<'a>(&self, tokens: &'a [Token]) -> Read<'a, (Boxed<Expr>, u8)>
         requires { ReadsUn self.now.text self.now.fuel (F.pre self.now.un) (F.post self.now.un) }
         ensures { Gives (λ x. (x.0, x.1.now)) result (reading.two_at (reading.whole_at self.now.text.now self.now.fuel) w.Min tree.least tokens.now) }
     {
@@ -253,7 +255,7 @@ impl<
     }
 
     #[tactic(auto, unfolding(crate::specs::Reading::two_at))]
-    fn greatest<'a>(&self, tokens: &'a [Token]) -> Read<'a, (Expr, u8)>
+    fn greatest<'a>(&self, tokens: &'a [Token]) -> Read<'a, (Boxed<Expr>, u8)>
         requires { ReadsUn self.now.text self.now.fuel (F.pre self.now.un) (F.post self.now.un) }
         ensures { Gives (λ x. (x.0, x.1.now)) result (reading.two_at (reading.whole_at self.now.text.now self.now.fuel) w.Max tree.greatest tokens.now) }
     {
@@ -269,20 +271,20 @@ impl<
 
     /// An operand without a sign.
     #[tactic(auto, unfolding(crate::specs::Reading::prim_at))]
-    fn prim<'a>(&self, tokens: &'a [Token]) -> Read<'a, (Expr, u8)>
+    fn prim<'a>(&self, tokens: &'a [Token]) -> Read<'a, (Boxed<Expr>, u8)>
         requires { ReadsUn self.now.text self.now.fuel (F.pre self.now.un) (F.post self.now.un) }
         ensures { Gives (λ x. (x.0, x.1.now)) result (reading.prim_at (reading.whole_at self.now.text.now self.now.fuel) self.now.text.now tokens.now) }
     {
         if starts(tokens, &[TokenKind::Reserved(Word::True)]) {
-            boolean(tokens, Word::True, true)
+            boolean(self.alloc, tokens, Word::True, true)
         } else if starts(tokens, &[TokenKind::Reserved(Word::False)]) {
-            boolean(tokens, Word::False, false)
+            boolean(self.alloc, tokens, Word::False, false)
         } else if starts(tokens, &[TokenKind::Number]) {
-            number(self.text, tokens)
+            number(self.alloc, self.text, tokens)
         } else if starts(tokens, &[TokenKind::Sign(Mark::Dot), TokenKind::Id]) {
             named(self.alloc, self.text, tokens)
         } else if starts(tokens, &[TokenKind::Sign(Mark::Question)]) {
-            received(tokens)
+            received(self.alloc, tokens)
         } else if starts(tokens, &[TokenKind::Sign(Mark::OpenParen)]) {
             self.paren(tokens)
         } else if starts(tokens, &[TokenKind::Reserved(Word::Abs)]) {
@@ -297,7 +299,7 @@ impl<
     }
 
     #[tactic(auto, unfolding(crate::specs::Reading::signed_at))]
-    fn after_minus<'a>(&self, tokens: &'a [Token]) -> Read<'a, (Expr, u8)>
+    fn after_minus<'a>(&self, tokens: &'a [Token]) -> Read<'a, (Boxed<Expr>, u8)>
         requires { ReadsUn self.now.text self.now.fuel (F.pre self.now.un) (F.post self.now.un) }
         ensures { Gives (λ x. (x.0, x.1.now)) result (reading.signed_at (reader.inside 100 (reading.un_at self.now.text.now self.now.fuel)) (marked m.Minus) tree.negative tokens.now) }
     {
@@ -307,7 +309,7 @@ impl<
     }
 
     #[tactic(auto, unfolding(crate::specs::Reading::signed_at))]
-    fn after_plus<'a>(&self, tokens: &'a [Token]) -> Read<'a, (Expr, u8)>
+    fn after_plus<'a>(&self, tokens: &'a [Token]) -> Read<'a, (Boxed<Expr>, u8)>
         requires { ReadsUn self.now.text self.now.fuel (F.pre self.now.un) (F.post self.now.un) }
         ensures { Gives (λ x. (x.0, x.1.now)) result (reading.signed_at (reader.inside 100 (reading.un_at self.now.text.now self.now.fuel)) (marked m.Plus) tree.positive tokens.now) }
     {
@@ -317,7 +319,7 @@ impl<
     }
 
     #[tactic(auto, unfolding(crate::specs::Reading::signed_at))]
-    fn after_not<'a>(&self, tokens: &'a [Token]) -> Read<'a, (Expr, u8)>
+    fn after_not<'a>(&self, tokens: &'a [Token]) -> Read<'a, (Boxed<Expr>, u8)>
         requires { ReadsUn self.now.text self.now.fuel (F.pre self.now.un) (F.post self.now.un) }
         ensures { Gives (λ x. (x.0, x.1.now)) result (reading.signed_at (reader.inside 100 (reading.un_at self.now.text.now self.now.fuel)) (reserved w.Not) tree.negation tokens.now) }
     {
@@ -328,7 +330,7 @@ impl<
 
     /// An operand with a sign or without.
     #[tactic(auto, unfolding(crate::specs::Reading::un_from))]
-    pub fn step<'a>(&self, tokens: &'a [Token]) -> Read<'a, (Expr, u8)>
+    pub fn step<'a>(&self, tokens: &'a [Token]) -> Read<'a, (Boxed<Expr>, u8)>
         requires { ReadsUn self.now.text self.now.fuel (F.pre self.now.un) (F.post self.now.un) }
         ensures { Gives (λ x. (x.0, x.1.now)) result (reading.un_from (reading.whole_at self.now.text.now self.now.fuel) self.now.text.now (reader.inside 100 (reading.un_at self.now.text.now self.now.fuel)) tokens.now) }
     {
@@ -351,7 +353,7 @@ pub fn un<'a>(
     text: &[u8],
     tokens: &'a [Token],
     fuel: u8,
-) -> Result<((Expr, u8), &'a [Token]), ReadError>
+) -> Result<((Boxed<Expr>, u8), &'a [Token]), ReadError>
     ensures { Gives (λ x. (x.0, x.1.now)) result (reading.un_at text.now fuel tokens.now) }
 {
     if fuel == 0 {

@@ -10,7 +10,7 @@ ghost use Rattle.cif_expr.specs.Parts as parts;
 ghost use Rattle.cif_expr.specs.Gives.{Gives};
 
 use crate::tokens::{Read, sign, starts};
-use cif_base::{Items, Memory};
+use cif_base::{Boxed, Items, Memory};
 use cif_lex::{Mark, Token, TokenKind};
 use std::alloc::Global;
 
@@ -194,4 +194,55 @@ fn flattened<T: Drop>(alloc: Global, lists: Items<Items<T>>) -> Result<Items<T>,
         all.append(list)?;
     }
     Ok(all)
+}
+
+/// The values of a list of boxes.
+fn unboxed<T: Drop>(alloc: Global, boxes: Items<Boxed<T>>) -> Result<Items<T>, Memory>
+    ensures { IfOk result (λ all. all ≡ boxes) }
+{
+    let boxes = boxes.into_vec();
+    let mut all = Items::from_vec(Vec::with_capacity(alloc, boxes.len())?);
+    for each in boxes {
+        all.push(each.into_inner())?;
+    }
+    Ok(all)
+}
+
+/// The value that is in a box, where there is one.
+pub fn inside<T>(boxed: Option<Boxed<T>>) -> Option<T>
+    ensures { result ≡ boxed }
+{
+    match boxed {
+        Some(boxed) => Some(boxed.into_inner()),
+        None => None,
+    }
+}
+
+/// One part or more with a sign between them, of which each is read into a box: a reader whose result has the place of a large
+/// tree in it is slow to check.
+pub fn separated_boxes<'a, T: Drop, P: Part<Tree = Boxed<T>>>(
+    part: &P,
+    alloc: Global,
+    text: &[u8],
+    mark: Mark,
+    tokens: &'a [Token],
+) -> Read<'a, Items<T>>
+    ensures { Gives (λ x. (x.0, x.1.now)) result (reading.separated_at mark (P.tree_at part.now text.now) tokens.now) }
+{
+    let (found, rest) = separated(part, alloc, text, mark, tokens)?;
+    Ok((unboxed(alloc, found)?, rest))
+}
+
+/// Parts one after the other, of which each is read into a box.
+pub fn repeated_boxes<'a, T: Drop, P: Part<Tree = Boxed<T>>>(
+    part: &P,
+    alloc: Global,
+    text: &[u8],
+    among: &[TokenKind],
+    tokens: &'a [Token],
+) -> Read<'a, Items<T>>
+    ensures { Gives (λ x. (x.0, x.1.now)) result (reader.many_at kinds.sort (kinds.codes_of among.now) (P.tree_at part.now text.now) tokens.now) }
+{
+    let (found, rest) = repeated(part, alloc, text, among, tokens)?;
+    Ok((unboxed(alloc, found)?, rest))
 }

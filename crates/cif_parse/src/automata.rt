@@ -12,7 +12,7 @@ use crate::bodies::BodyElement;
 use crate::locations::LocationPart;
 use crate::places::told_in_automaton;
 use cif_ast::{AutoBody, Body, Decl, Loc, Name};
-use cif_base::{Items, Memory};
+use cif_base::{Boxed, Items, Memory};
 use cif_decl::{begins_declaration, component_kind, declaration, disc_declaration, given};
 use cif_expr::{NamesPart, Part, Read, ReadError, fitted, optional, repeated, sign, starts, word};
 use cif_lex::{Mark, Token, TokenKind, Word};
@@ -241,18 +241,18 @@ fn body_parts<'a>(alloc: Global, text: &[u8], tokens: &'a [Token]) -> Read<'a, A
 pub struct AutomatonEndPart;
 
 impl Part for AutomatonEndPart {
-    type Tree = Body;
+    type Tree = Boxed<Body>;
 
     ghost use Rattle.cif_parse.specs.Reading as reading;
 
     ghost tree_at = { λ s. reading.automaton_end_at };
 
     #[tactic(auto, unfolding(crate::specs::Reading::automaton_end_at))]
-    fn read<'a>(&self, alloc: Global, text: &[u8], tokens: &'a [Token]) -> Read<'a, Body> {
+    fn read<'a>(&self, alloc: Global, text: &[u8], tokens: &'a [Token]) -> Read<'a, Boxed<Body>> {
         let (_colon, rest) = sign(tokens, Mark::Colon)?;
         let (found, rest) = automaton_body(alloc, text, rest)?;
         let (_end, rest) = word(rest, Word::End)?;
-        Ok((Body::Auto(found), rest))
+        Ok((Boxed::new(alloc, Body::Auto(found))?, rest))
     }
 }
 

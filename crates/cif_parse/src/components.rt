@@ -8,13 +8,14 @@ ghost use Rattle.cif_expr.specs.Gives.{Gives};
 ghost use Rattle.cif_expr.specs.TokenKinds as kinds;
 ghost use Rattle.cif_decl.specs.Reading as declarations;
 ghost use Rattle.cif_parse.specs.Reading as reading;
+ghost use Rattle.cif_parse.specs.Trees as tree;
 ghost use Rattle.cif_parse.specs.ReadsItem.{ReadsItem};
 
 use crate::automata::{AutomatonEndPart, automaton_words};
 use crate::expressions::perhaps;
 use crate::places::told_at_item;
-use cif_ast::{Body, Comp, Decl, Def, Expr, Inst, Item};
-use cif_base::{Items, Memory};
+use cif_ast::{Body, Comp, Decl, Def, Expr, Ident, Inst, Item, Param};
+use cif_base::{Boxed, Items, Memory};
 use cif_decl::{
     begins_declaration, given, is_component, kind_invariants, parameters, plain_declaration,
 };
@@ -49,7 +50,7 @@ fn arguments<'a>(alloc: Global, text: &[u8], tokens: &'a [Token]) -> Read<'a, It
 
 /// An instance of a definition.
 #[tactic(auto, unfolding(crate::specs::Reading::instance_at))]
-pub fn instance<'a>(alloc: Global, text: &[u8], tokens: &'a [Token]) -> Read<'a, Item>
+pub fn instance<'a>(alloc: Global, text: &[u8], tokens: &'a [Token]) -> Read<'a, Boxed<Item>>
     ensures { Gives (λ x. (x.0, x.1.now)) result (reading.instance_at text.now tokens.now) }
 {
     let (own, rest) = ident(alloc, text, tokens)?;
@@ -62,34 +63,55 @@ pub fn instance<'a>(alloc: Global, text: &[u8], tokens: &'a [Token]) -> Read<'a,
         def,
         args,
     };
-    Ok((Item::Inst(found), rest))
+    Ok((Boxed::new(alloc, Item::Inst(found))?, rest))
+}
+
+/// A component of its name and its body.
+fn component(alloc: Global, name: Ident, body: Boxed<Body>) -> Result<Boxed<Item>, Memory>
+    ensures { IfOk result (λ i. i ≡ tree.component_item name body) }
+{
+    let body = body.into_inner();
+    Boxed::new(alloc, Item::Comp(Comp { name, body }))
+}
+
+/// A definition of its name, its parameters and its body.
+fn definition(
+    alloc: Global,
+    name: Ident,
+    params: Items<Param>,
+    body: Boxed<Body>,
+) -> Result<Boxed<Item>, Memory>
+    ensures { IfOk result (λ i. i ≡ tree.definition_item name params body) }
+{
+    let body = body.into_inner();
+    Boxed::new(alloc, Item::Def(Def { name, params, body }))
 }
 
 /// The name and the body of an automaton.
 #[tactic(auto, unfolding(crate::specs::Reading::named_end_at))]
-fn named_automaton<'a>(alloc: Global, text: &[u8], tokens: &'a [Token]) -> Read<'a, Item>
+fn named_automaton<'a>(alloc: Global, text: &[u8], tokens: &'a [Token]) -> Read<'a, Boxed<Item>>
     ensures { Gives (λ x. (x.0, x.1.now)) result (reading.named_end_at text.now (reading.automaton_end_at text.now) tokens.now) }
 {
     let (name, rest) = ident(alloc, text, tokens)?;
     let (body, rest) = AutomatonEndPart.read(alloc, text, rest)?;
-    Ok((Item::Comp(Comp { name, body }), rest))
+    Ok((component(alloc, name, body)?, rest))
 }
 
 /// `def`, and the name, the parameters and the body of an automaton.
 #[tactic(auto, unfolding(crate::specs::Reading::defined_end_at))]
-fn defined_automaton<'a>(alloc: Global, text: &[u8], tokens: &'a [Token]) -> Read<'a, Item>
+fn defined_automaton<'a>(alloc: Global, text: &[u8], tokens: &'a [Token]) -> Read<'a, Boxed<Item>>
     ensures { Gives (λ x. (x.0, x.1.now)) result (reading.defined_end_at text.now (reading.automaton_end_at text.now) tokens.now) }
 {
     let (_def, rest) = word(tokens, Word::Def)?;
     let (name, rest) = ident(alloc, text, rest)?;
     let (params, rest) = parameters(alloc, text, rest)?;
     let (body, rest) = AutomatonEndPart.read(alloc, text, rest)?;
-    Ok((Item::Def(Def { name, params, body }), rest))
+    Ok((definition(alloc, name, params, body)?, rest))
 }
 
 /// An automaton, or a definition of one.
 #[tactic(auto, unfolding(crate::specs::Reading::automaton_item_at, crate::specs::Reading::component_end_at))]
-fn automaton<'a>(alloc: Global, text: &[u8], tokens: &'a [Token]) -> Read<'a, Item>
+fn automaton<'a>(alloc: Global, text: &[u8], tokens: &'a [Token]) -> Read<'a, Boxed<Item>>
     ensures { Gives (λ x. (x.0, x.1.now)) result (reading.automaton_item_at text.now tokens.now) }
 {
     let (_words, rest) = automaton_words(tokens)?;
@@ -149,30 +171,30 @@ impl<
 
     /// A colon, items and `end`.
     #[tactic(auto, unfolding(crate::specs::Reading::group_end_at))]
-    fn group_end<'a>(&self, tokens: &'a [Token]) -> Read<'a, Body>
+    fn group_end<'a>(&self, tokens: &'a [Token]) -> Read<'a, Boxed<Body>>
         requires { ReadsItem self.now.text self.now.depth (F.pre self.now.item) (F.post self.now.item) }
         ensures { Gives (λ x. (x.0, x.1.now)) result (reading.group_end_at self.now.text.now (reading.all_items_at (reading.item_at self.now.text.now self.now.depth)) tokens.now) }
     {
         let (_colon, rest) = sign(tokens, Mark::Colon)?;
         let (items, rest) = self.all(rest)?;
         let (_end, rest) = word(rest, Word::End)?;
-        Ok((Body::Group(items), rest))
+        Ok((Boxed::new(self.alloc, Body::Group(items))?, rest))
     }
 
     /// The name and the body of a group.
     #[tactic(auto, unfolding(crate::specs::Reading::named_end_at))]
-    fn named_group<'a>(&self, tokens: &'a [Token]) -> Read<'a, Item>
+    fn named_group<'a>(&self, tokens: &'a [Token]) -> Read<'a, Boxed<Item>>
         requires { ReadsItem self.now.text self.now.depth (F.pre self.now.item) (F.post self.now.item) }
         ensures { Gives (λ x. (x.0, x.1.now)) result (reading.named_end_at self.now.text.now (reading.group_end_at self.now.text.now (reading.all_items_at (reading.item_at self.now.text.now self.now.depth))) tokens.now) }
     {
         let (name, rest) = ident(self.alloc, self.text, tokens)?;
         let (body, rest) = self.group_end(rest)?;
-        Ok((Item::Comp(Comp { name, body }), rest))
+        Ok((component(self.alloc, name, body)?, rest))
     }
 
     /// `def`, and the name, the parameters and the body of a group.
     #[tactic(auto, unfolding(crate::specs::Reading::defined_end_at))]
-    fn defined_group<'a>(&self, tokens: &'a [Token]) -> Read<'a, Item>
+    fn defined_group<'a>(&self, tokens: &'a [Token]) -> Read<'a, Boxed<Item>>
         requires { ReadsItem self.now.text self.now.depth (F.pre self.now.item) (F.post self.now.item) }
         ensures { Gives (λ x. (x.0, x.1.now)) result (reading.defined_end_at self.now.text.now (reading.group_end_at self.now.text.now (reading.all_items_at (reading.item_at self.now.text.now self.now.depth))) tokens.now) }
     {
@@ -180,12 +202,12 @@ impl<
         let (name, rest) = ident(self.alloc, self.text, rest)?;
         let (params, rest) = parameters(self.alloc, self.text, rest)?;
         let (body, rest) = self.group_end(rest)?;
-        Ok((Item::Def(Def { name, params, body }), rest))
+        Ok((definition(self.alloc, name, params, body)?, rest))
     }
 
     /// A group, or a definition of one.
     #[tactic(auto, unfolding(crate::specs::Reading::group_at, crate::specs::Reading::component_end_at))]
-    fn group<'a>(&self, tokens: &'a [Token]) -> Read<'a, Item>
+    fn group<'a>(&self, tokens: &'a [Token]) -> Read<'a, Boxed<Item>>
         requires { ReadsItem self.now.text self.now.depth (F.pre self.now.item) (F.post self.now.item) }
         ensures { Gives (λ x. (x.0, x.1.now)) result (reading.group_at self.now.text.now (reading.all_items_at (reading.item_at self.now.text.now self.now.depth)) tokens.now) }
     {
@@ -199,7 +221,7 @@ impl<
 
     /// A component or a definition.
     #[tactic(auto, unfolding(crate::specs::Reading::nested_at))]
-    fn nested<'a>(&self, tokens: &'a [Token]) -> Read<'a, Item>
+    fn nested<'a>(&self, tokens: &'a [Token]) -> Read<'a, Boxed<Item>>
         requires { ReadsItem self.now.text self.now.depth (F.pre self.now.item) (F.post self.now.item) }
         ensures { Gives (λ x. (x.0, x.1.now)) result (reading.nested_at self.now.text.now (reading.all_items_at (reading.item_at self.now.text.now self.now.depth)) tokens.now) }
     {
@@ -257,7 +279,7 @@ fn item<'a>(
     }
     if starts(tokens, &[TokenKind::Id]) {
         let (found, rest) = instance(alloc, text, tokens)?;
-        return Ok((only(alloc, found)?, rest));
+        return Ok((only(alloc, found.into_inner())?, rest));
     }
     if !is_component(tokens) {
         let (decls, rest) = invariants(alloc, text, tokens)?;
@@ -273,7 +295,7 @@ fn item<'a>(
         item,
     };
     let (found, rest) = inside.nested(tokens)?;
-    Ok((only(alloc, found)?, rest))
+    Ok((only(alloc, found.into_inner())?, rest))
 }
 
 /// The items of a specification.

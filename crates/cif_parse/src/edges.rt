@@ -8,50 +8,52 @@ ghost use Rattle.cif_parse.specs.Trees as tree;
 use crate::expressions::perhaps;
 use crate::updating::updates;
 use cif_ast::{Edge, EventUse, Expr, Ident, Role, Update};
-use cif_base::Items;
+use cif_base::{Boxed, Items};
 use cif_decl::given;
 use cif_expr::{
-    ExprPart, Part, Read, expr_list, ident, name, optional, separated, sign, starts, word,
+    ExprPart, Part, Read, expr_list, ident, inside, name, optional, separated_boxes, sign, starts,
+    word,
 };
 use cif_lex::{Mark, Token, TokenKind, Word};
 use std::alloc::Global;
 
 /// `!`, and a value where one is sent.
 #[tactic(auto, unfolding(crate::specs::Reading::send_at))]
-fn send<'a>(alloc: Global, text: &[u8], tokens: &'a [Token]) -> Read<'a, Role>
+fn send<'a>(alloc: Global, text: &[u8], tokens: &'a [Token]) -> Read<'a, Boxed<Role>>
     ensures { Gives (λ x. (x.0, x.1.now)) result (reading.send_at text.now tokens.now) }
 {
     let (_sends, rest) = sign(tokens, Mark::Exclamation)?;
     let (value, rest) = perhaps(&ExprPart, alloc, text, rest)?;
-    Ok((Role::Send(value), rest))
+    let found = Boxed::new(alloc, Role::Send(inside(value)))?;
+    Ok((found, rest))
 }
 
 /// What an automaton does with an event that it doesn't synchronise on.
 struct RolePart;
 
 impl Part for RolePart {
-    type Tree = Role;
+    type Tree = Boxed<Role>;
 
     ghost use Rattle.cif_parse.specs.Reading as reading;
 
     ghost tree_at = { λ s. reading.role_at };
 
     #[tactic(auto, unfolding(crate::specs::Reading::role_at))]
-    fn read<'a>(&self, alloc: Global, text: &[u8], tokens: &'a [Token]) -> Read<'a, Role> {
+    fn read<'a>(&self, alloc: Global, text: &[u8], tokens: &'a [Token]) -> Read<'a, Boxed<Role>> {
         if starts(tokens, &[TokenKind::Sign(Mark::Exclamation)]) {
             send(alloc, text, tokens)
         } else {
             let (_receives, rest) = sign(tokens, Mark::Question)?;
-            Ok((Role::Recv, rest))
+            Ok((Boxed::new(alloc, Role::Recv)?, rest))
         }
     }
 }
 
-fn role_or(role: Option<Role>) -> Role
+fn role_or(role: Option<Boxed<Role>>) -> Role
     ensures { result ≡ tree.role_or role }
 {
     match role {
-        Some(role) => role,
+        Some(role) => role.into_inner(),
         None => Role::Sync,
     }
 }
@@ -60,14 +62,19 @@ fn role_or(role: Option<Role>) -> Role
 struct EventUsePart;
 
 impl Part for EventUsePart {
-    type Tree = EventUse;
+    type Tree = Boxed<EventUse>;
 
     ghost use Rattle.cif_parse.specs.Reading as reading;
 
     ghost tree_at = { λ s. reading.event_use_at };
 
     #[tactic(auto, unfolding(crate::specs::Reading::event_use_at))]
-    fn read<'a>(&self, alloc: Global, text: &[u8], tokens: &'a [Token]) -> Read<'a, EventUse> {
+    fn read<'a>(
+        &self,
+        alloc: Global,
+        text: &[u8],
+        tokens: &'a [Token],
+    ) -> Read<'a, Boxed<EventUse>> {
         let (name, rest) = name(alloc, text, tokens)?;
         let (role, rest) = optional(
             &RolePart,
@@ -80,7 +87,8 @@ impl Part for EventUsePart {
             rest,
         )?;
         let role = role_or(role);
-        Ok((EventUse { name, role }, rest))
+        let found = Boxed::new(alloc, EventUse { name, role })?;
+        Ok((found, rest))
     }
 }
 
@@ -168,7 +176,7 @@ pub fn edge<'a>(alloc: Global, text: &[u8], tokens: &'a [Token]) -> Read<'a, Edg
     ensures { Gives (λ x. (x.0, x.1.now)) result (reading.edge_at text.now tokens.now) }
 {
     let (_edge, rest) = word(tokens, Word::Edge)?;
-    let (uses, rest) = separated(&EventUsePart, alloc, text, Mark::Comma, rest)?;
+    let (uses, rest) = separated_boxes(&EventUsePart, alloc, text, Mark::Comma, rest)?;
     let (guards, rest) = optional(
         &GuardsPart,
         alloc,

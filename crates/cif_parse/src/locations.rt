@@ -9,44 +9,45 @@ use crate::edges::edge;
 use crate::elements::Element;
 use crate::expressions::perhaps;
 use cif_ast::{Edge, Expr, Ident, Loc, LocEquation};
-use cif_base::{Items, Memory};
+use cif_base::{Boxed, Items, Memory};
 use cif_decl::given;
 use cif_expr::{
-    ExprListPart, IdentPart, Part, Read, expr, fitted, ident, optional, repeated, sign, starts,
-    word,
+    ExprListPart, IdentPart, Part, Read, expr, fitted, ident, optional, repeated_boxes, sign,
+    starts, word,
 };
 use cif_lex::{Mark, Token, TokenKind, Word};
 use std::alloc::Global;
 
 /// `initial`, which may have `true` behind it.
 #[tactic(auto, unfolding(crate::specs::Reading::initial_at))]
-fn initial(tokens: &[Token]) -> Read<'_, Element>
+fn initial(alloc: Global, tokens: &[Token]) -> Read<'_, Boxed<Element>>
     ensures { Gives (λ x. (x.0, x.1.now)) result (reading.initial_at tokens.now) }
 {
     let (_initial, rest) = word(tokens, Word::Initial)?;
     if starts(rest, &[TokenKind::Reserved(Word::True)]) {
         let (_true, rest) = word(rest, Word::True)?;
         let (_end, rest) = sign(rest, Mark::Semicolon)?;
-        return Ok((Element::Initial, rest));
+        return Ok((Boxed::new(alloc, Element::Initial)?, rest));
     }
     let (_end, rest) = sign(rest, Mark::Semicolon)?;
-    Ok((Element::Initial, rest))
+    Ok((Boxed::new(alloc, Element::Initial)?, rest))
 }
 
 /// Marking predicates, of which there may be none.
 #[tactic(auto, unfolding(crate::specs::Reading::marked_at))]
-fn marked<'a>(alloc: Global, text: &[u8], tokens: &'a [Token]) -> Read<'a, Element>
+fn marked<'a>(alloc: Global, text: &[u8], tokens: &'a [Token]) -> Read<'a, Boxed<Element>>
     ensures { Gives (λ x. (x.0, x.1.now)) result (reading.marked_at text.now tokens.now) }
 {
     let (_marked, rest) = word(tokens, Word::Marked)?;
     let (predicates, rest) = perhaps(&ExprListPart, alloc, text, rest)?;
     let (_end, rest) = sign(rest, Mark::Semicolon)?;
-    Ok((Element::Marked(given(alloc, predicates)), rest))
+    let found = Boxed::new(alloc, Element::Marked(given(alloc, predicates)))?;
+    Ok((found, rest))
 }
 
 /// The value of an algebraic variable in a location.
 #[tactic(auto, unfolding(crate::specs::Reading::equation_at))]
-fn equation<'a>(alloc: Global, text: &[u8], tokens: &'a [Token]) -> Read<'a, Element>
+fn equation<'a>(alloc: Global, text: &[u8], tokens: &'a [Token]) -> Read<'a, Boxed<Element>>
     ensures { Gives (λ x. (x.0, x.1.now)) result (reading.equation_at text.now tokens.now) }
 {
     let (_equation, rest) = word(tokens, Word::Equation)?;
@@ -54,30 +55,37 @@ fn equation<'a>(alloc: Global, text: &[u8], tokens: &'a [Token]) -> Read<'a, Ele
     let (_is, rest) = sign(rest, Mark::Equal)?;
     let (value, rest) = expr(alloc, text, rest)?;
     let (_end, rest) = sign(rest, Mark::Semicolon)?;
-    Ok((Element::Equation(LocEquation { name, value }), rest))
+    let value = value.into_inner();
+    let found = Boxed::new(alloc, Element::Equation(LocEquation { name, value }))?;
+    Ok((found, rest))
 }
 
 /// An element of a location.
 struct ElementPart;
 
 impl Part for ElementPart {
-    type Tree = Element;
+    type Tree = Boxed<Element>;
 
     ghost use Rattle.cif_parse.specs.Reading as reading;
 
     ghost tree_at = { λ s. reading.element_at };
 
     #[tactic(auto, unfolding(crate::specs::Reading::element_at))]
-    fn read<'a>(&self, alloc: Global, text: &[u8], tokens: &'a [Token]) -> Read<'a, Element> {
+    fn read<'a>(
+        &self,
+        alloc: Global,
+        text: &[u8],
+        tokens: &'a [Token],
+    ) -> Read<'a, Boxed<Element>> {
         if starts(tokens, &[TokenKind::Reserved(Word::Initial)]) {
-            initial(tokens)
+            initial(alloc, tokens)
         } else if starts(tokens, &[TokenKind::Reserved(Word::Marked)]) {
             marked(alloc, text, tokens)
         } else if starts(tokens, &[TokenKind::Reserved(Word::Equation)]) {
             equation(alloc, text, tokens)
         } else {
             let (found, rest) = edge(alloc, text, tokens)?;
-            Ok((Element::Edge(found), rest))
+            Ok((Boxed::new(alloc, Element::Edge(found))?, rest))
         }
     }
 }
@@ -92,7 +100,7 @@ fn elements<'a>(alloc: Global, text: &[u8], tokens: &'a [Token]) -> Read<'a, Ite
         return Ok((Items::new(alloc), rest));
     }
     let (_colon, rest) = sign(tokens, Mark::Colon)?;
-    repeated(
+    repeated_boxes(
         &ElementPart,
         alloc,
         text,

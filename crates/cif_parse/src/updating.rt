@@ -13,7 +13,7 @@ ghost use Rattle.cif_parse.specs.Reading as reading;
 ghost use Rattle.cif_parse.specs.ReadsUpdate.{ReadsUpdate};
 
 use cif_ast::{Update, UpdateBranch};
-use cif_base::Items;
+use cif_base::{Boxed, Items};
 use cif_expr::{Read, ReadError, expr, expr_list, name, only, sign, starts, word};
 use cif_lex::{Mark, Token, TokenKind, Word};
 use std::alloc::Global;
@@ -23,13 +23,15 @@ const MAX_DEPTH: u8 = 100;
 
 /// An assignment.
 #[tactic(auto, unfolding(crate::specs::Reading::set_at))]
-pub fn set<'a>(alloc: Global, text: &[u8], tokens: &'a [Token]) -> Read<'a, Update>
+pub fn set<'a>(alloc: Global, text: &[u8], tokens: &'a [Token]) -> Read<'a, Boxed<Update>>
     ensures { Gives (λ x. (x.0, x.1.now)) result (reading.set_at text.now tokens.now) }
 {
     let (target, rest) = name(alloc, text, tokens)?;
     let (_assign, rest) = sign(rest, Mark::Assign)?;
     let (value, rest) = expr(alloc, text, rest)?;
-    Ok((Update::Set { target, value }, rest))
+    let value = value.into_inner();
+    let found = Boxed::new(alloc, Update::Set { target, value })?;
+    Ok((found, rest))
 }
 
 /// A reader of `if` updates over one of the updates inside them.
@@ -45,10 +47,15 @@ pub struct Choices<'t, F> {
 
 impl<
     't,
-    F: for<'a> Fn(Global, &'t [u8], &'a [Token], u8) -> Result<(Update, &'a [Token]), ReadError>,
+    F: for<'a> Fn(
+        Global,
+        &'t [u8],
+        &'a [Token],
+        u8,
+    ) -> Result<(Boxed<Update>, &'a [Token]), ReadError>,
 > Choices<'t, F> {
     /// An update.
-    fn one<'a>(&self, tokens: &'a [Token]) -> Read<'a, Update>
+    fn one<'a>(&self, tokens: &'a [Token]) -> Read<'a, Boxed<Update>>
         requires { ReadsUpdate self.now.text self.now.depth (F.pre self.now.update) (F.post self.now.update) }
         ensures { Gives (λ x. (x.0, x.1.now)) result (reading.one_update_at self.now.text.now self.now.depth tokens.now) }
     {
@@ -57,7 +64,7 @@ impl<
 
     /// A comma and an update.
     #[tactic(auto, unfolding(cif_expr::specs::Reading::after_sign_at))]
-    fn next<'a>(&self, tokens: &'a [Token]) -> Read<'a, Update>
+    fn next<'a>(&self, tokens: &'a [Token]) -> Read<'a, Boxed<Update>>
         requires { ReadsUpdate self.now.text self.now.depth (F.pre self.now.update) (F.post self.now.update) }
         ensures { Gives (λ x. (x.0, x.1.now)) result (expressions.after_sign_at m.Comma (reading.one_update_at self.now.text.now self.now.depth) tokens.now) }
     {
@@ -77,7 +84,7 @@ impl<
                 return Ok((found, rest));
             }
             let (item, left) = self.next(rest)?;
-            found.push(item)?;
+            found.push(item.into_inner())?;
             rest = left;
         }
         Ok((found, rest))
@@ -90,7 +97,7 @@ impl<
         ensures { Gives (λ x. (x.0, x.1.now)) result (reading.updates_at self.now.text.now self.now.depth tokens.now) }
     {
         let (first, rest) = self.one(tokens)?;
-        let found = only(self.alloc, first)?;
+        let found = only(self.alloc, first.into_inner())?;
         self.more(rest, found)
     }
 
@@ -172,7 +179,7 @@ impl<
 
     /// An `if` update.
     #[tactic(auto, unfolding(crate::specs::Reading::choice_at))]
-    fn choice<'a>(&self, tokens: &'a [Token]) -> Read<'a, Update>
+    fn choice<'a>(&self, tokens: &'a [Token]) -> Read<'a, Boxed<Update>>
         requires { ReadsUpdate self.now.text self.now.depth (F.pre self.now.update) (F.post self.now.update) }
         ensures { Gives (λ x. (x.0, x.1.now)) result (reading.choice_at self.now.text.now (reading.updates_at self.now.text.now self.now.depth) tokens.now) }
     {
@@ -180,7 +187,8 @@ impl<
         let (branches, rest) = self.branches(rest)?;
         let (other, rest) = self.otherwise(rest)?;
         let (_end, rest) = word(rest, Word::End)?;
-        Ok((Update::If { branches, other }, rest))
+        let found = Boxed::new(self.alloc, Update::If { branches, other })?;
+        Ok((found, rest))
     }
 }
 
@@ -191,7 +199,7 @@ fn update<'a>(
     text: &[u8],
     tokens: &'a [Token],
     depth: u8,
-) -> Result<(Update, &'a [Token]), ReadError>
+) -> Result<(Boxed<Update>, &'a [Token]), ReadError>
     ensures { Gives (λ x. (x.0, x.1.now)) result (reading.one_update_at text.now depth tokens.now) }
 {
     if starts(tokens, &[TokenKind::Sign(Mark::Dot), TokenKind::Id]) {
@@ -216,7 +224,7 @@ fn outermost<'a>(
     text: &[u8],
     tokens: &'a [Token],
     depth: u8,
-) -> Result<(Update, &'a [Token]), ReadError>
+) -> Result<(Boxed<Update>, &'a [Token]), ReadError>
     ensures { Gives (λ x. (x.0, x.1.now)) result (reading.one_update_at text.now depth tokens.now) }
 {
     match update(alloc, text, tokens, depth) {

@@ -1,5 +1,5 @@
 -- The emitted program of a plant makes the exact scans of the plant.
-use Rattle.std.proofs.Common.{◌≡◌, ℕ, suc, ◌+◌, ◌-◌, ◌^◌, ◌<◌, pos, Bool, true, false, cond, List, [], ◌∷◌, length, map, filter, Option, Some, None, Ok, get_or, inl, inr, refl, sym, ap, subst, ◌∙◌, arith, le-leb}
+use Rattle.std.proofs.Common.{◌≡◌, ℕ, suc, ◌+◌, ◌-◌, ◌^◌, ◌<◌, pos, Bool, true, false, List, [], ◌∷◌, length, map, filter, Option, Some, None, Ok, get_or, inl, inr, refl, sym, ap, subst, ◌∙◌, arith, le-leb}
 use Rattle.std.specs.List.{range_with_len}
 use Rattle.std.specs.Prelude.{nat_eq, slice_get, slice_set, option_map, unwrap_or, if◌then◌else◌}
 use Rattle.std.proofs.lemmas.List.{get_or-set_same, get_or-set_other, length-set}

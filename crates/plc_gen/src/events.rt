@@ -11,16 +11,13 @@ use st_ast::{StBranch, StExpr, Stmt};
 use std::alloc::Global;
 
 /// Whether the automaton is where the edge begins.
-fn standing_at(alloc: Global, place: &Text, edge: NumberedEdge) -> Result<StExpr, Memory>
+fn standing_at(alloc: Global, place: &Text, edge: NumberedEdge) -> Result<Boxed<StExpr>, Memory>
     ensures { IfOk result (λ e. view_expr e ≡ stands_at place.now edge) }
 {
     let left = Boxed::new(alloc, StExpr::Named(place.copy(alloc)?))?;
     let right = Boxed::new(alloc, StExpr::Int(i64::from(edge.from)))?;
-    Ok(StExpr::Equal {
-        left,
-        equal: true,
-        right,
-    })
+    let equal = true;
+    Boxed::new(alloc, StExpr::Equal { left, equal, right })
 }
 
 /// Goes to where the edge ends, and marks that something fired.
@@ -28,22 +25,21 @@ fn firing(alloc: Global, place: &Text, edge: NumberedEdge) -> Result<Items<Stmt>
     ensures { IfOk result (λ ss. view_stmts ss ≡ taking place.now edge) }
 {
     let target = place.copy(alloc)?;
-    let going = Stmt::Assign {
+    let mut body = Items::new(alloc);
+    body.push(Stmt::Assign {
         target,
         value: StExpr::Int(i64::from(edge.to)),
-    };
-    let mut body = Items::new(alloc);
-    body.push(going)?;
-    body.push(marking(alloc, true)?)?;
+    })?;
+    body.push(marking(alloc, true)?.into_inner())?;
     Ok(body)
 }
 
-fn branch(alloc: Global, place: &Text, edge: NumberedEdge) -> Result<StBranch, Memory>
+fn branch(alloc: Global, place: &Text, edge: NumberedEdge) -> Result<Boxed<StBranch>, Memory>
     ensures { IfOk result (λ b. view_branch b ≡ (stands_at place.now edge, taking place.now edge)) }
 {
-    let cond = standing_at(alloc, place, edge)?;
     let body = firing(alloc, place, edge)?;
-    Ok(StBranch { cond, body })
+    let cond = standing_at(alloc, place, edge)?.into_inner();
+    Boxed::new(alloc, StBranch { cond, body })
 }
 
 fn all_branches(
@@ -55,7 +51,7 @@ fn all_branches(
 {
     let mut all = Items::new(alloc);
     for edge in edges {
-        all.push(branch(alloc, place, *edge)?)?;
+        all.push(branch(alloc, place, *edge)?.into_inner())?;
     }
     Ok(all)
 }

@@ -11,37 +11,31 @@ use st_ast::{StExpr, StOrder, StTerm, Stmt};
 use std::alloc::Global;
 
 /// Whether a further round is to be made: something fired in the last one, and fewer than `bound` are made.
-fn going_on(alloc: Global, bound: u32) -> Result<StExpr, Memory>
+fn going_on(alloc: Global, bound: u32) -> Result<Boxed<StExpr>, Memory>
     ensures { IfOk result (λ e. view_expr e ≡ goes_on bound) }
 {
     let mark = name_of_mark(alloc)?;
     let counter = name_of_counter(alloc)?;
     let left = Boxed::new(alloc, StExpr::Named(counter))?;
     let right = Boxed::new(alloc, StExpr::Int(i64::from(bound)))?;
-    let within = StExpr::Order {
-        left,
-        op: StOrder::Lt,
-        right,
-    };
+    let op = StOrder::Lt;
     let mut parts = Items::new(alloc);
     parts.push(StExpr::Named(mark))?;
-    parts.push(within)?;
-    Ok(StExpr::And(parts))
+    parts.push(StExpr::Order { left, op, right })?;
+    Boxed::new(alloc, StExpr::And(parts))
 }
 
 /// Sets or clears the mark that something fired.
-pub fn marking(alloc: Global, is_set: bool) -> Result<Stmt, Memory>
+pub fn marking(alloc: Global, is_set: bool) -> Result<Boxed<Stmt>, Memory>
     ensures { IfOk result (λ s. view_stmt s ≡ assign fired (truth is_set)) }
 {
     let target = name_of_mark(alloc)?;
-    Ok(Stmt::Assign {
-        target,
-        value: StExpr::Bool(is_set),
-    })
+    let value = StExpr::Bool(is_set);
+    Boxed::new(alloc, Stmt::Assign { target, value })
 }
 
 /// Counts a round.
-fn counting(alloc: Global) -> Result<Stmt, Memory>
+fn counting(alloc: Global) -> Result<Boxed<Stmt>, Memory>
     ensures { IfOk result (λ s. view_stmt s ≡ one_more_round) }
 {
     let target = name_of_counter(alloc)?;
@@ -52,10 +46,8 @@ fn counting(alloc: Global) -> Result<Stmt, Memory>
         minus: false,
         value: StExpr::Int(1),
     })?;
-    Ok(Stmt::Assign {
-        target,
-        value: StExpr::Sum { first, rest },
-    })
+    let value = StExpr::Sum { first, rest };
+    Boxed::new(alloc, Stmt::Assign { target, value })
 }
 
 /// One round: the mark is cleared, every event is tried, and the round is counted.
@@ -64,32 +56,30 @@ fn round(alloc: Global, tries: Items<Stmt>) -> Result<Items<Stmt>, Memory>
     ensures { IfOk result (λ ss. view_stmts ss ≡ one_round (view_stmts tries)) }
 {
     let mut body = Items::new(alloc);
-    body.push(marking(alloc, false)?)?;
+    body.push(marking(alloc, false)?.into_inner())?;
     body.append(tries)?;
-    body.push(counting(alloc)?)?;
+    body.push(counting(alloc)?.into_inner())?;
     Ok(body)
 }
 
 /// Starts the count of rounds.
-fn starting(alloc: Global) -> Result<Stmt, Memory>
+fn starting(alloc: Global) -> Result<Boxed<Stmt>, Memory>
     ensures { IfOk result (λ s. view_stmt s ≡ assign rounds_made (number (pos 0))) }
 {
     let target = name_of_counter(alloc)?;
-    Ok(Stmt::Assign {
-        target,
-        value: StExpr::Int(0),
-    })
+    let value = StExpr::Int(0);
+    Boxed::new(alloc, Stmt::Assign { target, value })
 }
 
 /// The loop of rounds of these statements, which ends after a round in which nothing fired, or after `bound` rounds.
 pub fn rounds(alloc: Global, bound: u32, tries: Items<Stmt>) -> Result<Items<Stmt>, Memory>
     ensures { IfOk result (λ ss. view_stmts ss ≡ loop_of bound (view_stmts tries)) }
 {
-    let cond = going_on(alloc, bound)?;
     let body = round(alloc, tries)?;
     let mut all = Items::new(alloc);
-    all.push(marking(alloc, true)?)?;
-    all.push(starting(alloc)?)?;
+    all.push(marking(alloc, true)?.into_inner())?;
+    all.push(starting(alloc)?.into_inner())?;
+    let cond = going_on(alloc, bound)?.into_inner();
     all.push(Stmt::While { cond, body })?;
     Ok(all)
 }

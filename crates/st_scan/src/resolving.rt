@@ -33,60 +33,53 @@ fn type_of(vars: &[StVar], place: usize) -> StTy
     }
 }
 
+/// An expression in a box, in which it is quick to check.
 #[cycle(resolve_expressions)]
-fn resolve_expr(alloc: Global, program: &Checked, expr: &StExpr) -> Result<PlacedExpr, Memory>
-    ensures { IfOk result (λ e. expr_view e ≡ placed program.now.vars (view_expr expr.now)) }
-{
-    match expr {
-        StExpr::Bool(truth) => Ok(PlacedExpr::Bool(*truth)),
-        StExpr::Int(number) => Ok(PlacedExpr::Int(*number)),
-        StExpr::Named(name) => {
-            Ok(PlacedExpr::Place(find_place(alloc, program, name.as_slice())?))
-        }
-        StExpr::Paren(inner) => resolve_expr(alloc, program, inner.get()),
-        StExpr::Not(operand) => { Ok(PlacedExpr::Not(resolve_box(alloc, program, operand)?)) }
-        StExpr::Sum { first, rest } => {
-            let first = resolve_box(alloc, program, first)?;
-            let rest = resolve_terms(alloc, program, rest.as_slice())?;
-            Ok(PlacedExpr::Sum { first, rest })
-        }
-        StExpr::Order { left, op, right } => {
-            let left = resolve_box(alloc, program, left)?;
-            let right = resolve_box(alloc, program, right)?;
-            Ok(PlacedExpr::Order {
-                left,
-                op: *op,
-                right,
-            })
-        }
-        StExpr::Equal { left, equal, right } => {
-            let left = resolve_box(alloc, program, left)?;
-            let right = resolve_box(alloc, program, right)?;
-            Ok(PlacedExpr::Equal {
-                left,
-                equal: *equal,
-                right,
-            })
-        }
-        StExpr::And(operands) => {
-            Ok(PlacedExpr::And(resolve_exprs(alloc, program, operands.as_slice())?))
-        }
-        StExpr::Or(operands) => {
-            Ok(PlacedExpr::Or(resolve_exprs(alloc, program, operands.as_slice())?))
-        }
-    }
-}
-
-#[cycle(resolve_expressions)]
-fn resolve_box(
+fn resolve_expr(
     alloc: Global,
     program: &Checked,
-    expr: &Boxed<StExpr>,
+    expr: &StExpr,
 ) -> Result<Boxed<PlacedExpr>, Memory>
     ensures { IfOk result (λ e. expr_view e ≡ placed program.now.vars (view_expr expr.now)) }
 {
-    let placed = resolve_expr(alloc, program, expr.get())?;
-    Boxed::new(alloc, placed)
+    match expr {
+        StExpr::Bool(truth) => Boxed::new(alloc, PlacedExpr::Bool(*truth)),
+        StExpr::Int(number) => Boxed::new(alloc, PlacedExpr::Int(*number)),
+        StExpr::Named(name) => {
+            let place = find_place(alloc, program, name.as_slice())?;
+            Boxed::new(alloc, PlacedExpr::Place(place))
+        }
+        StExpr::Paren(inner) => resolve_expr(alloc, program, inner.get()),
+        StExpr::Not(operand) => {
+            let operand = resolve_expr(alloc, program, operand.get())?;
+            Boxed::new(alloc, PlacedExpr::Not(operand))
+        }
+        StExpr::Sum { first, rest } => {
+            let first = resolve_expr(alloc, program, first.get())?;
+            let rest = resolve_terms(alloc, program, rest.as_slice())?;
+            Boxed::new(alloc, PlacedExpr::Sum { first, rest })
+        }
+        StExpr::Order { left, op, right } => {
+            let op = *op;
+            let left = resolve_expr(alloc, program, left.get())?;
+            let right = resolve_expr(alloc, program, right.get())?;
+            Boxed::new(alloc, PlacedExpr::Order { left, op, right })
+        }
+        StExpr::Equal { left, equal, right } => {
+            let equal = *equal;
+            let left = resolve_expr(alloc, program, left.get())?;
+            let right = resolve_expr(alloc, program, right.get())?;
+            Boxed::new(alloc, PlacedExpr::Equal { left, equal, right })
+        }
+        StExpr::And(operands) => {
+            let operands = resolve_exprs(alloc, program, operands.as_slice())?;
+            Boxed::new(alloc, PlacedExpr::And(operands))
+        }
+        StExpr::Or(operands) => {
+            let operands = resolve_exprs(alloc, program, operands.as_slice())?;
+            Boxed::new(alloc, PlacedExpr::Or(operands))
+        }
+    }
 }
 
 #[cycle(resolve_expressions)]
@@ -99,7 +92,7 @@ fn resolve_exprs(
 {
     let mut found = Items::new(alloc);
     for expr in exprs {
-        found.push(resolve_expr(alloc, program, expr)?)?;
+        found.push(resolve_expr(alloc, program, expr)?.into_inner())?;
     }
     Ok(found)
 }
@@ -114,7 +107,7 @@ fn resolve_terms(
 {
     let mut found = Items::new(alloc);
     for term in terms {
-        let value = resolve_expr(alloc, program, &term.value)?;
+        let value = resolve_expr(alloc, program, &term.value)?.into_inner();
         found.push(PlacedTerm {
             minus: term.minus,
             value,
@@ -134,33 +127,33 @@ fn choose_or(branches: Items<PlacedBranch>, body: Items<PlacedStmt>) -> PlacedSt
 }
 
 #[cycle(resolve_statements)]
-fn resolve_stmt(alloc: Global, program: &Checked, stmt: &Stmt) -> Result<PlacedStmt, Memory>
+fn resolve_stmt(alloc: Global, program: &Checked, stmt: &Stmt) -> Result<Boxed<PlacedStmt>, Memory>
     ensures { IfOk result (λ s. stmt_view s ≡ placed_stm program.now.vars (view_stmt stmt.now)) }
 {
     match stmt {
         Stmt::Assign { target, value } => {
             let place = find_place(alloc, program, target.as_slice())?;
             let ty = type_of(program.program().vars.as_slice(), place as usize);
-            let value = resolve_expr(alloc, program, value)?;
-            Ok(PlacedStmt::Assign { place, ty, value })
+            let value = resolve_expr(alloc, program, value)?.into_inner();
+            Boxed::new(alloc, PlacedStmt::Assign { place, ty, value })
         }
         Stmt::If { branches, other } => {
             let branches = resolve_branches(alloc, program, branches.as_slice())?;
             match other {
                 Some(body) => {
                     let body = resolve_stmts(alloc, program, body.as_slice())?;
-                    Ok(choose_or(branches, body))
+                    Boxed::new(alloc, choose_or(branches, body))
                 }
-                None => Ok(PlacedStmt::If {
-                    branches,
-                    other: None,
-                }),
+                None => {
+                    let other = None;
+                    Boxed::new(alloc, PlacedStmt::If { branches, other })
+                }
             }
         }
         Stmt::While { cond, body } => {
-            let cond = resolve_expr(alloc, program, cond)?;
             let body = resolve_stmts(alloc, program, body.as_slice())?;
-            Ok(PlacedStmt::While { cond, body })
+            let cond = resolve_expr(alloc, program, cond)?.into_inner();
+            Boxed::new(alloc, PlacedStmt::While { cond, body })
         }
     }
 }
@@ -176,7 +169,7 @@ pub fn resolve_stmts(
 {
     let mut found = Items::new(alloc);
     for stmt in stmts {
-        found.push(resolve_stmt(alloc, program, stmt)?)?;
+        found.push(resolve_stmt(alloc, program, stmt)?.into_inner())?;
     }
     Ok(found)
 }
@@ -191,8 +184,8 @@ fn resolve_branches(
 {
     let mut found = Items::new(alloc);
     for branch in branches {
-        let cond = resolve_expr(alloc, program, &branch.cond)?;
         let body = resolve_stmts(alloc, program, branch.body.as_slice())?;
+        let cond = resolve_expr(alloc, program, &branch.cond)?.into_inner();
         found.push(PlacedBranch { cond, body })?;
     }
     Ok(found)
