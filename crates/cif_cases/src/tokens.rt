@@ -95,7 +95,7 @@ pub fn expr_case(fields: &Fields<'_>, page: &mut String) -> Result<(), Fault> {
     match expr(fields.alloc, text.as_slice(), tokens.as_slice()) {
         Ok((tree, rest)) => {
             page.push_str("  ")?;
-            put_shape(page, &tree)?;
+            put_shape(page, tree.get())?;
             put_left(page, rest)?;
         }
         Err(error) => put_stop(page, error)?,
