@@ -18,7 +18,7 @@ use Rattle.st_scan.specs.declared.error.ScanErr.TheVariants as scan
 use Rattle.cif_plant.specs.Meaning.{system_of}
 use Rattle.plc_face.specs.Scans.{IsProgramOf, NeverFaults, RunsFirstSteps, ScansLegally, ScansExactly, ShowsOutputs, StaysTyped}
 use Rattle.plc_gen.specs.Interface.{face_of}
-use Rattle.plc_back.specs.Texts.{TheProgram}
+use Rattle.plc_back.specs.Texts.{IsLayoutOf, TheProgram}
 use Rattle.cif_tool.specs.declared.status.Status.{Status}
 use Rattle.cif_tool.specs.declared.status.Status.TheVariants as status
 use Rattle.cif_tool.specs.declared.status.Refusal.{Refusal}
@@ -137,6 +137,7 @@ pub record IsTextOf (unc con : ℕ) (p : Plant) (text : Text) : Type 0 where
   pub scans_exactly : TheProgram text (ScansExactly unc con (face_of (numbered p)) (system_of p))
   pub shows_outputs : TheProgram text (ShowsOutputs (face_of (numbered p)) (system_of p))
   pub stays_typed : TheProgram text (StaysTyped (system_of p))
+  pub laid_out : TheProgram text (IsLayoutOf text)
 
 -- the text is one of a program of the plant that these bytes read as
 abbrev pub IsTextFor : ℕ → ℕ → Text → Text → Type 0

@@ -16,7 +16,7 @@ ghost use Rattle.plc_rows.specs.declared.error.RowErr.{RowErr};
 ghost use Rattle.cif_plant.specs.Meaning.{system_of};
 ghost use Rattle.plc_face.specs.Scans.{IsProgramOf, NeverFaults, RunsFirstSteps, ScansLegally, ScansExactly, ShowsOutputs, StaysTyped};
 ghost use Rattle.plc_gen.specs.Interface.{face_of};
-ghost use Rattle.plc_back.specs.Texts.{TheProgram};
+ghost use Rattle.plc_back.specs.Texts.{IsLayoutOf, TheProgram};
 ghost use Rattle.cif_tool.specs.declared.status.Refusal.{Refusal};
 ghost use Rattle.cif_tool.specs.declared.status.StRefusal.{StRefusal};
 ghost use Rattle.cif_tool.specs.Asked.{asked};
@@ -218,6 +218,8 @@ pub fn tool<F: Files, O: Sink, E: Sink>(
     ensures stays_typed { Generated result (map string_bytes words.now) (F.content files.old)
         (O.written out.old) (O.written out.new)
         (λ g p text. TheProgram text (StaysTyped (system_of p))) }
+    ensures laid_out { Generated result (map string_bytes words.now) (F.content files.old)
+        (O.written out.old) (O.written out.new) (λ g p text. TheProgram text (IsLayoutOf text)) }
 {
     let ended = run(alloc, words, files, out);
     report(alloc, words, ended, err)

@@ -1,5 +1,5 @@
 -- The printed program of a plant keeps what is promised of it.
-use Rattle.std.proofs.Common.{◌≡◌, ℕ, ◌+◌, ◌≤◌}
+use Rattle.std.proofs.Common.{◌≡◌, ℕ, ◌+◌, ◌≤◌, refl}
 use Rattle.cif_plant.specs.Meaning.{system_of_numbered}
 use Rattle.cif_plant.specs.declared.numbered.NumberedPlant.{NumberedPlant}
 use Rattle.st_ast.specs.Tree.{Program}
@@ -12,7 +12,7 @@ use Rattle.plc_gen.specs.Emitted.{program_of}
 use Rattle.plc_gen.specs.Interface.{face_of}
 use Rattle.plc_gen.proofs.PlantScans.{state_of, starts, plant-exact, plant-shows, plant-typed}
 use Rattle.plc_back.specs.HasProgram.{HasProgram}
-use Rattle.plc_back.specs.Texts.{TheProgram}
+use Rattle.plc_back.specs.Texts.{IsLayoutOf, TheProgram}
 use Rattle.plc_back.proofs.ReadAgain.{printed-reads, program-interface}
 
 module _ (n : NumberedPlant) (U C : ℕ) (h : HasProgram n U C) where
@@ -24,6 +24,9 @@ module _ (n : NumberedPlant) (U C : ℕ) (h : HasProgram n U C) where
 
   pub is_program_of : TheProgram (printed (program_of n U C)) (IsProgramOf (face_of n) (system_of_numbered n))
   is_program_of = of_text (IsProgramOf (face_of n) (system_of_numbered n)) (program-interface n U C h.name, state_of n h.name U C _ _ (starts n U C h.numbered))
+
+  pub laid_out : TheProgram (printed (program_of n U C)) (IsLayoutOf (printed (program_of n U C)))
+  laid_out = of_text (IsLayoutOf (printed (program_of n U C))) refl
 
   module _ (enough : U + C ≤ turns_of_scan) where
     exact : ScansExactly U C (face_of n) (system_of_numbered n) (program_of n U C)

@@ -8,7 +8,7 @@ ghost use Rattle.st_print.specs.Layout.{printed};
 ghost use Rattle.plc_face.specs.Scans.{IsProgramOf, NeverFaults, RunsFirstSteps, ScansLegally, ScansExactly, ShowsOutputs, StaysTyped};
 ghost use Rattle.plc_gen.specs.Emitted.{program_of};
 ghost use Rattle.plc_gen.specs.Interface.{face_of};
-ghost use Rattle.plc_back.specs.Texts.{TheProgram};
+ghost use Rattle.plc_back.specs.Texts.{IsLayoutOf, TheProgram};
 
 use cif_base::Memory;
 use cif_plant::NumberedPlant;
@@ -50,6 +50,7 @@ pub fn generate_text(
         TheProgram text.items (ShowsOutputs (face_of plant.now) (system_of_numbered plant.now))) }
     ensures stays_typed { IfOk result (λ text.
         TheProgram text.items (StaysTyped (system_of_numbered plant.now))) }
+    ensures laid_out { IfOk result (λ text. TheProgram text.items (IsLayoutOf text.items)) }
 {
     let _places = plant.places;
     let text = program_text(alloc, plant, bounds)?;

@@ -4,8 +4,8 @@ use Rattle.cif_plant.specs.Meaning.{system_of_numbered}
 use Rattle.plc_face.specs.Scans.{IsProgramOf, NeverFaults, RunsFirstSteps, ScansLegally, ScansExactly, ShowsOutputs, StaysTyped}
 use Rattle.plc_gen.specs.Interface.{face_of}
 use Rattle.plc_back.specs.HasProgram.{HasProgram}
-use Rattle.plc_back.specs.Texts.{TheProgram}
-use Rattle.plc_back.proofs.TextLaws.{is_program_of, never_faults, runs_first_steps, scans_legally, scans_exactly, shows_outputs, stays_typed}
+use Rattle.plc_back.specs.Texts.{IsLayoutOf, TheProgram}
+use Rattle.plc_back.proofs.TextLaws.{is_program_of, never_faults, runs_first_steps, scans_legally, scans_exactly, shows_outputs, stays_typed, laid_out}
 use Rattle.plc_back.proofs.generate_text.Goals as goal
 
 has_program : (c : goal.In_ok-text) → HasProgram c.args.plant.now c.args.bounds.unc c.args.bounds.con
@@ -45,3 +45,8 @@ pub returns-clause-stays_typed : goal.returns-clause-stays_typed
 returns-clause-stays_typed c =
     subst (λ (t : Text). TheProgram t (StaysTyped (system_of_numbered c.args.plant.now))) (sym c.in_ok-text.ensures)
     (stays_typed c.args.plant.now c.args.bounds.unc c.args.bounds.con (has_program c) c.requires.turns)
+
+pub returns-clause-laid_out : goal.returns-clause-laid_out
+returns-clause-laid_out c =
+    subst (λ (t : Text). TheProgram t (IsLayoutOf t)) (sym c.in_ok-text.ensures)
+    (laid_out c.args.plant.now c.args.bounds.unc c.args.bounds.con (has_program c))

@@ -3,7 +3,7 @@ use Rattle.cif_plant.specs.Numbers.{numbered}
 use Rattle.cif_plant.specs.Meaning.{system_of}
 use Rattle.plc_face.specs.Scans.{IsProgramOf, NeverFaults, RunsFirstSteps, ScansLegally, ScansExactly, ShowsOutputs, StaysTyped}
 use Rattle.plc_gen.specs.Interface.{face_of}
-use Rattle.plc_back.specs.Texts.{TheProgram}
+use Rattle.plc_back.specs.Texts.{IsLayoutOf, TheProgram}
 use Rattle.cif_tool.specs.Answers.{Call}
 use Rattle.cif_tool.proofs.ToolLemmas as tool
 use Rattle.cif_tool.proofs.CompleteLemmas as complete
@@ -151,3 +151,8 @@ pub returns-clause-stays_typed : goal.returns-clause-stays_typed
 unfolding call
 returns-clause-stays_typed g c = tool.generated (call g c) c.run-ended.result.status c.report.result c.run-ended.ensures.ran c.report.ensures.unless_memory
     (λ m p text. TheProgram text (StaysTyped (system_of p))) (λ m p text h. h.stays_typed)
+
+pub returns-clause-laid_out : goal.returns-clause-laid_out
+unfolding call
+returns-clause-laid_out g c = tool.generated (call g c) c.run-ended.result.status c.report.result c.run-ended.ensures.ran c.report.ensures.unless_memory
+    (λ m p text. TheProgram text (IsLayoutOf text)) (λ m p text h. h.laid_out)
