@@ -8,10 +8,7 @@ use crate::plants::{Sight as Plant, emit_case, plant_case};
 use crate::programs::{check_case, print_case, read_case, rows_case, scan_case};
 use crate::sources::{Sight as Source, source_case};
 use crate::stores::{int_case, put_case, reads_case, sure_put_case, sure_reads_case};
-use crate::tokens::{
-    component_case, declaration_case, disc_case, events_case, expr_case, exprs_case, ids_case,
-    invariants_case, kind_case, lex_case, names_case, parameters_case, plain_case, types_case,
-};
+use crate::tokens::{Front, front_case};
 use crate::values::{interval_case, list_case, text_case};
 
 /// A call, by the first word of a case.
@@ -38,25 +35,6 @@ pub enum Store {
     Interval,
     List,
     Text,
-}
-
-/// Readers of the front of a CIF source.
-#[derive(Clone, Copy)]
-pub enum Front {
-    Lex,
-    Expr,
-    Exprs,
-    Names,
-    Ids,
-    Declaration,
-    Types,
-    Events,
-    Disc,
-    Plain,
-    Invariants,
-    Kind,
-    Component,
-    Parameters,
 }
 
 /// Calls on Structured Text and on rows.
@@ -129,25 +107,6 @@ fn program_named(word: &str) -> Option<Program> {
     }
 }
 
-fn front_case(front: Front, fields: &Fields<'_>, page: &mut String) -> Result<(), Fault> {
-    match front {
-        Front::Lex => lex_case(fields, page),
-        Front::Expr => expr_case(fields, page),
-        Front::Exprs => exprs_case(fields, page),
-        Front::Names => names_case(fields, page),
-        Front::Ids => ids_case(fields, page),
-        Front::Declaration => declaration_case(fields, page),
-        Front::Types => types_case(fields, page),
-        Front::Events => events_case(fields, page),
-        Front::Disc => disc_case(fields, page),
-        Front::Plain => plain_case(fields, page),
-        Front::Invariants => invariants_case(fields, page),
-        Front::Kind => kind_case(fields, page),
-        Front::Component => component_case(fields, page),
-        Front::Parameters => parameters_case(fields, page),
-    }
-}
-
 fn store_case(store: Store, fields: &Fields<'_>, page: &mut String) -> Result<(), Fault> {
     match store {
         Store::Put => put_case(fields, page),
@@ -199,7 +158,7 @@ impl Call {
             Call::Tool => tool_case(fields, page),
             Call::Laws => laws_case(page),
             Call::Store(store) => store_case(store, fields, page),
-            Call::Front(front) => front_case(front, fields, page),
+            Call::Front(front) => front_case(fields, page, front),
             Call::Source(sight) => source_case(fields, page, sight),
             Call::Plant(sight) => plant_case(fields, page, sight),
             Call::Emit => emit_case(fields, page),
