@@ -4,10 +4,12 @@ use crate::commands::tool_case;
 use crate::fault::Fault;
 use crate::fields::Fields;
 use crate::laws::laws_case;
+use crate::naming::name_case;
 use crate::plants::{Sight as Plant, emit_case, plant_case};
 use crate::programs::{check_case, print_case, read_case, rows_case, scan_case};
 use crate::sources::{Sight as Source, source_case};
 use crate::stores::{int_case, put_case, reads_case, sure_put_case, sure_reads_case};
+use crate::tables::table_case;
 use crate::tokens::{Front, front_case};
 use crate::values::{interval_case, list_case, text_case};
 
@@ -21,6 +23,7 @@ pub enum Call {
     Source(Source),
     Plant(Plant),
     Emit,
+    Name,
     Program(Program),
 }
 
@@ -45,6 +48,7 @@ pub enum Program {
     Check,
     Scan,
     Rows,
+    Table,
 }
 
 fn front_named(word: &str) -> Option<Front> {
@@ -103,6 +107,7 @@ fn program_named(word: &str) -> Option<Program> {
         "check" => Some(Program::Check),
         "scan" => Some(Program::Scan),
         "rows" => Some(Program::Rows),
+        "table" => Some(Program::Table),
         _ => None,
     }
 }
@@ -127,6 +132,7 @@ fn program_case(program: Program, fields: &Fields<'_>, page: &mut String) -> Res
         Program::Check => check_case(fields, page),
         Program::Scan => scan_case(fields, page),
         Program::Rows => rows_case(fields, page),
+        Program::Table => table_case(fields, page),
     }
 }
 
@@ -138,6 +144,7 @@ impl Call {
             "plant" => return Some(Call::Plant(Plant::Form)),
             "numbers" => return Some(Call::Plant(Plant::Numbers)),
             "emit" => return Some(Call::Emit),
+            "name" => return Some(Call::Name),
             _ => {}
         }
         if let Some(front) = front_named(word) {
@@ -162,6 +169,7 @@ impl Call {
             Call::Source(sight) => source_case(fields, page, sight),
             Call::Plant(sight) => plant_case(fields, page, sight),
             Call::Emit => emit_case(fields, page),
+            Call::Name => name_case(fields, page),
             Call::Program(program) => program_case(program, fields, page),
         }
     }
