@@ -4,14 +4,13 @@ use crate::commands::tool_case;
 use crate::fault::Fault;
 use crate::fields::Fields;
 use crate::laws::laws_case;
+use crate::naming::name_case;
 use crate::plants::{Sight as Plant, emit_case, plant_case};
 use crate::programs::{check_case, print_case, read_case, rows_case, scan_case};
 use crate::sources::{Sight as Source, source_case};
 use crate::stores::{int_case, put_case, reads_case, sure_put_case, sure_reads_case};
-use crate::tokens::{
-    component_case, declaration_case, disc_case, events_case, expr_case, exprs_case, ids_case,
-    invariants_case, kind_case, lex_case, names_case, parameters_case, plain_case, types_case,
-};
+use crate::tables::table_case;
+use crate::tokens::{Front, front_case};
 use crate::values::{interval_case, list_case, text_case};
 
 /// A call, by the first word of a case.
@@ -24,6 +23,7 @@ pub enum Call {
     Source(Source),
     Plant(Plant),
     Emit,
+    Name,
     Program(Program),
 }
 
@@ -40,25 +40,6 @@ pub enum Store {
     Text,
 }
 
-/// Readers of the front of a CIF source.
-#[derive(Clone, Copy)]
-pub enum Front {
-    Lex,
-    Expr,
-    Exprs,
-    Names,
-    Ids,
-    Declaration,
-    Types,
-    Events,
-    Disc,
-    Plain,
-    Invariants,
-    Kind,
-    Component,
-    Parameters,
-}
-
 /// Calls on Structured Text and on rows.
 #[derive(Clone, Copy)]
 pub enum Program {
@@ -67,6 +48,7 @@ pub enum Program {
     Check,
     Scan,
     Rows,
+    Table,
 }
 
 fn front_named(word: &str) -> Option<Front> {
@@ -125,26 +107,8 @@ fn program_named(word: &str) -> Option<Program> {
         "check" => Some(Program::Check),
         "scan" => Some(Program::Scan),
         "rows" => Some(Program::Rows),
+        "table" => Some(Program::Table),
         _ => None,
-    }
-}
-
-fn front_case(front: Front, fields: &Fields<'_>, page: &mut String) -> Result<(), Fault> {
-    match front {
-        Front::Lex => lex_case(fields, page),
-        Front::Expr => expr_case(fields, page),
-        Front::Exprs => exprs_case(fields, page),
-        Front::Names => names_case(fields, page),
-        Front::Ids => ids_case(fields, page),
-        Front::Declaration => declaration_case(fields, page),
-        Front::Types => types_case(fields, page),
-        Front::Events => events_case(fields, page),
-        Front::Disc => disc_case(fields, page),
-        Front::Plain => plain_case(fields, page),
-        Front::Invariants => invariants_case(fields, page),
-        Front::Kind => kind_case(fields, page),
-        Front::Component => component_case(fields, page),
-        Front::Parameters => parameters_case(fields, page),
     }
 }
 
@@ -168,6 +132,7 @@ fn program_case(program: Program, fields: &Fields<'_>, page: &mut String) -> Res
         Program::Check => check_case(fields, page),
         Program::Scan => scan_case(fields, page),
         Program::Rows => rows_case(fields, page),
+        Program::Table => table_case(fields, page),
     }
 }
 
@@ -179,6 +144,7 @@ impl Call {
             "plant" => return Some(Call::Plant(Plant::Form)),
             "numbers" => return Some(Call::Plant(Plant::Numbers)),
             "emit" => return Some(Call::Emit),
+            "name" => return Some(Call::Name),
             _ => {}
         }
         if let Some(front) = front_named(word) {
@@ -199,10 +165,11 @@ impl Call {
             Call::Tool => tool_case(fields, page),
             Call::Laws => laws_case(page),
             Call::Store(store) => store_case(store, fields, page),
-            Call::Front(front) => front_case(front, fields, page),
+            Call::Front(front) => front_case(fields, page, front),
             Call::Source(sight) => source_case(fields, page, sight),
             Call::Plant(sight) => plant_case(fields, page, sight),
             Call::Emit => emit_case(fields, page),
+            Call::Name => name_case(fields, page),
             Call::Program(program) => program_case(program, fields, page),
         }
     }

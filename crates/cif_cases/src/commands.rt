@@ -3,10 +3,10 @@
 use crate::fault::Fault;
 use crate::fields::{Fields, first_word, number};
 use crate::page::put_lines;
-use crate::told::put_status;
+use crate::told::{Put, put_status};
 use cif_base::Text;
 use cif_io::{MemFile, MemFiles, MemSink};
-use cif_tool::{code, tool};
+use cif_tool::{Status, code, tool};
 use std::alloc::Global;
 
 /// Files and sinks as a case asks for them: which reads fail, which writes of `out` fail, and how many bytes a write takes.
@@ -51,42 +51,72 @@ impl Asked {
     }
 }
 
+/// The word of a command line that a text of the notation stands for.
+fn word(fields: &Fields<'_>, word: &str) -> Result<String, Fault> {
+    let bytes = fields.bytes_of(word)?;
+    match str::from_utf8(bytes.as_slice()) {
+        Ok(word) => Ok(String::from_str(fields.alloc, word)?),
+        Err(_) => Err(Fault::Form("a word is no UTF-8")),
+    }
+}
+
 /// The words of a command line.
 fn words(fields: &Fields<'_>) -> Result<Vec<String>, Fault> {
     let mut all = Vec::new(fields.alloc);
-    for word in fields.written(0).split_whitespace() {
-        let bytes = fields.bytes_of(word)?;
-        let Ok(word) = str::from_utf8(bytes.as_slice()) else {
-            return Err(Fault::Form("a word is no UTF-8"));
-        };
-        all.push(String::from_str(fields.alloc, word)?)?;
+    for text in fields.written(0).split_whitespace() {
+        all.push(word(fields, text)?)?;
     }
     Ok(all)
 }
 
-/// `tool WORD.. | file NAME TEXT | reads N.. | writes N.. | takes N`
-pub fn tool_case(fields: &Fields<'_>, page: &mut String) -> Result<(), Fault> {
-    let alloc = fields.alloc;
-    let words = words(fields)?;
-    let mut asked = Asked::new(alloc);
+/// What the fields behind the first ask for.
+fn all_asked(fields: &Fields<'_>) -> Result<Asked, Fault> {
+    let mut asked = Asked::new(fields.alloc);
     for field in fields.others() {
         asked.add(fields, field)?;
     }
+    Ok(asked)
+}
+
+/// How a call ends: its status, and what the output and standard error hold.
+fn put_ended(page: &mut String, status: Status, out: &[u8], err: &[u8]) -> Put {
+    page.push_str("  ")?;
+    put_status(page, status)?;
+    let code = code(&status);
+    write!(page, ", code {code}\n")?;
+    put_lines(page, "out", out)?;
+    put_lines(page, "err", err)
+}
+
+/// Makes the call over these files, with this output.
+fn put_run(
+    alloc: Global,
+    page: &mut String,
+    words: &[String],
+    files: &mut MemFiles,
+    out: &mut MemSink,
+) -> Put {
+    let mut err = MemSink::new(alloc, 7, Vec::new(alloc));
+    let status = tool(alloc, words, files, out, &mut err);
+    put_ended(page, status, out.as_slice(), err.as_slice())
+}
+
+/// Makes the call over the files and sinks that are asked for.
+fn put_tool(alloc: Global, page: &mut String, words: &[String], asked: Asked) -> Result<(), Fault> {
     let Asked {
         files,
         reads,
         writes,
         takes,
     } = asked;
-    let mut files = MemFiles::new(alloc, files, reads)?;
     let mut out = MemSink::new(alloc, takes.max(1), writes);
-    let mut err = MemSink::new(alloc, 7, Vec::new(alloc));
-    let status = tool(alloc, words.as_slice(), &mut files, &mut out, &mut err);
-    page.push_str("  ")?;
-    put_status(page, status)?;
-    let code = code(&status);
-    write!(page, ", code {code}\n")?;
-    put_lines(page, "out", out.as_slice())?;
-    put_lines(page, "err", err.as_slice())?;
-    Ok(())
+    let mut files = MemFiles::new(alloc, files, reads)?;
+    Ok(put_run(alloc, page, words, &mut files, &mut out)?)
+}
+
+/// `tool WORD.. | file NAME TEXT | reads N.. | writes N.. | takes N`
+pub fn tool_case(fields: &Fields<'_>, page: &mut String) -> Result<(), Fault> {
+    let words = words(fields)?;
+    let asked = all_asked(fields)?;
+    put_tool(fields.alloc, page, words.as_slice(), asked)
 }

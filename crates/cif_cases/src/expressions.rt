@@ -61,82 +61,82 @@ fn sign_of(op: CmpOp) -> &'static str {
     }
 }
 
+/// The word of an operator, between blanks.
 fn word_of(op: MulOp) -> &'static str {
     match op {
-        MulOp::Times => "*",
-        MulOp::Div => "div",
-        MulOp::Mod => "mod",
+        MulOp::Times => " * ",
+        MulOp::Div => " div ",
+        MulOp::Mod => " mod ",
     }
-}
-
-/// The parts of a form in parentheses, behind its word.
-macro_rules! put_parts {
-    ($page:expr, $word:expr, $($part:expr),+) => {{
-        $page.push('(')?;
-        $page.push_str($word)?;
-        $(
-            $page.push(' ')?;
-            put_tree($page, $part.get())?;
-        )+
-        $page.push(')')
-    }};
 }
 
 /// A whole expression, each part with the byte where it begins.
 #[cycle(tree)]
 pub fn put_tree(page: &mut String, expr: &Expr) -> Put {
     put_form(page, &expr.form)?;
-    let at = expr.at;
+    put_place(page, expr.at)
+}
+
+fn put_place(page: &mut String, at: u32) -> Put {
     write!(page, "@{at}")
+}
+
+fn put_bool(page: &mut String, value: bool) -> Put {
+    page.push_str(if value { "true" } else { "false" })
+}
+
+fn put_int(page: &mut String, value: i64) -> Put {
+    write!(page, "{value}")
 }
 
 #[cycle(tree)]
 fn put_form(page: &mut String, form: &Form) -> Put {
     match form {
-        Form::Bool(value) => write!(page, "{value}"),
-        Form::Int(value) => write!(page, "{value}"),
+        Form::Bool(value) => put_bool(page, *value),
+        Form::Int(value) => put_int(page, *value),
         Form::Named(name) => put_name(page, name),
         Form::Received => page.push('?'),
-        Form::Paren(e) => put_parts!(page, "paren", e),
-        Form::Neg(e) => put_parts!(page, "-", e),
-        Form::Plus(e) => put_parts!(page, "+", e),
-        Form::Not(e) => put_parts!(page, "not", e),
-        Form::Abs(e) => put_parts!(page, "abs", e),
-        Form::Min(a, b) => put_parts!(page, "min", a, b),
-        Form::Max(a, b) => put_parts!(page, "max", a, b),
-        Form::Sum { first, rest } => {
-            page.push_str("(sum ")?;
-            put_tree(page, first.get())?;
-            put_terms(page, rest.as_slice())
-        }
-        Form::Product { first, rest } => {
-            page.push_str("(product ")?;
-            put_tree(page, first.get())?;
-            put_factors(page, rest.as_slice())
-        }
-        Form::Compare { left, op, right } => put_parts!(page, sign_of(*op), left, right),
-        Form::And(all) => {
-            page.push_str("(and")?;
-            put_all(page, all.as_slice())
-        }
-        Form::Or(all) => {
-            page.push_str("(or")?;
-            put_all(page, all.as_slice())
-        }
-        Form::Implies(a, b) => put_parts!(page, "=>", a, b),
-        Form::Iff(a, b) => put_parts!(page, "<=>", a, b),
-        Form::If { branches, other } => {
-            page.push_str("(if")?;
-            put_branches(page, branches.as_slice())?;
-            page.push_str(" else ")?;
-            put_tree(page, other.get())?;
-            page.push(')')
-        }
+        Form::Paren(e) => put_one(page, "(paren ", e.get()),
+        Form::Neg(e) => put_one(page, "(- ", e.get()),
+        Form::Plus(e) => put_one(page, "(+ ", e.get()),
+        Form::Not(e) => put_one(page, "(not ", e.get()),
+        Form::Abs(e) => put_one(page, "(abs ", e.get()),
+        Form::Min(a, b) => put_two(page, "min", a.get(), b.get()),
+        Form::Max(a, b) => put_two(page, "max", a.get(), b.get()),
+        Form::Sum { first, rest } => put_sum(page, first.get(), rest.as_slice()),
+        Form::Product { first, rest } => put_product(page, first.get(), rest.as_slice()),
+        Form::Compare { left, op, right } => put_two(page, sign_of(*op), left.get(), right.get()),
+        Form::And(all) => put_all(page, "(and", all.as_slice()),
+        Form::Or(all) => put_all(page, "(or", all.as_slice()),
+        Form::Implies(a, b) => put_two(page, "=>", a.get(), b.get()),
+        Form::Iff(a, b) => put_two(page, "<=>", a.get(), b.get()),
+        Form::If { branches, other } => put_choice(page, branches.as_slice(), other.get()),
     }
 }
 
+/// The one part of a form in parentheses, behind its word.
 #[cycle(tree)]
-fn put_all(page: &mut String, all: &[Expr]) -> Put {
+fn put_one(page: &mut String, word: &str, part: &Expr) -> Put {
+    page.push_str(word)?;
+    put_tree(page, part)?;
+    page.push(')')
+}
+
+/// The two parts of a form in parentheses, behind its word.
+#[cycle(tree)]
+fn put_two(page: &mut String, word: &str, left: &Expr, right: &Expr) -> Put {
+    page.push('(')?;
+    page.push_str(word)?;
+    page.push(' ')?;
+    put_tree(page, left)?;
+    page.push(' ')?;
+    put_tree(page, right)?;
+    page.push(')')
+}
+
+#[cycle(tree)]
+fn put_all(page: &mut String, word: &str, all: &[Expr]) -> Put {
+    page.push_str(word)?;
     for part in all {
         page.push(' ')?;
         put_tree(page, part)?;
@@ -145,7 +145,9 @@ fn put_all(page: &mut String, all: &[Expr]) -> Put {
 }
 
 #[cycle(tree)]
-fn put_terms(page: &mut String, rest: &[Term]) -> Put {
+fn put_sum(page: &mut String, first: &Expr, rest: &[Term]) -> Put {
+    page.push_str("(sum ")?;
+    put_tree(page, first)?;
     for term in rest {
         page.push_str(if term.minus { " - " } else { " + " })?;
         put_tree(page, &term.value)?;
@@ -154,22 +156,25 @@ fn put_terms(page: &mut String, rest: &[Term]) -> Put {
 }
 
 #[cycle(tree)]
-fn put_factors(page: &mut String, rest: &[Factor]) -> Put {
+fn put_product(page: &mut String, first: &Expr, rest: &[Factor]) -> Put {
+    page.push_str("(product ")?;
+    put_tree(page, first)?;
     for factor in rest {
-        let word = word_of(factor.op);
-        write!(page, " {word} ")?;
+        page.push_str(word_of(factor.op))?;
         put_tree(page, &factor.value)?;
     }
     page.push(')')
 }
 
 #[cycle(tree)]
-fn put_branches(page: &mut String, branches: &[Branch]) -> Put {
+fn put_choice(page: &mut String, branches: &[Branch], other: &Expr) -> Put {
+    page.push_str("(if")?;
     for branch in branches {
         page.push_str(" (")?;
         put_tree(page, &branch.value)?;
-        page.push_str(" where")?;
-        put_all(page, branch.conds.as_slice())?;
+        put_all(page, " where", branch.conds.as_slice())?;
     }
-    Ok(())
+    page.push_str(" else ")?;
+    put_tree(page, other)?;
+    page.push(')')
 }

@@ -26,6 +26,8 @@
 //! - `read`, `print`, `check PROGRAM | NAME ..`, `scan PROGRAM | VALUE .. | ..`: a program of Structured Text, and a machine before
 //!   and after each scan, `-` for a row without values;
 //! - `rows TEXT`: a rows file;
+//! - `table PROGRAM | VALUE .. | ..`: the output table of a program whose outputs have these values after each scan, `-` for none;
+//! - `name LETTER NUMBER | TEXT`: the name of a variable that stands for what has that number and that path;
 //! - `interval OPERATOR | LO HI [LO HI]`, `list ITEM ..`, `text TEXT | FRONT | NUMBER`: intervals, lists and texts;
 //! - `int TEXT`, `put TEXT | TAKES | N ..`, `sure-put TEXT`, `reads N .. | file NAME TEXT | read NAME LIMIT`, `sure-reads`: numbers,
 //!   sinks and files in memory;
@@ -45,12 +47,14 @@ mod expressions;
 mod fault;
 mod fields;
 mod laws;
+mod naming;
 mod page;
 mod plants;
 mod programs;
 mod script;
 mod sources;
 mod stores;
+mod tables;
 mod texts;
 mod tokens;
 mod told;

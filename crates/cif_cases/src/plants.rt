@@ -1,12 +1,16 @@
 //! Cases of plants: sources of the form of which programs are generated.
 
+ghost use Rattle.cif_plant.specs.Meaning.{IsNumbered};
+ghost use Rattle.cif_plant.specs.Plant.{IsPlant};
+
 use crate::fault::Fault;
 use crate::fields::Fields;
 use crate::page::{put_lines, put_text};
 use crate::sources::{put_no_tree, spec_of};
 use crate::told::{Put, put_form_error};
-use cif_form::{number_plant, plant_of};
-use cif_plant::{Class, NumberedPlant};
+use cif_ast::Spec;
+use cif_form::{FormErr, number_plant, plant_of};
+use cif_plant::{Class, NumberedEdge, NumberedPlant, Plant};
 use plc_gen::{Bounds, emit};
 use st_print::print;
 use std::alloc::Global;
@@ -21,35 +25,60 @@ pub enum Sight {
 
 /// `plant TEXT`, `numbers TEXT`
 pub fn plant_case(fields: &Fields<'_>, page: &mut String, sight: Sight) -> Result<(), Fault> {
-    let alloc = fields.alloc;
     let text = fields.text()?;
-    let spec = match spec_of(alloc, text.as_slice()) {
-        Ok(spec) => spec,
-        Err(why) => {
-            put_no_tree(page, why)?;
-            return Ok(());
-        }
-    };
-    match plant_of(alloc, &spec) {
-        Err(error) => {
-            page.push_str("  ")?;
-            put_form_error(page, error, text.len())?;
-            page.push('\n')?;
-        }
-        Ok(plant) => {
-            let numbered = number_plant(alloc, &plant)?;
-            match sight {
-                Sight::Form => page.push_str("  a plant\n")?,
-                Sight::Numbers => put_numbers(page, &numbered)?,
-                Sight::Program(bounds) => {
-                    let program = emit(alloc, &numbered, bounds)?;
-                    let text = print(alloc, &program)?;
-                    put_lines(page, "program", text.as_slice())?;
-                }
-            }
-        }
+    put_source(fields.alloc, page, sight, text.as_slice())
+}
+
+fn put_source(alloc: Global, page: &mut String, sight: Sight, text: &[u8]) -> Result<(), Fault> {
+    match spec_of(alloc, text) {
+        Err(why) => Ok(put_no_tree(page, why)?),
+        Ok(spec) => put_spec(alloc, page, sight, &spec, text.len()),
     }
-    Ok(())
+}
+
+/// The plant of a tree, of which the text has so many bytes.
+fn put_spec(
+    alloc: Global,
+    page: &mut String,
+    sight: Sight,
+    spec: &Spec,
+    end: usize,
+) -> Result<(), Fault> {
+    match plant_of(alloc, spec) {
+        Err(error) => Ok(put_no_plant(page, error, end)?),
+        Ok(plant) => put_plant(alloc, page, sight, &plant),
+    }
+}
+
+fn put_no_plant(page: &mut String, error: FormErr, end: usize) -> Put {
+    page.push_str("  ")?;
+    put_form_error(page, error, end)?;
+    page.push('\n')
+}
+
+fn put_plant(alloc: Global, page: &mut String, sight: Sight, plant: &Plant) -> Result<(), Fault>
+    requires { IsPlant plant.now }
+{
+    let numbered = number_plant(alloc, plant)?;
+    match sight {
+        Sight::Form => Ok(page.push_str("  a plant\n")?),
+        Sight::Numbers => Ok(put_numbers(page, &numbered)?),
+        Sight::Program(bounds) => put_emitted(alloc, page, &numbered, bounds),
+    }
+}
+
+/// The program of a plant.
+fn put_emitted(
+    alloc: Global,
+    page: &mut String,
+    plant: &NumberedPlant,
+    bounds: Bounds,
+) -> Result<(), Fault>
+    requires { IsNumbered plant.now }
+{
+    let program = emit(alloc, plant, bounds)?;
+    let text = print(alloc, &program)?;
+    Ok(put_lines(page, "program", text.as_slice())?)
 }
 
 /// `emit TEXT | UNC CON`: the program of a plant, with these most rounds.
@@ -68,16 +97,26 @@ pub fn emit_case(fields: &Fields<'_>, page: &mut String) -> Result<(), Fault> {
 fn put_numbers(page: &mut String, plant: &NumberedPlant) -> Put {
     page.push_str("  ")?;
     put_text(page, plant.name.as_slice())?;
+    put_classes(page, plant.classes.as_slice())?;
+    let (places, first) = (plant.places, plant.first);
+    write!(page, "; {places} locations, first {first}")?;
+    put_moves(page, plant.moves.as_slice())
+}
+
+fn put_classes(page: &mut String, classes: &[Class]) -> Put {
     page.push_str("; events")?;
-    for class in plant.classes.as_slice() {
+    for class in classes {
         page.push_str(match class {
             Class::Controllable => " controllable",
             Class::Uncontrollable => " uncontrollable",
         })?;
     }
-    let (places, first) = (plant.places, plant.first);
-    write!(page, "; {places} locations, first {first}; edges")?;
-    for edge in plant.moves.as_slice() {
+    Ok(())
+}
+
+fn put_moves(page: &mut String, moves: &[NumberedEdge]) -> Put {
+    page.push_str("; edges")?;
+    for edge in moves {
         let (event, from, to) = (edge.event, edge.from, edge.to);
         write!(page, " {event}:{from}>{to}")?;
     }

@@ -1,18 +1,22 @@
 //! Cases of Structured Text programs, each written as a text or as a tree.
 
+ghost use Rattle.std.specs.Prelude.{◌≡◌, ◌≤◌, [], length};
+ghost use Rattle.st_ast.specs.Interface.{numbers_of};
+ghost use Rattle.st_ast.specs.Scan.{is_input};
+
 use crate::building::built;
 use crate::counting::count;
 use crate::fault::Fault;
 use crate::fields::Fields;
 use crate::page::{put_lines, put_text};
-use crate::told::{put_check_error, put_row_error, put_scan_error, put_st_error};
-use cif_base::Memory;
-use plc_rows::{RowErr, read_rows};
+use crate::told::{Put, put_check_error, put_row_error, put_scan_error, put_st_error};
+use plc_rows::{Row, RowErr, read_rows};
 use st_ast::Program;
 use st_check::{Checked, StCheckErr, check_program};
 use st_print::print;
 use st_read::{StErr, read};
 use st_scan::{Machine, ScanErr};
+use std::alloc::Global;
 
 /// The most bytes of a program and of a rows file.
 const MOST_BYTES: usize = 16_777_216;
@@ -21,184 +25,264 @@ const MOST_ROWS: usize = 67_108_864;
 
 /// Why there is no program.
 #[derive(Clone, Copy)]
-enum NoProgram {
+pub enum NoProgram {
     TooLong,
     Read(StErr),
     Check(StCheckErr),
+    Fault(Fault),
 }
 
-fn put_no_program(page: &mut String, why: NoProgram) -> Result<(), Fault> {
-    page.push_str("  ")?;
+impl From<Fault> for NoProgram {
+    fn from(fault: Fault) -> NoProgram {
+        NoProgram::Fault(fault)
+    }
+}
+
+pub fn put_no_program(page: &mut String, why: NoProgram) -> Result<(), Fault> {
     match why {
-        NoProgram::TooLong => page.push_str("too long")?,
-        NoProgram::Read(error) => put_st_error(page, error)?,
-        NoProgram::Check(error) => put_check_error(page, error)?,
+        NoProgram::Fault(fault) => Err(fault),
+        NoProgram::TooLong => Ok(page.push_str("  too long\n")?),
+        NoProgram::Read(error) => Ok(put_not_read(page, error)?),
+        NoProgram::Check(error) => Ok(put_not_checked(page, error)?),
     }
-    page.push('\n')?;
-    Ok(())
 }
 
-/// The program of a field: a tree where it begins as one, else a text.
-fn program_of(fields: &Fields<'_>, field: &str) -> Result<Result<Program, NoProgram>, Fault> {
-    let text = fields.bytes_of(field)?;
+fn put_not_read(page: &mut String, error: StErr) -> Put {
+    page.push_str("  ")?;
+    put_st_error(page, error)?;
+    page.push('\n')
+}
+
+fn put_not_checked(page: &mut String, error: StCheckErr) -> Put {
+    page.push_str("  ")?;
+    put_check_error(page, error)?;
+    page.push('\n')
+}
+
+fn built_program(alloc: Global, text: &[u8]) -> Result<Program, NoProgram> {
+    match built(alloc, text) {
+        Ok(program) => Ok(program),
+        Err(fault) => Err(NoProgram::Fault(fault)),
+    }
+}
+
+/// The program of a text: a tree where it begins as one.
+fn text_program(alloc: Global, text: &[u8]) -> Result<Program, NoProgram> {
     if text.len() > MOST_BYTES {
-        return Ok(Err(NoProgram::TooLong));
+        return Err(NoProgram::TooLong);
     }
-    if let [b'(', b'P', ..] = text.as_slice() {
-        return Ok(Ok(built(fields.alloc, text.as_slice())?));
+    if let [b'(', b'P', ..] = text {
+        return built_program(alloc, text);
     }
-    match read(fields.alloc, text.as_slice()) {
-        Ok(program) => Ok(Ok(program)),
-        Err(error) => Ok(Err(NoProgram::Read(error))),
+    match read(alloc, text) {
+        Ok(program) => Ok(program),
+        Err(error) => Err(NoProgram::Read(error)),
+    }
+}
+
+/// The program of a field.
+fn program_of(fields: &Fields<'_>, field: &str) -> Result<Program, NoProgram> {
+    let text = fields.bytes_of(field)?;
+    text_program(fields.alloc, text.as_slice())
+}
+
+fn checked(alloc: Global, program: Program) -> Result<Checked, NoProgram> {
+    let statements = count(program.body.as_slice(), 0);
+    if program.vars.len() >= 4_294_967_296 || statements.is_none() {
+        return Err(NoProgram::TooLong);
+    }
+    match check_program(alloc, program) {
+        Ok(checked) => Ok(checked),
+        Err(error) => Err(NoProgram::Check(error)),
     }
 }
 
 /// The checked program of a field.
-fn checked_of(fields: &Fields<'_>, field: &str) -> Result<Result<Checked, NoProgram>, Fault> {
-    let program = match program_of(fields, field)? {
-        Ok(program) => program,
-        Err(why) => return Ok(Err(why)),
-    };
-    let statements = count(program.body.as_slice(), 0);
-    if program.vars.len() >= 4_294_967_296 || statements.is_none() {
-        return Ok(Err(NoProgram::TooLong));
-    }
-    match check_program(fields.alloc, program) {
-        Ok(checked) => Ok(Ok(checked)),
-        Err(error) => Ok(Err(NoProgram::Check(error))),
-    }
+pub fn checked_of(fields: &Fields<'_>, field: &str) -> Result<Checked, NoProgram> {
+    let program = program_of(fields, field)?;
+    checked(fields.alloc, program)
+}
+
+fn put_sizes(page: &mut String, program: &Program) -> Put {
+    page.push_str("  ")?;
+    put_text(page, program.name.as_slice())?;
+    let (variables, statements) = (program.vars.len(), program.body.len());
+    write!(page, "; variables {variables}, statements {statements}\n")
 }
 
 /// `read PROGRAM`: how many variables and statements there are.
 pub fn read_case(fields: &Fields<'_>, page: &mut String) -> Result<(), Fault> {
-    match program_of(fields, fields.written(0))? {
-        Err(why) => put_no_program(page, why)?,
-        Ok(program) => {
-            page.push_str("  ")?;
-            put_text(page, program.name.as_slice())?;
-            let (variables, statements) = (program.vars.len(), program.body.len());
-            write!(page, "; variables {variables}, statements {statements}\n")?;
-        }
+    match program_of(fields, fields.written(0)) {
+        Err(why) => put_no_program(page, why),
+        Ok(program) => Ok(put_sizes(page, &program)?),
     }
-    Ok(())
+}
+
+fn put_printed(alloc: Global, page: &mut String, program: &Program) -> Result<(), Fault> {
+    let text = print(alloc, program)?;
+    Ok(put_lines(page, "text", text.as_slice())?)
 }
 
 /// `print PROGRAM`: its printed text.
 pub fn print_case(fields: &Fields<'_>, page: &mut String) -> Result<(), Fault> {
-    match program_of(fields, fields.written(0))? {
-        Err(why) => put_no_program(page, why)?,
-        Ok(program) => {
-            let text = print(fields.alloc, &program)?;
-            put_lines(page, "text", text.as_slice())?;
-        }
+    match program_of(fields, fields.written(0)) {
+        Err(why) => put_no_program(page, why),
+        Ok(program) => put_printed(fields.alloc, page, &program),
     }
-    Ok(())
 }
 
-fn put_numbers(page: &mut String, numbers: &[u32]) -> Result<(), Fault> {
+fn put_numbers(page: &mut String, numbers: &[u32]) -> Put {
     for number in numbers {
         write!(page, " {number}")?;
     }
     Ok(())
 }
 
+/// The numbers of the inputs and the outputs.
+fn put_interface(page: &mut String, program: &Checked) -> Put {
+    let variables = program.program().vars.len();
+    write!(page, "  variables {variables}, inputs")?;
+    put_numbers(page, program.inputs())?;
+    page.push_str(", outputs")?;
+    put_numbers(page, program.outputs())
+}
+
+fn put_found(page: &mut String, name: &str, found: Option<u32>) -> Put {
+    match found {
+        Some(number) => write!(page, ", {name} {number}"),
+        None => write!(page, ", {name} none"),
+    }
+}
+
+fn put_checked(fields: &Fields<'_>, page: &mut String, program: &Checked) -> Result<(), Fault> {
+    put_interface(page, program)?;
+    for name in fields.written(1).split_whitespace() {
+        let found = program.find(fields.alloc, name.as_bytes())?;
+        put_found(page, name, found)?;
+    }
+    Ok(page.push('\n')?)
+}
+
 /// `check PROGRAM | NAME ..`: its inputs and outputs, and the variables of these names; or the first check that it breaks.
 pub fn check_case(fields: &Fields<'_>, page: &mut String) -> Result<(), Fault> {
-    let checked = match checked_of(fields, fields.written(0))? {
-        Ok(checked) => checked,
-        Err(why) => return put_no_program(page, why),
-    };
-    let variables = checked.program().vars.len();
-    write!(page, "  variables {variables}, inputs")?;
-    put_numbers(page, checked.inputs())?;
-    page.push_str(", outputs")?;
-    put_numbers(page, checked.outputs())?;
-    for name in fields.written(1).split_whitespace() {
-        match checked.find(fields.alloc, name.as_bytes())? {
-            Some(number) => write!(page, ", {name} {number}")?,
-            None => write!(page, ", {name} none")?,
+    match checked_of(fields, fields.written(0)) {
+        Err(why) => put_no_program(page, why),
+        Ok(program) => put_checked(fields, page, &program),
+    }
+}
+
+fn put_value(page: &mut String, value: i64) -> Put {
+    write!(page, " {value}")
+}
+
+fn put_variables(page: &mut String, machine: &Machine<'_>) -> Put {
+    let variables = machine.program().program().vars.len();
+    for variable in 0..variables {
+        if variable < 4_294_967_296 {
+            put_value(page, machine.value(variable as u32))?;
         }
     }
-    page.push('\n')?;
+    Ok(())
+}
+
+fn put_outputs(page: &mut String, machine: &Machine<'_>) -> Put {
+    let outputs = machine.program().outputs().len();
+    for k in 0..outputs {
+        if k < 4_294_967_296 {
+            put_value(page, machine.output(k as u32))?;
+        }
+    }
     Ok(())
 }
 
 /// The values of all variables, and of all outputs.
-fn put_values(page: &mut String, machine: &Machine<'_>) -> Result<(), Fault> {
-    let variables = machine.program().program().vars.len();
-    for variable in 0..variables {
-        if variable < 4_294_967_296 {
-            let value = machine.value(variable as u32);
-            write!(page, " {value}")?;
-        }
-    }
+fn put_values(page: &mut String, machine: &Machine<'_>) -> Put {
+    put_variables(page, machine)?;
     page.push_str("; outputs")?;
-    let outputs = machine.program().outputs().len();
-    for k in 0..outputs {
-        if k < 4_294_967_296 {
-            let value = machine.output(k as u32);
-            write!(page, " {value}")?;
-        }
+    put_outputs(page, machine)?;
+    page.push('\n')
+}
+
+fn put_ended(page: &mut String, ended: Result<(), ScanErr>) -> Put {
+    page.push_str("  ")?;
+    match ended {
+        Ok(()) => page.push_str("Ok"),
+        Err(error) => put_scan_error(page, error),
     }
-    page.push('\n')?;
+}
+
+/// One scan over a row of values for the inputs.
+fn put_scan(page: &mut String, machine: &mut Machine<'_>, row: &[i64]) -> Put {
+    let ended = machine.scan(row);
+    put_ended(page, ended)?;
+    put_values(page, machine)
+}
+
+fn put_scans(
+    fields: &Fields<'_>,
+    page: &mut String,
+    machine: &mut Machine<'_>,
+) -> Result<(), Fault> {
+    page.push_str("  start")?;
+    put_values(page, machine)?;
+    for field in fields.others() {
+        let row = fields.wholes(field)?;
+        put_scan(page, machine, row.as_slice())?;
+    }
     Ok(())
 }
 
-fn put_scanned(page: &mut String, ended: Result<(), ScanErr>) -> Result<(), Fault> {
-    page.push_str("  ")?;
-    match ended {
-        Ok(()) => page.push_str("Ok")?,
-        Err(error) => put_scan_error(page, error)?,
-    }
-    Ok(())
+fn put_machine(fields: &Fields<'_>, page: &mut String, program: &Checked) -> Result<(), Fault> {
+    let mut machine = Machine::new(fields.alloc, program)?;
+    put_scans(fields, page, &mut machine)
 }
 
 /// `scan PROGRAM | VALUE .. | VALUE ..`: the values at the start and after each scan, over a row of these values for the
 /// inputs.
 pub fn scan_case(fields: &Fields<'_>, page: &mut String) -> Result<(), Fault> {
-    let checked = match checked_of(fields, fields.written(0))? {
-        Ok(checked) => checked,
-        Err(why) => return put_no_program(page, why),
-    };
-    let mut machine = Machine::new(fields.alloc, &checked)?;
-    page.push_str("  start")?;
-    put_values(page, &machine)?;
-    for field in fields.others() {
-        let row = fields.wholes(field)?;
-        let ended = machine.scan(row.as_slice());
-        put_scanned(page, ended)?;
-        put_values(page, &machine)?;
+    match checked_of(fields, fields.written(0)) {
+        Err(why) => put_no_program(page, why),
+        Ok(program) => put_machine(fields, page, &program),
     }
-    Ok(())
 }
 
-fn put_row_refusal(page: &mut String, error: RowErr) -> Result<(), Fault> {
+fn put_row_refusal(page: &mut String, error: RowErr) -> Put {
     page.push_str("  ")?;
     put_row_error(page, error)?;
-    page.push('\n')?;
-    Ok(())
+    page.push('\n')
+}
+
+fn put_row_counts(page: &mut String, rows: &[Row]) -> Put {
+    let mut cells = 0usize;
+    for row in rows {
+        cells = cells.saturating_add(row.cells.len());
+    }
+    let count = rows.len();
+    write!(page, "  rows {count}, cells {cells}\n")
+}
+
+fn put_read_rows(alloc: Global, page: &mut String, program: &Checked, text: &[u8]) -> Put
+    requires size { length text.now ≤ 67108864 }
+    requires no_inputs { numbers_of is_input 0 program.now.vars ≡ [] }
+{
+    match read_rows(alloc, text, program) {
+        Err(error) => put_row_refusal(page, error),
+        Ok(rows) => put_row_counts(page, rows.rows.as_slice()),
+    }
+}
+
+fn put_rows(alloc: Global, page: &mut String, program: &Checked, text: &[u8]) -> Put {
+    if text.len() > MOST_ROWS || !program.inputs().is_empty() {
+        return page.push_str("  too long\n");
+    }
+    put_read_rows(alloc, page, program, text)
 }
 
 /// `rows TEXT`: how many rows and cells a rows file has, for a program without inputs.
 pub fn rows_case(fields: &Fields<'_>, page: &mut String) -> Result<(), Fault> {
     let text = fields.text()?;
-    let checked = match checked_of(fields, "PROGRAM p END_PROGRAM")? {
-        Ok(checked) => checked,
-        Err(why) => return put_no_program(page, why),
-    };
-    if text.len() > MOST_ROWS || !checked.inputs().is_empty() {
-        return put_no_program(page, NoProgram::TooLong);
+    match checked_of(fields, "PROGRAM p END_PROGRAM") {
+        Err(why) => put_no_program(page, why),
+        Ok(program) => Ok(put_rows(fields.alloc, page, &program, text.as_slice())?),
     }
-    match read_rows(fields.alloc, text.as_slice(), &checked) {
-        Err(error) => put_row_refusal(page, error)?,
-        Ok(rows) => {
-            let mut cells = 0usize;
-            for row in rows.rows.as_slice() {
-                cells = cells.saturating_add(row.cells.len());
-            }
-            let count = rows.rows.len();
-            write!(page, "  rows {count}, cells {cells}\n")?;
-        }
-    }
-    Ok(())
 }

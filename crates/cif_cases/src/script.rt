@@ -4,6 +4,7 @@ use crate::calls::Call;
 use crate::fault::Fault;
 use crate::fields::{Fields, first_word};
 use crate::texts::{Names, bytes_of};
+use crate::told::Put;
 use std::alloc::Global;
 
 /// What the lines so far leave: the names that they define, and how many calls they made.
@@ -38,15 +39,20 @@ impl Script {
     /// What is printed for a line: itself, and the answer where it is a case.
     pub fn line(&mut self, line: &str) -> Result<String, Fault> {
         let mut page = String::from_str(self.alloc, line)?;
+        self.put_answer(line, &mut page)?;
+        Ok(page)
+    }
+
+    /// The end of a line, and the answer where it is a case.
+    fn put_answer(&mut self, line: &str, page: &mut String) -> Result<(), Fault> {
         page.push('\n')?;
         let (word, rest) = first_word(line);
         match word {
-            "" | "#" => {}
-            "let" => self.define(rest)?,
-            "each" => self.each_byte(rest, &mut page)?,
-            _ => self.call(line, &mut page)?,
+            "" | "#" => Ok(()),
+            "let" => self.define(rest),
+            "each" => self.each_byte(rest, page),
+            _ => self.call(line, page),
         }
-        Ok(page)
     }
 
     /// `NAME TEXT`
@@ -67,10 +73,15 @@ impl Script {
         call.answer(&fields, page)
     }
 
+    /// Takes `{byte}` for this byte.
+    fn define_byte(&mut self, byte: u8) -> Result<(), Fault> {
+        let bytes = Vec::from_slice(self.alloc, &[byte])?;
+        self.names.define(self.alloc, "byte", bytes)
+    }
+
     /// The answer to a case where `{byte}` is this byte.
     fn with_byte(&mut self, text: &str, byte: u8) -> Result<String, Fault> {
-        let bytes = Vec::from_slice(self.alloc, &[byte])?;
-        self.names.define(self.alloc, "byte", bytes)?;
+        self.define_byte(byte)?;
         let mut answer = String::new(self.alloc);
         self.call(text, &mut answer)?;
         self.names.forget();
@@ -80,37 +91,45 @@ impl Script {
     /// A case for each of the 256 bytes, with one answer for each run of bytes that have the same.
     fn each_byte(&mut self, text: &str, page: &mut String) -> Result<(), Fault> {
         let answer = self.with_byte(text, 0)?;
-        let mut group = Group {
-            first: 0,
-            last: 0,
-            answer,
-        };
+        let mut group = Group::new(0, answer);
         for byte in 1..=255 {
             let answer = self.with_byte(text, byte)?;
-            if answer.as_str() == group.answer.as_str() {
-                group.last = byte;
-            } else {
-                group.put(page)?;
-                group = Group {
-                    first: byte,
-                    last: byte,
-                    answer,
-                };
-            }
+            group.add(byte, answer, page)?;
         }
-        group.put(page)
+        Ok(group.put(page)?)
     }
 }
 
 impl Group {
-    fn put(&self, page: &mut String) -> Result<(), Fault> {
-        let (first, last) = (self.first, self.last);
-        if first == last {
-            write!(page, "  {first:02x}\n")?;
-        } else {
-            write!(page, "  {first:02x} to {last:02x}\n")?;
+    fn new(byte: u8, answer: String) -> Group {
+        Group {
+            first: byte,
+            last: byte,
+            answer,
         }
-        page.push_str(self.answer.as_str())?;
+    }
+
+    /// Goes on to the next byte; where its answer is another, the group is printed and a new one begins.
+    fn add(&mut self, byte: u8, answer: String, page: &mut String) -> Put {
+        if answer.as_str() != self.answer.as_str() {
+            self.put(page)?;
+            self.first = byte;
+            self.answer = answer;
+        }
+        self.last = byte;
         Ok(())
+    }
+
+    fn put(&self, page: &mut String) -> Put {
+        put_range(page, self.first, self.last)?;
+        page.push_str(self.answer.as_str())
+    }
+}
+
+fn put_range(page: &mut String, first: u8, last: u8) -> Put {
+    if first == last {
+        write!(page, "  {first:02x}\n")
+    } else {
+        write!(page, "  {first:02x} to {last:02x}\n")
     }
 }

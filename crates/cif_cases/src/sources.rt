@@ -67,30 +67,41 @@ pub enum Sight {
 /// A case of a whole source.
 pub fn source_case(fields: &Fields<'_>, page: &mut String, sight: Sight) -> Result<(), Fault> {
     let text = fields.text()?;
-    match spec_of(fields.alloc, text.as_slice()) {
-        Err(why) => put_no_tree(page, why)?,
-        Ok(spec) => put_sight(fields.alloc, page, sight, spec.items.as_slice())?,
+    put_source(fields.alloc, page, sight, text.as_slice())
+}
+
+fn put_source(alloc: Global, page: &mut String, sight: Sight, text: &[u8]) -> Result<(), Fault> {
+    match spec_of(alloc, text) {
+        Err(why) => Ok(put_no_tree(page, why)?),
+        Ok(spec) => put_sight(alloc, page, sight, spec.items.as_slice()),
     }
-    Ok(())
 }
 
 fn put_sight(alloc: Global, page: &mut String, sight: Sight, items: &[Item]) -> Result<(), Fault> {
     match sight {
-        Sight::Items => put_item_line(page, items)?,
-        Sight::Outline => put_outline(page, items)?,
-        Sight::Automaton => match automaton_of(items) {
-            Some(body) => put_automaton(page, body)?,
-            None => page.push_str("  no automaton\n")?,
-        },
-        Sight::Location => put_location(page, items)?,
-        Sight::Edge => put_edge(page, items)?,
-        Sight::Choice => put_choice(page, items)?,
-        Sight::Shape | Sight::Tree | Sight::Copy => match value_of(items) {
-            Some(value) => put_value(alloc, page, sight, value)?,
-            None => page.push_str("  no value\n")?,
-        },
+        Sight::Copy => put_copy(alloc, page, value_of(items)),
+        sight => Ok(put_part(page, sight, items)?),
     }
-    Ok(())
+}
+
+fn put_part(page: &mut String, sight: Sight, items: &[Item]) -> Put {
+    match sight {
+        Sight::Items => put_item_line(page, items),
+        Sight::Outline => put_outline(page, items),
+        Sight::Automaton => put_last(page, automaton_of(items)),
+        Sight::Location => put_location(page, location_of(items)),
+        Sight::Edge => put_edge(page, edge_of(items)),
+        Sight::Choice => put_choice(page, edge_of(items)),
+        Sight::Tree => put_whole(page, value_of(items)),
+        Sight::Shape | Sight::Copy => put_form(page, value_of(items)),
+    }
+}
+
+fn put_last(page: &mut String, body: Option<&AutoBody>) -> Put {
+    match body {
+        Some(body) => put_automaton(page, body),
+        None => page.push_str("  no automaton\n"),
+    }
 }
 
 /// The word of an item, with that of its body where it has one.
@@ -215,8 +226,8 @@ fn location_of(items: &[Item]) -> Option<&Loc> {
     }
 }
 
-fn put_location(page: &mut String, items: &[Item]) -> Put {
-    let Some(loc) = location_of(items) else {
+fn put_location(page: &mut String, loc: Option<&Loc>) -> Put {
+    let Some(loc) = loc else {
         return page.push_str("  no location\n");
     };
     page.push_str("  ")?;
@@ -224,11 +235,16 @@ fn put_location(page: &mut String, items: &[Item]) -> Put {
     if loc.initial {
         page.push_str(" initial")?;
     }
-    let (marked, equations, edges) = (loc.marked.len(), loc.equations.len(), loc.edges.len());
-    write!(
-        page,
-        "; marked {marked}, equations {equations}, edges {edges}\n"
-    )
+    put_counts(page, loc)
+}
+
+fn put_counts(page: &mut String, loc: &Loc) -> Put {
+    let marked = loc.marked.len();
+    write!(page, "; marked {marked}")?;
+    let equations = loc.equations.len();
+    write!(page, ", equations {equations}")?;
+    let edges = loc.edges.len();
+    write!(page, ", edges {edges}\n")
 }
 
 /// The first edge of the first location of the automaton that is the last of some items.
@@ -263,8 +279,8 @@ fn put_updates(page: &mut String, updates: &[Update]) -> Put {
     Ok(())
 }
 
-fn put_edge(page: &mut String, items: &[Item]) -> Put {
-    let Some(edge) = edge_of(items) else {
+fn put_edge(page: &mut String, edge: Option<&Edge>) -> Put {
+    let Some(edge) = edge else {
         return page.push_str("  no edge\n");
     };
     page.push_str("  uses")?;
@@ -289,21 +305,25 @@ fn parts(branches: &[UpdateBranch]) -> (usize, usize) {
 }
 
 /// The `if` update that is the first of an edge.
-fn put_choice(page: &mut String, items: &[Item]) -> Put {
-    let Some(edge) = edge_of(items) else {
+fn put_choice(page: &mut String, edge: Option<&Edge>) -> Put {
+    let Some(edge) = edge else {
         return page.push_str("  no edge\n");
     };
     let Some(Update::If { branches, other }) = edge.updates.get(0) else {
         return page.push_str("  no choice\n");
     };
-    let count = branches.len();
-    let (conds, updates) = parts(branches.as_slice());
-    write!(
-        page,
-        "  branches {count}, conditions {conds}, updates {updates}, else"
-    )?;
+    put_branches(page, branches.as_slice())?;
+    page.push_str(", else")?;
     put_updates(page, other.as_slice())?;
     page.push('\n')
+}
+
+fn put_branches(page: &mut String, branches: &[UpdateBranch]) -> Put {
+    let count = branches.len();
+    write!(page, "  branches {count}")?;
+    let (conds, updates) = parts(branches);
+    write!(page, ", conditions {conds}")?;
+    write!(page, ", updates {updates}")
 }
 
 /// The value or the predicate of the last of some items, if that is a declaration that has one.
@@ -323,20 +343,43 @@ fn value_of(items: &[Item]) -> Option<&Expr> {
 
 /// Whether the copy of an expression is printed as the expression is.
 fn is_copied(alloc: Global, value: &Expr) -> Result<bool, Fault> {
-    let copy = value.copy(alloc)?;
-    let first = format!(in alloc; "{value:?}")?;
-    let second = format!(in alloc; "{copy:?}")?;
+    let first = printed(alloc, value)?;
+    let second = printed_copy(alloc, value)?;
     Ok(first.as_str() == second.as_str())
 }
 
-fn put_value(alloc: Global, page: &mut String, sight: Sight, value: &Expr) -> Result<(), Fault> {
+fn printed(alloc: Global, value: &Expr) -> Result<String, Fault> {
+    Ok(format!(in alloc; "{value:?}")?)
+}
+
+fn printed_copy(alloc: Global, value: &Expr) -> Result<String, Fault> {
+    let copy = value.copy(alloc)?;
+    printed(alloc, &copy)
+}
+
+fn put_copy(alloc: Global, page: &mut String, value: Option<&Expr>) -> Result<(), Fault> {
+    let told = match value {
+        None => "  no value\n",
+        Some(value) if is_copied(alloc, value)? => "  the same\n",
+        Some(_) => "  another\n",
+    };
+    Ok(page.push_str(told)?)
+}
+
+fn put_whole(page: &mut String, value: Option<&Expr>) -> Put {
+    let Some(value) = value else {
+        return page.push_str("  no value\n");
+    };
     page.push_str("  ")?;
-    match sight {
-        Sight::Tree => put_tree(page, value)?,
-        Sight::Copy if is_copied(alloc, value)? => page.push_str("the same")?,
-        Sight::Copy => page.push_str("another")?,
-        _ => put_shape(page, value)?,
-    }
-    page.push('\n')?;
-    Ok(())
+    put_tree(page, value)?;
+    page.push('\n')
+}
+
+fn put_form(page: &mut String, value: Option<&Expr>) -> Put {
+    let Some(value) = value else {
+        return page.push_str("  no value\n");
+    };
+    page.push_str("  ")?;
+    put_shape(page, value)?;
+    page.push('\n')
 }

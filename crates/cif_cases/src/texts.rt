@@ -86,12 +86,17 @@ impl Writer {
         Ok(part)
     }
 
+    /// A number, and a part behind it.
+    fn number(&mut self, alloc: Global, number: u32, part: &[u8]) -> Result<(), Fault> {
+        let mut digits = Vec::new(alloc);
+        put_int(&mut digits, i64::from(number))?;
+        self.put(digits.as_slice())?;
+        self.put(part)
+    }
+
     fn numbers(&mut self, alloc: Global, first: u32, last: u32, part: &[u8]) -> Result<(), Fault> {
         for number in first..=last {
-            let mut digits = Vec::new(alloc);
-            put_int(&mut digits, i64::from(number))?;
-            self.put(digits.as_slice())?;
-            self.put(part)?;
+            self.number(alloc, number, part)?;
         }
         Ok(())
     }
@@ -113,17 +118,27 @@ impl Writer {
         Ok(())
     }
 
-    /// Does what the last open brace asks.
-    fn close(&mut self, alloc: Global) -> Result<(), Fault> {
-        match self.open.pop() {
-            None => Err(Fault::Form("a brace closes nothing")),
-            Some(Asked::Times { count, from }) => {
+    /// Does what a brace asked.
+    fn repeat(&mut self, alloc: Global, asked: Asked) -> Result<(), Fault> {
+        match asked {
+            Asked::Times { count, from } => {
                 let part = self.part(alloc, from)?;
                 self.times(alloc, count, part)
             }
-            Some(Asked::Numbers { first, last, from }) => {
+            Asked::Numbers { first, last, from } => {
                 let part = self.part(alloc, from)?;
                 self.numbers(alloc, first, last, part.as_slice())
+            }
+        }
+    }
+
+    /// Does what the last open brace asks. The answer is what comes next.
+    fn close<'a>(&mut self, alloc: Global, rest: &'a [u8]) -> Result<&'a [u8], Fault> {
+        match self.open.pop() {
+            None => Err(Fault::Form("a brace closes nothing")),
+            Some(asked) => {
+                self.repeat(alloc, asked)?;
+                Ok(rest)
             }
         }
     }
@@ -158,21 +173,23 @@ impl Writer {
         Ok(rest)
     }
 
+    /// A byte that two hexadecimal digits stand for.
+    fn hexadecimal(&mut self, high: u8, low: u8) -> Result<(), Fault> {
+        let (Some(high), Some(low)) = (digit(high), digit(low)) else {
+            return Err(Fault::Form("`\\x` wants two hexadecimal digits"));
+        };
+        self.put(&[high * 16 + low])
+    }
+
     /// What stands behind a backslash.
     fn escape<'a>(&mut self, text: &'a [u8]) -> Result<&'a [u8], Fault> {
         match text {
             [b'x', high, low, rest @ ..] => {
-                let (Some(high), Some(low)) = (digit(*high), digit(*low)) else {
-                    return Err(Fault::Form("`\\x` wants two hexadecimal digits"));
-                };
-                self.put(&[high * 16 + low])?;
+                self.hexadecimal(*high, *low)?;
                 Ok(rest)
             }
-            [b'n', rest @ ..] => self.escaped(b'\n', rest),
-            [b'r', rest @ ..] => self.escaped(b'\r', rest),
-            [b't', rest @ ..] => self.escaped(b'\t', rest),
             [b'e', rest @ ..] => Ok(rest),
-            [byte, rest @ ..] => self.escaped(*byte, rest),
+            [byte, rest @ ..] => self.escaped(meant(*byte), rest),
             [] => Err(Fault::Form("nothing after `\\`")),
         }
     }
@@ -180,6 +197,34 @@ impl Writer {
     fn escaped<'a>(&mut self, byte: u8, rest: &'a [u8]) -> Result<&'a [u8], Fault> {
         self.put(&[byte])?;
         Ok(rest)
+    }
+
+    /// Takes what stands at the front, and answers what comes behind it.
+    fn step<'a>(
+        &mut self,
+        alloc: Global,
+        names: &Names,
+        text: &'a [u8],
+    ) -> Result<&'a [u8], Fault> {
+        match text {
+            [] => Ok(text),
+            [b'\\', rest @ ..] => self.escape(rest),
+            [b'{', rest @ ..] => self.open(names, rest),
+            [b'}', rest @ ..] => self.close(alloc, rest),
+            [byte, rest @ ..] => self.escaped(*byte, rest),
+        }
+    }
+
+    fn run(&mut self, alloc: Global, names: &Names, text: &[u8]) -> Result<(), Fault> {
+        let mut rest = text;
+        for _ in 0..text.len() {
+            rest = self.step(alloc, names, rest)?;
+        }
+        if self.open.is_empty() {
+            Ok(())
+        } else {
+            Err(Fault::Form("a brace is not closed"))
+        }
     }
 }
 
@@ -191,6 +236,16 @@ fn doubled(alloc: Global, part: &[u8]) -> Result<Vec<u8>, Fault> {
     let mut both = Vec::from_slice(alloc, part)?;
     both.extend_from_slice(part)?;
     Ok(both)
+}
+
+/// The byte that a letter behind a backslash stands for, and any other byte itself.
+fn meant(byte: u8) -> u8 {
+    match byte {
+        b'n' => b'\n',
+        b'r' => b'\r',
+        b't' => b'\t',
+        _ => byte,
+    }
 }
 
 /// A hexadecimal digit.
@@ -239,22 +294,7 @@ pub fn bytes_of(alloc: Global, names: &Names, text: &[u8]) -> Result<Vec<u8>, Fa
         bytes: Vec::new(alloc),
         open: Vec::new(alloc),
     };
-    let mut rest = text;
-    for _ in 0..text.len() {
-        rest = match rest {
-            [] => break,
-            [b'\\', left @ ..] => writer.escape(left)?,
-            [b'{', left @ ..] => writer.open(names, left)?,
-            [b'}', left @ ..] => {
-                writer.close(alloc)?;
-                left
-            }
-            [byte, left @ ..] => writer.escaped(*byte, left)?,
-        };
-    }
-    if !writer.open.is_empty() {
-        return Err(Fault::Form("a brace is not closed"));
-    }
+    writer.run(alloc, names, text)?;
     let Writer { bytes, open: _ } = writer;
     Ok(bytes)
 }

@@ -4,8 +4,8 @@ use crate::declarations::{put_decls, put_events, put_param, put_types};
 use crate::expressions::{put_name, put_shape};
 use crate::fault::Fault;
 use crate::fields::Fields;
-use crate::told::{put_lex_error, put_read_error};
-use cif_ast::{Decl, Param};
+use crate::told::{Put, put_lex_error, put_read_error};
+use cif_ast::{Decl, Expr, Ident, Name, Param};
 use cif_base::Items;
 use cif_decl::{
     component_kind, declaration, disc_declaration, given, is_component, kind_invariants,
@@ -13,292 +13,254 @@ use cif_decl::{
 };
 use cif_expr::{Read, ReadError, expr, expr_list, ids, names};
 use cif_lex::{LexErr, Token, TokenKind, lex};
-use std::alloc::AllocError;
+use std::alloc::Global;
 
 /// The most bytes of a source.
 const MOST_BYTES: usize = 4_194_304;
 
-/// The tokens of a text; `None` where it is refused, and then that is printed.
-fn tokens_of(
-    fields: &Fields<'_>,
-    text: &[u8],
-    page: &mut String,
-) -> Result<Option<Vec<Token>>, Fault> {
+/// Readers of the front of a CIF source.
+#[derive(Clone, Copy)]
+pub enum Front {
+    Lex,
+    Expr,
+    Exprs,
+    Names,
+    Ids,
+    Declaration,
+    Types,
+    Events,
+    Disc,
+    Plain,
+    Invariants,
+    Kind,
+    Component,
+    Parameters,
+}
+
+/// A case of a reader: what it answers for the tokens of a text.
+pub fn front_case(fields: &Fields<'_>, page: &mut String, front: Front) -> Result<(), Fault> {
+    let text = fields.text()?;
+    Ok(put_front(fields.alloc, page, front, text.as_slice())?)
+}
+
+fn put_front(alloc: Global, page: &mut String, front: Front, text: &[u8]) -> Put {
     if text.len() > MOST_BYTES {
-        page.push_str("  too long\n")?;
-        return Ok(None);
+        return page.push_str("  too long\n");
     }
-    match lex(fields.alloc, text) {
-        Ok(tokens) => Ok(Some(tokens)),
-        Err(error) => {
-            put_refused(page, error)?;
-            Ok(None)
-        }
+    match lex(alloc, text) {
+        Ok(tokens) => put_answer(alloc, page, front, text, tokens.as_slice()),
+        Err(error) => put_refused(page, error),
     }
 }
 
-fn put_refused(page: &mut String, error: LexErr) -> Result<(), AllocError> {
+fn put_refused(page: &mut String, error: LexErr) -> Put {
     page.push_str("  ")?;
     put_lex_error(page, error)?;
     page.push('\n')
 }
 
-fn put_token(page: &mut String, token: &Token) -> Result<(), AllocError> {
-    let span = token.span;
-    let (from, to) = (span.from, span.to);
-    match token.kind {
-        TokenKind::Id => write!(page, "Id {from}..{to}"),
-        TokenKind::Number => write!(page, "Number {from}..{to}"),
-        TokenKind::Sign(mark) => write!(page, "{mark:?} {from}..{to}"),
-        TokenKind::Reserved(word) => write!(page, "{word:?} {from}..{to}"),
+fn put_answer(
+    alloc: Global,
+    page: &mut String,
+    front: Front,
+    text: &[u8],
+    tokens: &[Token],
+) -> Put {
+    match front {
+        Front::Lex => put_tokens(page, tokens),
+        Front::Expr => put_expr(alloc, page, text, tokens),
+        Front::Exprs => put_exprs(page, expr_list(alloc, text, tokens)),
+        Front::Names => put_names(page, names(alloc, text, tokens)),
+        Front::Ids => put_ids(page, ids(alloc, text, tokens)),
+        Front::Kind => put_kind(page, component_kind(tokens)),
+        Front::Component => put_component(page, is_component(tokens)),
+        Front::Parameters => put_parameters(alloc, page, parameters(alloc, text, tokens)),
+        _ => put_declared(alloc, page, front, text, tokens),
     }
 }
 
+fn put_declared(
+    alloc: Global,
+    page: &mut String,
+    front: Front,
+    text: &[u8],
+    tokens: &[Token],
+) -> Put {
+    match front {
+        Front::Types => put_found(page, Sight::Types, declaration(alloc, text, tokens)),
+        Front::Events => put_found(page, Sight::Events, declaration(alloc, text, tokens)),
+        Front::Disc => put_found(page, Sight::Types, disc_declaration(alloc, text, tokens)),
+        Front::Plain => put_found(page, Sight::Words, plain_declaration(alloc, text, tokens)),
+        Front::Invariants => put_found(page, Sight::Words, kind_invariants(alloc, text, tokens)),
+        _ => put_found(page, Sight::Words, declaration(alloc, text, tokens)),
+    }
+}
+
+fn put_token(page: &mut String, token: &Token) -> Put {
+    let span = token.span;
+    match token.kind {
+        TokenKind::Id => page.push_str("Id")?,
+        TokenKind::Number => page.push_str("Number")?,
+        TokenKind::Sign(mark) => write!(page, "{mark:?}")?,
+        TokenKind::Reserved(word) => write!(page, "{word:?}")?,
+    }
+    put_span(page, span.from, span.to)
+}
+
+fn put_span(page: &mut String, from: u32, to: u32) -> Put {
+    write!(page, " {from}..{to}")
+}
+
 /// `lex TEXT`: the tokens with their places.
-pub fn lex_case(fields: &Fields<'_>, page: &mut String) -> Result<(), Fault> {
-    let text = fields.text()?;
-    let Some(tokens) = tokens_of(fields, text.as_slice(), page)? else {
-        return Ok(());
-    };
+fn put_tokens(page: &mut String, tokens: &[Token]) -> Put {
     if tokens.is_empty() {
         page.push_str("  no tokens")?;
     }
     let mut gap = "  ";
-    for token in tokens.as_slice() {
+    for token in tokens {
         page.push_str(gap)?;
         put_token(page, token)?;
         gap = ", ";
     }
-    page.push('\n')?;
-    Ok(())
+    page.push('\n')
 }
 
 /// How many tokens are left.
-fn put_left(page: &mut String, rest: &[Token]) -> Result<(), AllocError> {
+fn put_left(page: &mut String, rest: &[Token]) -> Put {
     let left = rest.len();
     write!(page, "; {left} left\n")
 }
 
 /// The token at which nothing is read, by how many there are from it on.
-fn put_stop(page: &mut String, error: ReadError) -> Result<(), AllocError> {
+fn put_stop(page: &mut String, error: ReadError) -> Put {
     page.push_str("  ")?;
     put_read_error(page, error)?;
     page.push('\n')
 }
 
 /// `expr TEXT`: the form of the expression at the front, and of how many further parts it is a list.
-pub fn expr_case(fields: &Fields<'_>, page: &mut String) -> Result<(), Fault> {
-    let text = fields.text()?;
-    let Some(tokens) = tokens_of(fields, text.as_slice(), page)? else {
-        return Ok(());
-    };
-    match expr(fields.alloc, text.as_slice(), tokens.as_slice()) {
-        Ok((tree, rest)) => {
-            page.push_str("  ")?;
-            put_shape(page, tree.get())?;
-            put_left(page, rest)?;
-        }
-        Err(error) => put_stop(page, error)?,
+fn put_expr(alloc: Global, page: &mut String, text: &[u8], tokens: &[Token]) -> Put {
+    match expr(alloc, text, tokens) {
+        Ok((tree, rest)) => put_tree(page, tree.get(), rest),
+        Err(error) => put_stop(page, error),
     }
-    Ok(())
+}
+
+fn put_tree(page: &mut String, tree: &Expr, rest: &[Token]) -> Put {
+    page.push_str("  ")?;
+    put_shape(page, tree)?;
+    put_left(page, rest)
 }
 
 /// `exprs TEXT`: the forms of expressions with commas between them.
-pub fn exprs_case(fields: &Fields<'_>, page: &mut String) -> Result<(), Fault> {
-    let text = fields.text()?;
-    let Some(tokens) = tokens_of(fields, text.as_slice(), page)? else {
-        return Ok(());
-    };
-    match expr_list(fields.alloc, text.as_slice(), tokens.as_slice()) {
-        Ok((all, rest)) => {
-            let mut gap = "  ";
-            for tree in all.as_slice() {
-                page.push_str(gap)?;
-                put_shape(page, tree)?;
-                gap = ", ";
-            }
-            put_left(page, rest)?;
-        }
-        Err(error) => put_stop(page, error)?,
+fn put_exprs(page: &mut String, read: Read<'_, Items<Expr>>) -> Put {
+    match read {
+        Ok((all, rest)) => put_trees(page, all.as_slice(), rest),
+        Err(error) => put_stop(page, error),
     }
-    Ok(())
+}
+
+fn put_trees(page: &mut String, all: &[Expr], rest: &[Token]) -> Put {
+    let mut gap = "  ";
+    for tree in all {
+        page.push_str(gap)?;
+        put_shape(page, tree)?;
+        gap = ", ";
+    }
+    put_left(page, rest)
 }
 
 /// `names TEXT`: names with commas between them.
-pub fn names_case(fields: &Fields<'_>, page: &mut String) -> Result<(), Fault> {
-    let text = fields.text()?;
-    let Some(tokens) = tokens_of(fields, text.as_slice(), page)? else {
-        return Ok(());
-    };
-    match names(fields.alloc, text.as_slice(), tokens.as_slice()) {
-        Ok((all, rest)) => {
-            let mut gap = "  ";
-            for name in all.as_slice() {
-                page.push_str(gap)?;
-                put_name(page, name)?;
-                gap = ", ";
-            }
-            put_left(page, rest)?;
-        }
-        Err(error) => put_stop(page, error)?,
+fn put_names(page: &mut String, read: Read<'_, Items<Name>>) -> Put {
+    match read {
+        Ok((all, rest)) => put_all_names(page, all.as_slice(), rest),
+        Err(error) => put_stop(page, error),
     }
-    Ok(())
+}
+
+fn put_all_names(page: &mut String, all: &[Name], rest: &[Token]) -> Put {
+    let mut gap = "  ";
+    for name in all {
+        page.push_str(gap)?;
+        put_name(page, name)?;
+        gap = ", ";
+    }
+    put_left(page, rest)
 }
 
 /// `ids TEXT`: how many identifiers stand with commas between them.
-pub fn ids_case(fields: &Fields<'_>, page: &mut String) -> Result<(), Fault> {
-    let text = fields.text()?;
-    let Some(tokens) = tokens_of(fields, text.as_slice(), page)? else {
-        return Ok(());
-    };
-    match ids(fields.alloc, text.as_slice(), tokens.as_slice()) {
-        Ok((all, rest)) => {
-            let count = all.len();
-            write!(page, "  {count}")?;
-            put_left(page, rest)?;
-        }
-        Err(error) => put_stop(page, error)?,
+fn put_ids(page: &mut String, read: Read<'_, Items<Ident>>) -> Put {
+    match read {
+        Ok((all, rest)) => put_number(page, all.len(), rest),
+        Err(error) => put_stop(page, error),
     }
-    Ok(())
+}
+
+fn put_number(page: &mut String, count: usize, rest: &[Token]) -> Put {
+    write!(page, "  {count}")?;
+    put_left(page, rest)
 }
 
 /// What is printed of declarations.
 #[derive(Clone, Copy)]
 enum Sight {
+    /// `declaration TEXT`, `plain TEXT`, `invariants TEXT`: their words.
     Words,
+    /// `types TEXT`, `disc TEXT`: their words and types.
     Types,
+    /// `events TEXT`: where the predicate and the events of each invariant stand.
     Events,
 }
 
-fn put_declared(page: &mut String, sight: Sight, read: Read<'_, Items<Decl>>) -> Result<(), Fault> {
-    let (found, rest) = match read {
-        Ok(found) => found,
-        Err(error) => {
-            put_stop(page, error)?;
-            return Ok(());
-        }
-    };
+fn put_found(page: &mut String, sight: Sight, read: Read<'_, Items<Decl>>) -> Put {
+    match read {
+        Ok((found, rest)) => put_sight(page, sight, found.as_slice(), rest),
+        Err(error) => put_stop(page, error),
+    }
+}
+
+fn put_sight(page: &mut String, sight: Sight, found: &[Decl], rest: &[Token]) -> Put {
     page.push_str("  ")?;
     match sight {
-        Sight::Words => put_decls(page, found.as_slice())?,
-        Sight::Types => put_types(page, found.as_slice())?,
-        Sight::Events => put_events(page, found.as_slice())?,
+        Sight::Words => put_decls(page, found)?,
+        Sight::Types => put_types(page, found)?,
+        Sight::Events => put_events(page, found)?,
     }
-    put_left(page, rest)?;
-    Ok(())
-}
-
-fn declared(fields: &Fields<'_>, page: &mut String, sight: Sight) -> Result<(), Fault> {
-    let text = fields.text()?;
-    let Some(tokens) = tokens_of(fields, text.as_slice(), page)? else {
-        return Ok(());
-    };
-    let read = declaration(fields.alloc, text.as_slice(), tokens.as_slice());
-    put_declared(page, sight, read)
-}
-
-/// `declaration TEXT`: the declarations that one of the text is.
-pub fn declaration_case(fields: &Fields<'_>, page: &mut String) -> Result<(), Fault> {
-    declared(fields, page, Sight::Words)
-}
-
-/// `types TEXT`: the type of each of the declarations.
-pub fn types_case(fields: &Fields<'_>, page: &mut String) -> Result<(), Fault> {
-    declared(fields, page, Sight::Types)
-}
-
-/// `events TEXT`: where the predicate and the events of each invariant stand.
-pub fn events_case(fields: &Fields<'_>, page: &mut String) -> Result<(), Fault> {
-    declared(fields, page, Sight::Events)
-}
-
-/// `disc TEXT`: the types of discrete variables.
-pub fn disc_case(fields: &Fields<'_>, page: &mut String) -> Result<(), Fault> {
-    let text = fields.text()?;
-    let Some(tokens) = tokens_of(fields, text.as_slice(), page)? else {
-        return Ok(());
-    };
-    let read = disc_declaration(fields.alloc, text.as_slice(), tokens.as_slice());
-    put_declared(page, Sight::Types, read)
-}
-
-/// `plain TEXT`: a declaration without a kind before it.
-pub fn plain_case(fields: &Fields<'_>, page: &mut String) -> Result<(), Fault> {
-    let text = fields.text()?;
-    let Some(tokens) = tokens_of(fields, text.as_slice(), page)? else {
-        return Ok(());
-    };
-    let read = plain_declaration(fields.alloc, text.as_slice(), tokens.as_slice());
-    put_declared(page, Sight::Words, read)
-}
-
-/// `invariants TEXT`: a kind and invariants.
-pub fn invariants_case(fields: &Fields<'_>, page: &mut String) -> Result<(), Fault> {
-    let text = fields.text()?;
-    let Some(tokens) = tokens_of(fields, text.as_slice(), page)? else {
-        return Ok(());
-    };
-    let read = kind_invariants(fields.alloc, text.as_slice(), tokens.as_slice());
-    put_declared(page, Sight::Words, read)
+    put_left(page, rest)
 }
 
 /// `kind TEXT`: a kind of components.
-pub fn kind_case(fields: &Fields<'_>, page: &mut String) -> Result<(), Fault> {
-    let text = fields.text()?;
-    let Some(tokens) = tokens_of(fields, text.as_slice(), page)? else {
-        return Ok(());
-    };
-    match component_kind(tokens.as_slice()) {
+fn put_kind(page: &mut String, read: Read<'_, &Token>) -> Put {
+    match read {
         Ok((token, rest)) => {
             page.push_str("  ")?;
             put_token(page, token)?;
-            put_left(page, rest)?;
+            put_left(page, rest)
         }
-        Err(error) => put_stop(page, error)?,
+        Err(error) => put_stop(page, error),
     }
-    Ok(())
 }
 
 /// `component TEXT`: whether a component begins.
-pub fn component_case(fields: &Fields<'_>, page: &mut String) -> Result<(), Fault> {
-    let text = fields.text()?;
-    let Some(tokens) = tokens_of(fields, text.as_slice(), page)? else {
-        return Ok(());
-    };
-    if is_component(tokens.as_slice()) {
-        page.push_str("  yes\n")?;
-    } else {
-        page.push_str("  no\n")?;
-    }
-    Ok(())
+fn put_component(page: &mut String, begins: bool) -> Put {
+    page.push_str(if begins { "  yes\n" } else { "  no\n" })
 }
 
 /// `parameters TEXT`: parameters in parentheses.
-pub fn parameters_case(fields: &Fields<'_>, page: &mut String) -> Result<(), Fault> {
-    let text = fields.text()?;
-    let Some(tokens) = tokens_of(fields, text.as_slice(), page)? else {
-        return Ok(());
-    };
-    match parameters(fields.alloc, text.as_slice(), tokens.as_slice()) {
-        Ok((found, rest)) => {
-            page.push_str("  ")?;
-            put_params(page, given(fields.alloc, Some(found)).as_slice())?;
-            put_left(page, rest)?;
-        }
-        Err(error) => put_stop(page, error)?,
+fn put_parameters(alloc: Global, page: &mut String, read: Read<'_, Items<Param>>) -> Put {
+    match read {
+        Ok((found, rest)) => put_params(page, given(alloc, Some(found)).as_slice(), rest),
+        Err(error) => put_stop(page, error),
     }
-    Ok(())
 }
 
-fn put_params(page: &mut String, params: &[Param]) -> Result<(), AllocError> {
-    if params.is_empty() {
-        page.push_str("none")?;
-    }
+fn put_params(page: &mut String, params: &[Param], rest: &[Token]) -> Put {
+    page.push_str(if params.is_empty() { "  none" } else { "  " })?;
     let mut gap = "";
     for param in params {
         page.push_str(gap)?;
         put_param(page, param)?;
         gap = " ";
     }
-    Ok(())
+    put_left(page, rest)
 }

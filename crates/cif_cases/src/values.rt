@@ -3,7 +3,9 @@
 use crate::fault::Fault;
 use crate::fields::{Fields, whole};
 use crate::page::put_lines;
+use crate::told::Put;
 use cif_base::{Items, Iv, Text};
+use std::alloc::Global;
 
 /// An operator on intervals.
 #[derive(Clone, Copy)]
@@ -60,63 +62,90 @@ fn bounds_of(numbers: &[i64]) -> Result<[i64; 4], Fault> {
     }
 }
 
-fn put_interval(page: &mut String, interval: Option<Iv>) -> Result<(), Fault> {
+fn put_interval(page: &mut String, interval: Option<Iv>) -> Put {
     match interval {
-        Some(bounds) => {
-            let lo = bounds.lo();
-            let hi = bounds.hi();
-            write!(page, "  {lo} to {hi}\n")?;
-        }
-        None => page.push_str("  none\n")?,
+        Some(bounds) => put_bounds(page, bounds.lo(), bounds.hi()),
+        None => page.push_str("  none\n"),
     }
-    Ok(())
 }
 
-/// `interval OPERATOR | LO HI [LO HI]`
-pub fn interval_case(fields: &Fields<'_>, page: &mut String) -> Result<(), Fault> {
-    let operator = operator_named(fields.written(0))?;
-    let numbers = fields.wholes(fields.written(1))?;
-    let [lo, hi, other_lo, other_hi] = bounds_of(numbers.as_slice())?;
+fn put_bounds(page: &mut String, lo: i64, hi: i64) -> Put {
+    write!(page, "  {lo} to {hi}\n")
+}
+
+/// What an operator makes of one interval or of two.
+fn put_result(page: &mut String, operator: Operator, numbers: &[i64]) -> Result<(), Fault> {
+    let [lo, hi, other_lo, other_hi] = bounds_of(numbers)?;
     let Some(a) = Iv::try_new(lo, hi) else {
         return Err(Fault::Form("bounds that are not in order"));
     };
     let Some(b) = Iv::try_new(other_lo, other_hi) else {
         return Err(Fault::Form("bounds that are not in order"));
     };
-    put_interval(page, computed(operator, a, b))
+    Ok(put_interval(page, computed(operator, a, b))?)
 }
 
-fn put_items(page: &mut String, label: &str, items: &Items<i64>) -> Result<(), Fault> {
-    write!(page, "  {label}")?;
-    for item in items.as_slice() {
+/// `interval OPERATOR | LO HI [LO HI]`
+pub fn interval_case(fields: &Fields<'_>, page: &mut String) -> Result<(), Fault> {
+    let operator = operator_named(fields.written(0))?;
+    let numbers = fields.wholes(fields.written(1))?;
+    put_result(page, operator, numbers.as_slice())
+}
+
+fn put_items(page: &mut String, label: &str, items: &[i64]) -> Put {
+    page.push_str(label)?;
+    for item in items {
         write!(page, " {item}")?;
     }
-    page.push('\n')?;
-    Ok(())
+    page.push('\n')
+}
+
+/// A list reversed.
+fn put_reversed(alloc: Global, page: &mut String, items: &Items<i64>) -> Result<(), Fault> {
+    let mut turned = items.copy(alloc)?;
+    turned.reverse();
+    Ok(put_items(page, "  reversed", turned.as_slice())?)
+}
+
+/// An item alone.
+fn put_only(alloc: Global, page: &mut String, item: i64) -> Result<(), Fault> {
+    let only = Items::only(alloc, item)?;
+    Ok(put_items(page, "  only", only.as_slice())?)
+}
+
+/// An item so many times.
+fn put_filled(alloc: Global, page: &mut String, item: i64, count: usize) -> Result<(), Fault> {
+    let filled = Items::filled(alloc, item, count)?;
+    Ok(put_items(page, "  filled", filled.as_slice())?)
+}
+
+fn put_list(alloc: Global, page: &mut String, items: &Items<i64>) -> Result<(), Fault> {
+    put_reversed(alloc, page, items)?;
+    if let Some(last) = items.last() {
+        put_only(alloc, page, *last)?;
+        put_filled(alloc, page, *last, items.len())?;
+    }
+    Ok(put_items(page, "  list", items.as_slice())?)
 }
 
 /// `list ITEM ..`: a list reversed, its last item alone and that as often as there are items, and the list.
 pub fn list_case(fields: &Fields<'_>, page: &mut String) -> Result<(), Fault> {
-    let alloc = fields.alloc;
     let numbers = fields.wholes(fields.written(0))?;
-    let items = Items::from_slice(alloc, numbers.as_slice())?;
-    let mut turned = items.copy(alloc)?;
-    turned.reverse();
-    put_items(page, "reversed", &turned)?;
-    if let Some(last) = items.last() {
-        put_items(page, "only", &Items::only(alloc, *last)?)?;
-        put_items(page, "filled", &Items::filled(alloc, *last, items.len())?)?;
-    }
-    put_items(page, "list", &items)
+    let items = Items::from_slice(fields.alloc, numbers.as_slice())?;
+    put_list(fields.alloc, page, &items)
+}
+
+fn put_begins(fields: &Fields<'_>, page: &mut String, text: &Text) -> Result<(), Fault> {
+    let front = fields.bytes_of(fields.written(1))?;
+    let begins = text.starts_with(front.as_slice());
+    Ok(write!(page, "  begins {begins}\n")?)
 }
 
 /// `text TEXT | FRONT | NUMBER`: whether it begins so, and the text with the number behind it.
 pub fn text_case(fields: &Fields<'_>, page: &mut String) -> Result<(), Fault> {
+    let number = whole(fields.written(2))?;
     let mut text = Text::from_vec(fields.text()?);
-    let front = fields.bytes_of(fields.written(1))?;
-    let begins = text.starts_with(front.as_slice());
-    write!(page, "  begins {begins}\n")?;
-    text.push_int(whole(fields.written(2))?)?;
-    put_lines(page, "text", text.as_slice())?;
-    Ok(())
+    put_begins(fields, page, &text)?;
+    text.push_int(number)?;
+    Ok(put_lines(page, "text", text.as_slice())?)
 }
