@@ -50,14 +50,15 @@ pub fn put_shape(page: &mut String, expr: &Expr) -> Put {
     write!(page, "{name} {count}")
 }
 
-fn sign_of(op: CmpOp) -> &'static str {
+/// What begins a comparison.
+fn opening_of(op: CmpOp) -> &'static str {
     match op {
-        CmpOp::Eq => "=",
-        CmpOp::Ne => "!=",
-        CmpOp::Lt => "<",
-        CmpOp::Le => "<=",
-        CmpOp::Gt => ">",
-        CmpOp::Ge => ">=",
+        CmpOp::Eq => "(= ",
+        CmpOp::Ne => "(!= ",
+        CmpOp::Lt => "(< ",
+        CmpOp::Le => "(<= ",
+        CmpOp::Gt => "(> ",
+        CmpOp::Ge => "(>= ",
     }
 }
 
@@ -101,36 +102,63 @@ fn put_form(page: &mut String, form: &Form) -> Put {
         Form::Plus(e) => put_one(page, "(+ ", e.get()),
         Form::Not(e) => put_one(page, "(not ", e.get()),
         Form::Abs(e) => put_one(page, "(abs ", e.get()),
-        Form::Min(a, b) => put_two(page, "min", a.get(), b.get()),
-        Form::Max(a, b) => put_two(page, "max", a.get(), b.get()),
-        Form::Sum { first, rest } => put_sum(page, first.get(), rest.as_slice()),
-        Form::Product { first, rest } => put_product(page, first.get(), rest.as_slice()),
-        Form::Compare { left, op, right } => put_two(page, sign_of(*op), left.get(), right.get()),
+        Form::Min(a, b) => {
+            put_first(page, "(min ", a.get())?;
+            put_second(page, b.get())
+        }
+        Form::Max(a, b) => {
+            put_first(page, "(max ", a.get())?;
+            put_second(page, b.get())
+        }
+        Form::Sum { first, rest } => {
+            put_first(page, "(sum ", first.get())?;
+            put_terms(page, rest.as_slice())
+        }
+        Form::Product { first, rest } => {
+            put_first(page, "(product ", first.get())?;
+            put_factors(page, rest.as_slice())
+        }
+        Form::Compare { left, op, right } => {
+            put_first(page, opening_of(*op), left.get())?;
+            put_second(page, right.get())
+        }
         Form::And(all) => put_all(page, "(and", all.as_slice()),
         Form::Or(all) => put_all(page, "(or", all.as_slice()),
-        Form::Implies(a, b) => put_two(page, "=>", a.get(), b.get()),
-        Form::Iff(a, b) => put_two(page, "<=>", a.get(), b.get()),
-        Form::If { branches, other } => put_choice(page, branches.as_slice(), other.get()),
+        Form::Implies(a, b) => {
+            put_first(page, "(=> ", a.get())?;
+            put_second(page, b.get())
+        }
+        Form::Iff(a, b) => {
+            put_first(page, "(<=> ", a.get())?;
+            put_second(page, b.get())
+        }
+        Form::If { branches, other } => {
+            put_branches(page, branches.as_slice())?;
+            put_one(page, " else ", other.get())
+        }
     }
 }
 
-/// The one part of a form in parentheses, behind its word.
+/// The first part of a form in parentheses, behind its word.
 #[cycle(tree)]
-fn put_one(page: &mut String, word: &str, part: &Expr) -> Put {
+fn put_first(page: &mut String, word: &str, part: &Expr) -> Put {
     page.push_str(word)?;
+    put_tree(page, part)
+}
+
+/// The second and last part of a form.
+#[cycle(tree)]
+fn put_second(page: &mut String, part: &Expr) -> Put {
+    page.push(' ')?;
     put_tree(page, part)?;
     page.push(')')
 }
 
-/// The two parts of a form in parentheses, behind its word.
+/// The only part of a form in parentheses, or the last one, behind a word.
 #[cycle(tree)]
-fn put_two(page: &mut String, word: &str, left: &Expr, right: &Expr) -> Put {
-    page.push('(')?;
+fn put_one(page: &mut String, word: &str, part: &Expr) -> Put {
     page.push_str(word)?;
-    page.push(' ')?;
-    put_tree(page, left)?;
-    page.push(' ')?;
-    put_tree(page, right)?;
+    put_tree(page, part)?;
     page.push(')')
 }
 
@@ -145,9 +173,7 @@ fn put_all(page: &mut String, word: &str, all: &[Expr]) -> Put {
 }
 
 #[cycle(tree)]
-fn put_sum(page: &mut String, first: &Expr, rest: &[Term]) -> Put {
-    page.push_str("(sum ")?;
-    put_tree(page, first)?;
+fn put_terms(page: &mut String, rest: &[Term]) -> Put {
     for term in rest {
         page.push_str(if term.minus { " - " } else { " + " })?;
         put_tree(page, &term.value)?;
@@ -156,9 +182,7 @@ fn put_sum(page: &mut String, first: &Expr, rest: &[Term]) -> Put {
 }
 
 #[cycle(tree)]
-fn put_product(page: &mut String, first: &Expr, rest: &[Factor]) -> Put {
-    page.push_str("(product ")?;
-    put_tree(page, first)?;
+fn put_factors(page: &mut String, rest: &[Factor]) -> Put {
     for factor in rest {
         page.push_str(word_of(factor.op))?;
         put_tree(page, &factor.value)?;
@@ -167,14 +191,12 @@ fn put_product(page: &mut String, first: &Expr, rest: &[Factor]) -> Put {
 }
 
 #[cycle(tree)]
-fn put_choice(page: &mut String, branches: &[Branch], other: &Expr) -> Put {
+fn put_branches(page: &mut String, branches: &[Branch]) -> Put {
     page.push_str("(if")?;
     for branch in branches {
         page.push_str(" (")?;
         put_tree(page, &branch.value)?;
         put_all(page, " where", branch.conds.as_slice())?;
     }
-    page.push_str(" else ")?;
-    put_tree(page, other)?;
-    page.push(')')
+    Ok(())
 }
