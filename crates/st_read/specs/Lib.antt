@@ -1,5 +1,4 @@
 pub mod Reading
-pub mod Kinds
 pub mod Gives
 pub mod ReadsUnary
 pub mod ReadsStatement

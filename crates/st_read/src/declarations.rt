@@ -2,17 +2,15 @@
 
 ghost use Rattle.std.specs.Prelude.{◌≡◌, map};
 ghost use Rattle.st_ast.specs.Grammar as grammar;
-ghost use Rattle.st_ast.specs.Tokens as k;
 ghost use Rattle.grammar.specs.Loops.{after};
 ghost use Rattle.grammar.specs.Reader as reader;
 ghost use Rattle.st_read.specs.Gives.{Gives};
-ghost use Rattle.st_read.specs.Kinds.{seen};
 ghost use Rattle.st_read.specs.Reading as reading;
 
 use crate::names::{identifier, natural};
-use crate::tokens::{Kind, Read, Token, starts, word};
+use crate::tokens::{Read, Token, starts, word};
 use cif_base::Items;
-use st_ast::{StClass, StLit, StTy, StVar};
+use st_ast::{StClass, StLit, StTy, StVar, TokenKind};
 use std::alloc::Global;
 
 /// A number, perhaps with a sign before it.
@@ -20,8 +18,8 @@ use std::alloc::Global;
 fn signed(tokens: &[Token]) -> Read<'_, i64>
     ensures { Gives (λ x. (x.0, x.1.now)) result (reading.signed_at tokens.now) }
 {
-    if starts(tokens, &[Kind::Dash]) {
-        let (_dash, rest) = word(tokens, Kind::Dash)?;
+    if starts(tokens, &[TokenKind::Dash]) {
+        let (_dash, rest) = word(tokens, TokenKind::Dash)?;
         let (value, rest) = natural(rest)?;
         Ok((-(value as i64), rest))
     } else {
@@ -34,11 +32,11 @@ fn signed(tokens: &[Token]) -> Read<'_, i64>
 fn first_value(tokens: &[Token]) -> Read<'_, StLit>
     ensures { Gives (λ x. (x.0, x.1.now)) result (reading.first_value_at tokens.now) }
 {
-    if starts(tokens, &[Kind::True]) {
-        let (_true, rest) = word(tokens, Kind::True)?;
+    if starts(tokens, &[TokenKind::True]) {
+        let (_true, rest) = word(tokens, TokenKind::True)?;
         Ok((StLit::Bool(true), rest))
-    } else if starts(tokens, &[Kind::False]) {
-        let (_false, rest) = word(tokens, Kind::False)?;
+    } else if starts(tokens, &[TokenKind::False]) {
+        let (_false, rest) = word(tokens, TokenKind::False)?;
         Ok((StLit::Bool(false), rest))
     } else {
         let (value, rest) = signed(tokens)?;
@@ -49,17 +47,17 @@ fn first_value(tokens: &[Token]) -> Read<'_, StLit>
 /// `LINT`, perhaps with the bounds of a subrange.
 #[tactic(auto, unfolding(crate::specs::Reading::subrange_at))]
 fn integer_type(tokens: &[Token]) -> Read<'_, StTy>
-    ensures { Gives (λ x. (x.0, x.1.now)) result (reader.map_at reading.number_type (reader.both_at (reading.word_at k.lint) reading.subrange_at) tokens.now) }
+    ensures { Gives (λ x. (x.0, x.1.now)) result (reader.map_at reading.number_type (reader.both_at (reading.word_at TokenKind.Lint) reading.subrange_at) tokens.now) }
 {
-    let (_lint, rest) = word(tokens, Kind::Lint)?;
-    if !starts(rest, &[Kind::Open]) {
+    let (_lint, rest) = word(tokens, TokenKind::Lint)?;
+    if !starts(rest, &[TokenKind::Open]) {
         return Ok((StTy::Lint, rest));
     }
-    let (_open, rest) = word(rest, Kind::Open)?;
+    let (_open, rest) = word(rest, TokenKind::Open)?;
     let (lo, rest) = signed(rest)?;
-    let (_dots, rest) = word(rest, Kind::Dots)?;
+    let (_dots, rest) = word(rest, TokenKind::Dots)?;
     let (hi, rest) = signed(rest)?;
-    let (_close, rest) = word(rest, Kind::Close)?;
+    let (_close, rest) = word(rest, TokenKind::Close)?;
     Ok((StTy::Range { lo, hi }, rest))
 }
 
@@ -67,8 +65,8 @@ fn integer_type(tokens: &[Token]) -> Read<'_, StTy>
 fn type_use(tokens: &[Token]) -> Read<'_, StTy>
     ensures { Gives (λ x. (x.0, x.1.now)) result (reading.type_at tokens.now) }
 {
-    if starts(tokens, &[Kind::Bool]) {
-        let (_bool, rest) = word(tokens, Kind::Bool)?;
+    if starts(tokens, &[TokenKind::Bool]) {
+        let (_bool, rest) = word(tokens, TokenKind::Bool)?;
         Ok((StTy::Bool, rest))
     } else {
         integer_type(tokens)
@@ -80,10 +78,10 @@ fn type_use(tokens: &[Token]) -> Read<'_, StTy>
 fn init(tokens: &[Token]) -> Read<'_, Option<StLit>>
     ensures { Gives (λ x. (x.0, x.1.now)) result (reading.init_at tokens.now) }
 {
-    if !starts(tokens, &[Kind::Assigns]) {
+    if !starts(tokens, &[TokenKind::Assigns]) {
         return Ok((None, tokens));
     }
-    let (_assigns, rest) = word(tokens, Kind::Assigns)?;
+    let (_assigns, rest) = word(tokens, TokenKind::Assigns)?;
     let (value, rest) = first_value(rest)?;
     Ok((Some(value), rest))
 }
@@ -94,10 +92,10 @@ fn declaration(alloc: Global, tokens: &[Token], class: StClass) -> Read<'_, StVa
     ensures { Gives (λ x. (x.0, x.1.now)) result (reading.declaration_at class tokens.now) }
 {
     let (name, rest) = identifier(alloc, tokens)?;
-    let (_colon, rest) = word(rest, Kind::Colon)?;
+    let (_colon, rest) = word(rest, TokenKind::Colon)?;
     let (ty, rest) = type_use(rest)?;
     let (init, rest) = init(rest)?;
-    let (_semicolon, rest) = word(rest, Kind::Semicolon)?;
+    let (_semicolon, rest) = word(rest, TokenKind::Semicolon)?;
     let variable = StVar {
         name,
         class,
@@ -114,11 +112,11 @@ fn declarations(
     class: StClass,
     mut found: Items<StVar>,
 ) -> Read<'_, Items<StVar>>
-    ensures { Gives (λ x. (x.0, x.1.now)) result (after found (reader.many_at grammar.sort (reading.first k.name) (reading.declaration_at class) tokens.now)) }
+    ensures { Gives (λ x. (x.0, x.1.now)) result (after found (reader.many_at grammar.sort (reading.first TokenKind.Name) (reading.declaration_at class) tokens.now)) }
 {
     let mut rest = tokens;
     for _turn in 0..tokens.len() {
-        if !starts(rest, &[Kind::Name]) {
+        if !starts(rest, &[TokenKind::Name]) {
             return Ok((found, rest));
         }
         let (item, left) = declaration(alloc, rest, class)?;
@@ -133,14 +131,14 @@ fn declarations(
 fn block_of(
     alloc: Global,
     tokens: &[Token],
-    opening: Kind,
+    opening: TokenKind,
     class: StClass,
 ) -> Read<'_, Items<StVar>>
-    ensures { Gives (λ x. (x.0, x.1.now)) result (reading.block_of_at (seen opening) class tokens.now) }
+    ensures { Gives (λ x. (x.0, x.1.now)) result (reading.block_of_at opening class tokens.now) }
 {
     let (_opening, rest) = word(tokens, opening)?;
     let (found, rest) = declarations(alloc, rest, class, Items::new(alloc))?;
-    let (_end, rest) = word(rest, Kind::EndVar)?;
+    let (_end, rest) = word(rest, TokenKind::EndVar)?;
     Ok((found, rest))
 }
 
@@ -148,10 +146,10 @@ fn block_of(
 fn block(alloc: Global, tokens: &[Token]) -> Read<'_, Items<StVar>>
     ensures { Gives (λ x. (x.0, x.1.now)) result (reading.block_at tokens.now) }
 {
-    if starts(tokens, &[Kind::Var]) {
-        block_of(alloc, tokens, Kind::Var, StClass::Plain)
+    if starts(tokens, &[TokenKind::Var]) {
+        block_of(alloc, tokens, TokenKind::Var, StClass::Plain)
     } else {
-        block_of(alloc, tokens, Kind::VarOutput, StClass::Output)
+        block_of(alloc, tokens, TokenKind::VarOutput, StClass::Output)
     }
 }
 
@@ -163,7 +161,7 @@ pub fn variables(alloc: Global, tokens: &[Token]) -> Read<'_, Items<StVar>>
     let mut found = Items::new(alloc);
     let mut rest = tokens;
     for _turn in 0..tokens.len() {
-        if !starts(rest, &[Kind::Var, Kind::VarOutput]) {
+        if !starts(rest, &[TokenKind::Var, TokenKind::VarOutput]) {
             return Ok((found, rest));
         }
         let (more, left) = block(alloc, rest)?;

@@ -2,7 +2,6 @@
 
 ghost use Rattle.std.specs.Prelude.{◌≡◌, [], ◌∷◌, map, IfOk};
 ghost use Rattle.st_ast.specs.Grammar as grammar;
-ghost use Rattle.st_ast.specs.Tokens as k;
 ghost use Rattle.st_ast.specs.View.{view_expr, view_term};
 ghost use Rattle.grammar.specs.Reader as reader;
 ghost use Rattle.st_ast.specs.Grammar.{max_depth};
@@ -11,13 +10,16 @@ ghost use Rattle.st_read.specs.Reading as reading;
 ghost use Rattle.st_read.specs.ReadsUnary.{ReadsUnary};
 
 use crate::error::Stop;
-use crate::tokens::{Kind, Read, Token, starts, word};
+use crate::tokens::{Read, Token, starts, word};
 use cif_base::{Boxed, Items, Memory};
-use st_ast::{StExpr, StOrder, StTerm};
+use st_ast::{StExpr, StOrder, StTerm, TokenKind};
 use std::alloc::Global;
 
 /// The deepest expression and the deepest statement that are read.
 pub const MAX_DEPTH: u16 = 400;
+
+/// The most operands that may stand inside one another: one more than forms do.
+pub const MAX_CALLS: u16 = MAX_DEPTH + 1;
 
 /// A reader of expressions over one of operands.
 #[derive(Clone, Copy)]
@@ -107,7 +109,7 @@ impl<F: Fn(Global, &[Token], u16) -> Result<((StExpr, u16), &[Token]), Stop>> Le
         requires { ReadsUnary self.now.fuel (F.pre self.now.unary) (F.post self.now.unary) }
         ensures { Gives (λ x. ((view_term x.0.0, x.0.1), x.1.now)) result (reading.term_at (reading.unary_at self.now.fuel) tokens.now) }
     {
-        let (_plus, rest) = word(tokens, Kind::Plus)?;
+        let (_plus, rest) = word(tokens, TokenKind::Plus)?;
         let ((value, depth), rest) = self.inner_operand(rest)?;
         let minus = false;
         Ok(((StTerm { minus, value }, depth), rest))
@@ -116,13 +118,13 @@ impl<F: Fn(Global, &[Token], u16) -> Result<((StExpr, u16), &[Token]), Stop>> Le
     #[tactic(auto, using(crate::proofs::SeenLoops::seen_deep_step, grammar::proofs::Loops::deep_stop, grammar::proofs::Loops::deep_fail, grammar::proofs::Loops::deep_end, grammar::proofs::Loops::deep_after_none))]
     fn terms<'a>(&self, tokens: &'a [Token]) -> Read<'a, (Items<StTerm>, u16)>
         requires { ReadsUnary self.now.fuel (F.pre self.now.unary) (F.post self.now.unary) }
-        ensures { Gives (λ x. ((map view_term x.0.0, x.0.1), x.1.now)) result (reader.deep_many grammar.sort (reading.first k.plus) (reading.term_at (reading.unary_at self.now.fuel)) tokens.now) }
+        ensures { Gives (λ x. ((map view_term x.0.0, x.0.1), x.1.now)) result (reader.deep_many grammar.sort (reading.first TokenKind.Plus) (reading.term_at (reading.unary_at self.now.fuel)) tokens.now) }
     {
         let mut found = Items::new(self.alloc);
         let mut deep = 0;
         let mut rest = tokens;
         for _turn in 0..tokens.len() {
-            if !starts(rest, &[Kind::Plus]) {
+            if !starts(rest, &[TokenKind::Plus]) {
                 return Ok(((found, deep), rest));
             }
             let ((item, depth), left) = self.term(rest)?;
@@ -161,10 +163,10 @@ impl<F: Fn(Global, &[Token], u16) -> Result<((StExpr, u16), &[Token]), Stop>> Le
         ensures { Gives (λ x. ((view_expr x.0.0, x.0.1), x.1.now)) result (reading.order_from (reading.unary_at self.now.fuel) tokens.now) }
     {
         let ((left, depth), rest) = self.sum(tokens)?;
-        if !starts(rest, &[Kind::Less]) {
+        if !starts(rest, &[TokenKind::Less]) {
             return Ok(((left, depth), rest));
         }
-        let (_less, rest) = word(rest, Kind::Less)?;
+        let (_less, rest) = word(rest, TokenKind::Less)?;
         let ((right, deep), rest) = self.inner_sum(rest)?;
         let ((left, depth), rest) = level(left, depth, rest)?;
         Ok(((order_of(self.alloc, left, right)?, depth.max(deep)), rest))
@@ -184,10 +186,10 @@ impl<F: Fn(Global, &[Token], u16) -> Result<((StExpr, u16), &[Token]), Stop>> Le
         ensures { Gives (λ x. ((view_expr x.0.0, x.0.1), x.1.now)) result (reading.equal_from (reading.unary_at self.now.fuel) tokens.now) }
     {
         let ((left, depth), rest) = self.order(tokens)?;
-        if !starts(rest, &[Kind::Equals]) {
+        if !starts(rest, &[TokenKind::Equals]) {
             return Ok(((left, depth), rest));
         }
-        let (_equals, rest) = word(rest, Kind::Equals)?;
+        let (_equals, rest) = word(rest, TokenKind::Equals)?;
         let ((right, deep), rest) = self.inner_order(rest)?;
         let ((left, depth), rest) = level(left, depth, rest)?;
         Ok(((equal_of(self.alloc, left, right)?, depth.max(deep)), rest))
@@ -207,20 +209,20 @@ impl<F: Fn(Global, &[Token], u16) -> Result<((StExpr, u16), &[Token]), Stop>> Le
         requires { ReadsUnary self.now.fuel (F.pre self.now.unary) (F.post self.now.unary) }
         ensures { Gives (λ x. ((view_expr x.0.0, x.0.1), x.1.now)) result (reading.and_next_at (reading.unary_at self.now.fuel) tokens.now) }
     {
-        let (_word, rest) = word(tokens, Kind::And)?;
+        let (_word, rest) = word(tokens, TokenKind::And)?;
         self.inner_equal(rest)
     }
 
     #[tactic(auto, using(crate::proofs::SeenLoops::seen_deep_step, grammar::proofs::Loops::deep_stop, grammar::proofs::Loops::deep_fail, grammar::proofs::Loops::deep_end, grammar::proofs::Loops::deep_after_none))]
     fn and_more<'a>(&self, tokens: &'a [Token]) -> Read<'a, (Items<StExpr>, u16)>
         requires { ReadsUnary self.now.fuel (F.pre self.now.unary) (F.post self.now.unary) }
-        ensures { Gives (λ x. ((map view_expr x.0.0, x.0.1), x.1.now)) result (reader.deep_many grammar.sort (reading.first k.and_word) (reading.and_next_at (reading.unary_at self.now.fuel)) tokens.now) }
+        ensures { Gives (λ x. ((map view_expr x.0.0, x.0.1), x.1.now)) result (reader.deep_many grammar.sort (reading.first TokenKind.And) (reading.and_next_at (reading.unary_at self.now.fuel)) tokens.now) }
     {
         let mut found = Items::new(self.alloc);
         let mut deep = 0;
         let mut rest = tokens;
         for _turn in 0..tokens.len() {
-            if !starts(rest, &[Kind::And]) {
+            if !starts(rest, &[TokenKind::And]) {
                 return Ok(((found, deep), rest));
             }
             let ((item, depth), left) = self.and_next(rest)?;
@@ -259,20 +261,20 @@ impl<F: Fn(Global, &[Token], u16) -> Result<((StExpr, u16), &[Token]), Stop>> Le
         requires { ReadsUnary self.now.fuel (F.pre self.now.unary) (F.post self.now.unary) }
         ensures { Gives (λ x. ((view_expr x.0.0, x.0.1), x.1.now)) result (reading.or_next_at (reading.unary_at self.now.fuel) tokens.now) }
     {
-        let (_word, rest) = word(tokens, Kind::Or)?;
+        let (_word, rest) = word(tokens, TokenKind::Or)?;
         self.inner_and(rest)
     }
 
     #[tactic(auto, using(crate::proofs::SeenLoops::seen_deep_step, grammar::proofs::Loops::deep_stop, grammar::proofs::Loops::deep_fail, grammar::proofs::Loops::deep_end, grammar::proofs::Loops::deep_after_none))]
     fn or_more<'a>(&self, tokens: &'a [Token]) -> Read<'a, (Items<StExpr>, u16)>
         requires { ReadsUnary self.now.fuel (F.pre self.now.unary) (F.post self.now.unary) }
-        ensures { Gives (λ x. ((map view_expr x.0.0, x.0.1), x.1.now)) result (reader.deep_many grammar.sort (reading.first k.or_word) (reading.or_next_at (reading.unary_at self.now.fuel)) tokens.now) }
+        ensures { Gives (λ x. ((map view_expr x.0.0, x.0.1), x.1.now)) result (reader.deep_many grammar.sort (reading.first TokenKind.Or) (reading.or_next_at (reading.unary_at self.now.fuel)) tokens.now) }
     {
         let mut found = Items::new(self.alloc);
         let mut deep = 0;
         let mut rest = tokens;
         for _turn in 0..tokens.len() {
-            if !starts(rest, &[Kind::Or]) {
+            if !starts(rest, &[TokenKind::Or]) {
                 return Ok(((found, deep), rest));
             }
             let ((item, depth), left) = self.or_next(rest)?;

@@ -5,37 +5,38 @@ ghost use Rattle.std.specs.Option.{option_copied};
 ghost use Rattle.grammar.specs.Pieces as pieces;
 ghost use Rattle.grammar.specs.Pieces.{run_of, strip};
 ghost use Rattle.st_ast.specs.Tokens as k;
-ghost use Rattle.st_read.specs.Kinds.{seen};
 ghost use Rattle.st_read.specs.Lexing as lexing;
 ghost use Rattle.st_read.specs.Lexing.{Finds, Lexes, refusal_of};
 ghost use Rattle.st_read.specs.Refusals.{RefusalDue};
 
 use crate::error::StErr;
 use crate::found::{Fault, Found};
-use crate::tokens::{Kind, Token};
+use crate::tokens::Token;
 use crate::words::{begins_word, is_blank, is_digit, is_wordy, kind_of_word, value_of};
 use cif_base::{Items, Text};
+use st_ast::TokenKind;
 use std::alloc::Global;
 
-/// The signs, the longer ones first.
-static SIGNS: [&[u8]; 18] = [
-    b":=", b"..", b"<>", b"<=", b">=", b";", b":", b"(", b")", b",", b"+", b"-", b"*", b"/", b"=",
-    b"<", b">", b"&",
-];
-
-/// The signs that the part of the language that is read has.
-static SIGN_KINDS: [(&[u8], Kind); 11] = [
-    (b";", Kind::Semicolon),
-    (b":", Kind::Colon),
-    (b":=", Kind::Assigns),
-    (b"..", Kind::Dots),
-    (b"(", Kind::Open),
-    (b")", Kind::Close),
-    (b",", Kind::Comma),
-    (b"+", Kind::Plus),
-    (b"-", Kind::Dash),
-    (b"=", Kind::Equals),
-    (b"<", Kind::Less),
+/// The signs with their kinds, the longer ones first.
+static SIGNS: [(&[u8], TokenKind); 18] = [
+    (b":=", TokenKind::Assigns),
+    (b"..", TokenKind::Dots),
+    (b"<>", TokenKind::Outside),
+    (b"<=", TokenKind::Outside),
+    (b">=", TokenKind::Outside),
+    (b";", TokenKind::Semicolon),
+    (b":", TokenKind::Colon),
+    (b"(", TokenKind::Open),
+    (b")", TokenKind::Close),
+    (b",", TokenKind::Comma),
+    (b"+", TokenKind::Plus),
+    (b"-", TokenKind::Dash),
+    (b"*", TokenKind::Outside),
+    (b"/", TokenKind::Outside),
+    (b"=", TokenKind::Equals),
+    (b"<", TokenKind::Less),
+    (b">", TokenKind::Outside),
+    (b"&", TokenKind::Outside),
 ];
 
 /// The tokens of a text, and the byte at which each begins.
@@ -161,10 +162,10 @@ fn stripped<'a>(sign: &[u8], text: &'a [u8]) -> Option<&'a [u8]>
 }
 
 /// The first of the signs that stands at the front, and what is left.
-fn first_sign<'a>(text: &'a [u8], signs: &[&'a [u8]]) -> Option<(&'a [u8], &'a [u8])>
-    ensures { option_map (λ w. (w.0.now, w.1.now)) result ≡ lexing.sign_in (map (λ s. s.now) signs.now) text.now }
+fn first_sign<'a>(text: &'a [u8], signs: &[(&'a [u8], TokenKind)]) -> Option<(&'a [u8], &'a [u8])>
+    ensures { option_map (λ w. (w.0.now, w.1.now)) result ≡ lexing.sign_in (map (λ s. s.0.now) signs.now) text.now }
 {
-    for sign in signs {
+    for (sign, _kind) in signs {
         if let Some(rest) = stripped(*sign, text) {
             return Some((*sign, rest));
         }
@@ -180,22 +181,22 @@ fn same(word: &[u8], other: &[u8]) -> bool
 }
 
 /// The kind that a table has for a sign.
-fn sign_in_table(table: &[(&[u8], Kind)], sign: &[u8]) -> Kind
-    ensures { seen result ≡ k.kind_of_sign_in (map (λ p. (p.0.now, seen p.1)) table.now) sign.now }
+fn sign_in_table(table: &[(&[u8], TokenKind)], sign: &[u8]) -> TokenKind
+    ensures { result ≡ k.kind_of_sign_in (map (λ p. (p.0.now, p.1)) table.now) sign.now }
 {
     for (text, kind) in table {
         if same(text, sign) {
             return *kind;
         }
     }
-    Kind::Outside
+    TokenKind::Outside
 }
 
 #[tactic(auto, unfolding(crate::specs::Lexing::sign_kind))]
-fn kind_of_sign(sign: &[u8]) -> Kind
-    ensures { seen result ≡ lexing.sign_kind sign.now }
+fn kind_of_sign(sign: &[u8]) -> TokenKind
+    ensures { result ≡ lexing.sign_kind sign.now }
 {
-    sign_in_table(&SIGN_KINDS, sign)
+    sign_in_table(&SIGNS, sign)
 }
 
 /// The sign at the front.

@@ -6,21 +6,19 @@ ghost use Rattle.st_ast.specs.View.{view_expr};
 ghost use Rattle.grammar.specs.Reader as reader;
 ghost use Rattle.st_ast.specs.Grammar.{max_depth};
 ghost use Rattle.st_read.specs.Gives.{Gives};
-ghost use Rattle.st_read.specs.declared.tokens.Kind.TheVariants as kinds;
-ghost use Rattle.st_read.specs.Kinds.{seen};
 ghost use Rattle.st_read.specs.Reading as reading;
 ghost use Rattle.st_read.specs.ReadsUnary.{ReadsUnary};
 
 use crate::error::Stop;
-use crate::levels::{Levels, MAX_DEPTH};
+use crate::levels::{Levels, MAX_CALLS};
 use crate::names::{identifier, natural};
-use crate::tokens::{Kind, Read, Token, starts, word};
+use crate::tokens::{Read, Token, starts, word};
 use cif_base::{Boxed, Memory};
-use st_ast::StExpr;
+use st_ast::{StExpr, TokenKind};
 use std::alloc::Global;
 
-fn truth(tokens: &[Token], kind: Kind, value: bool) -> Read<'_, (StExpr, u16)>
-    ensures { Gives (λ x. ((view_expr x.0.0, x.0.1), x.1.now)) result (reader.deep_map (reading.truth_of value) (reading.flat_word (seen kind)) tokens.now) }
+fn truth(tokens: &[Token], kind: TokenKind, value: bool) -> Read<'_, (StExpr, u16)>
+    ensures { Gives (λ x. ((view_expr x.0.0, x.0.1), x.1.now)) result (reader.deep_map (reading.truth_of value) (reading.flat_word kind) tokens.now) }
 {
     let (_word, rest) = word(tokens, kind)?;
     Ok(((StExpr::Bool(value), 0), rest))
@@ -58,9 +56,9 @@ impl<F: Fn(Global, &[Token], u16) -> Result<((StExpr, u16), &[Token]), Stop>> Le
         requires { ReadsUnary self.now.fuel (F.pre self.now.unary) (F.post self.now.unary) }
         ensures { Gives (λ x. ((view_expr x.0.0, x.0.1), x.1.now)) result (reading.paren_at (reading.within_at self.now.fuel) tokens.now) }
     {
-        let (_open, rest) = word(tokens, Kind::Open)?;
+        let (_open, rest) = word(tokens, TokenKind::Open)?;
         let ((inner, depth), rest) = self.within(rest)?;
-        let (_close, rest) = word(rest, Kind::Close)?;
+        let (_close, rest) = word(rest, TokenKind::Close)?;
         Ok(((paren_of(self.alloc, inner)?, depth), rest))
     }
 
@@ -69,13 +67,13 @@ impl<F: Fn(Global, &[Token], u16) -> Result<((StExpr, u16), &[Token]), Stop>> Le
         requires { ReadsUnary self.now.fuel (F.pre self.now.unary) (F.post self.now.unary) }
         ensures { Gives (λ x. ((view_expr x.0.0, x.0.1), x.1.now)) result (reading.prim_at (reading.within_at self.now.fuel) tokens.now) }
     {
-        if starts(tokens, &[Kind::True]) {
-            truth(tokens, Kind::True, true)
-        } else if starts(tokens, &[Kind::False]) {
-            truth(tokens, Kind::False, false)
-        } else if starts(tokens, &[Kind::Literal]) {
+        if starts(tokens, &[TokenKind::True]) {
+            truth(tokens, TokenKind::True, true)
+        } else if starts(tokens, &[TokenKind::False]) {
+            truth(tokens, TokenKind::False, false)
+        } else if starts(tokens, &[TokenKind::Literal]) {
             number(tokens)
-        } else if starts(tokens, &[Kind::Name]) {
+        } else if starts(tokens, &[TokenKind::Name]) {
             named(self.alloc, tokens)
         } else {
             self.paren(tokens)
@@ -84,9 +82,9 @@ impl<F: Fn(Global, &[Token], u16) -> Result<((StExpr, u16), &[Token]), Stop>> Le
 
     fn negation<'a>(&self, tokens: &'a [Token]) -> Read<'a, (StExpr, u16)>
         requires { ReadsUnary self.now.fuel (F.pre self.now.unary) (F.post self.now.unary) }
-        ensures { Gives (λ x. ((view_expr x.0.0, x.0.1), x.1.now)) result (reader.deep_map reading.negation_of (reader.deep_both (reading.flat_word (seen kinds.Not)) (reader.inside max_depth (reading.unary_at self.now.fuel))) tokens.now) }
+        ensures { Gives (λ x. ((view_expr x.0.0, x.0.1), x.1.now)) result (reader.deep_map reading.negation_of (reader.deep_both (reading.flat_word TokenKind.Not) (reader.inside max_depth (reading.unary_at self.now.fuel))) tokens.now) }
     {
-        let (_not, rest) = word(tokens, Kind::Not)?;
+        let (_not, rest) = word(tokens, TokenKind::Not)?;
         let ((inner, depth), rest) = self.inner_operand(rest)?;
         Ok(((negation_of(self.alloc, inner)?, depth), rest))
     }
@@ -96,7 +94,7 @@ impl<F: Fn(Global, &[Token], u16) -> Result<((StExpr, u16), &[Token]), Stop>> Le
         requires { ReadsUnary self.now.fuel (F.pre self.now.unary) (F.post self.now.unary) }
         ensures { Gives (λ x. ((view_expr x.0.0, x.0.1), x.1.now)) result (reading.unary_from (reading.within_at self.now.fuel) (reader.inside max_depth (reading.unary_at self.now.fuel)) tokens.now) }
     {
-        if starts(tokens, &[Kind::Not]) {
+        if starts(tokens, &[TokenKind::Not]) {
             self.negation(tokens)
         } else {
             self.prim(tokens)
@@ -120,7 +118,7 @@ fn unary(alloc: Global, tokens: &[Token], fuel: u16) -> Result<((StExpr, u16), &
 pub fn expression(alloc: Global, tokens: &[Token]) -> Read<'_, StExpr>
     ensures { Gives (λ x. (view_expr x.0, x.1.now)) result (reading.expression_at tokens.now) }
 {
-    let fuel = MAX_DEPTH + 1;
+    let fuel = MAX_CALLS;
     let ((e, _depth), rest) = Levels { alloc, fuel, unary }.or(tokens)?;
     Ok((e, rest))
 }

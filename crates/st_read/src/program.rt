@@ -9,19 +9,19 @@ use crate::declarations::variables;
 use crate::error::Stop;
 use crate::names::identifier;
 use crate::statements::statements;
-use crate::tokens::{Kind, Read, Token, word};
-use st_ast::Program;
+use crate::tokens::{Read, Token, word};
+use st_ast::{Program, TokenKind};
 use std::alloc::Global;
 
 #[tactic(auto, unfolding(crate::specs::Reading::program_at))]
 fn program(alloc: Global, tokens: &[Token]) -> Read<'_, Program>
     ensures { Gives (λ x. (view x.0, x.1.now)) result (reading.program_at tokens.now) }
 {
-    let (_program, rest) = word(tokens, Kind::Program)?;
+    let (_program, rest) = word(tokens, TokenKind::Program)?;
     let (name, rest) = identifier(alloc, rest)?;
     let (vars, rest) = variables(alloc, rest)?;
     let (body, rest) = statements(alloc, rest)?;
-    let (_end, rest) = word(rest, Kind::EndProgram)?;
+    let (_end, rest) = word(rest, TokenKind::EndProgram)?;
     Ok((Program { name, vars, body }, rest))
 }
 

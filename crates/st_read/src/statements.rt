@@ -2,13 +2,11 @@
 
 ghost use Rattle.std.specs.Prelude.{◌≡◌, map, option_map};
 ghost use Rattle.st_ast.specs.Grammar as grammar;
-ghost use Rattle.st_ast.specs.Tokens as k;
 ghost use Rattle.st_ast.specs.View.{view_stmt, view_branch};
 ghost use Rattle.grammar.specs.Reader as reader;
 ghost use Rattle.grammar.specs.Loops.{after};
 ghost use Rattle.st_ast.specs.Grammar.{max_depth};
 ghost use Rattle.st_read.specs.Gives.{Gives};
-ghost use Rattle.st_read.specs.Kinds.{seen};
 ghost use Rattle.st_read.specs.Reading as reading;
 ghost use Rattle.st_read.specs.ReadsStatement.{ReadsStatement};
 
@@ -16,9 +14,9 @@ use crate::error::Stop;
 use crate::levels::MAX_DEPTH;
 use crate::names::identifier;
 use crate::operands::expression;
-use crate::tokens::{Kind, Read, Token, starts, word};
+use crate::tokens::{Read, Token, starts, word};
 use cif_base::Items;
-use st_ast::{StBranch, Stmt};
+use st_ast::{StBranch, Stmt, TokenKind};
 use std::alloc::Global;
 
 /// A reader of what stands between an opening word and its end.
@@ -35,9 +33,9 @@ pub fn assignment(alloc: Global, tokens: &[Token]) -> Read<'_, Stmt>
     ensures { Gives (λ x. (view_stmt x.0, x.1.now)) result (reading.assignment_at tokens.now) }
 {
     let (target, rest) = identifier(alloc, tokens)?;
-    let (_assigns, rest) = word(rest, Kind::Assigns)?;
+    let (_assigns, rest) = word(rest, TokenKind::Assigns)?;
     let (value, rest) = expression(alloc, rest)?;
-    let (_semicolon, rest) = word(rest, Kind::Semicolon)?;
+    let (_semicolon, rest) = word(rest, TokenKind::Semicolon)?;
     Ok((Stmt::Assign { target, value }, rest))
 }
 
@@ -57,7 +55,7 @@ impl<F: Fn(Global, &[Token], u16) -> Result<(Stmt, &[Token]), Stop>> Bodies<F> {
         let mut found = Items::new(self.alloc);
         let mut rest = tokens;
         for _turn in 0..tokens.len() {
-            if !starts(rest, &[Kind::Name, Kind::If, Kind::While]) {
+            if !starts(rest, &[TokenKind::Name, TokenKind::If, TokenKind::While]) {
                 return Ok((found, rest));
             }
             let (item, left) = self.one(rest)?;
@@ -69,9 +67,9 @@ impl<F: Fn(Global, &[Token], u16) -> Result<(Stmt, &[Token]), Stop>> Bodies<F> {
 
     /// A condition, the word after it and its statements.
     #[tactic(auto, unfolding(crate::specs::Reading::guarded_at))]
-    fn guarded<'a>(&self, tokens: &'a [Token], closing: Kind) -> Read<'a, StBranch>
+    fn guarded<'a>(&self, tokens: &'a [Token], closing: TokenKind) -> Read<'a, StBranch>
         requires { ReadsStatement self.now.depth (F.pre self.now.statement) (F.post self.now.statement) }
-        ensures { Gives (λ x. (view_branch x.0, x.1.now)) result (reading.guarded_at (reading.statements_at self.now.depth) (seen closing) tokens.now) }
+        ensures { Gives (λ x. (view_branch x.0, x.1.now)) result (reading.guarded_at (reading.statements_at self.now.depth) closing tokens.now) }
     {
         let (cond, rest) = expression(self.alloc, tokens)?;
         let (_closing, rest) = word(rest, closing)?;
@@ -84,8 +82,8 @@ impl<F: Fn(Global, &[Token], u16) -> Result<(Stmt, &[Token]), Stop>> Bodies<F> {
         requires { ReadsStatement self.now.depth (F.pre self.now.statement) (F.post self.now.statement) }
         ensures { Gives (λ x. (view_branch x.0, x.1.now)) result (reading.elsif_at (reading.statements_at self.now.depth) tokens.now) }
     {
-        let (_elsif, rest) = word(tokens, Kind::Elsif)?;
-        self.guarded(rest, Kind::Then)
+        let (_elsif, rest) = word(tokens, TokenKind::Elsif)?;
+        self.guarded(rest, TokenKind::Then)
     }
 
     #[tactic(auto, using(crate::proofs::SeenLoops::seen_step, grammar::proofs::Loops::after_stop, grammar::proofs::Loops::after_fail, grammar::proofs::Loops::after_end))]
@@ -99,7 +97,7 @@ impl<F: Fn(Global, &[Token], u16) -> Result<(Stmt, &[Token]), Stop>> Bodies<F> {
     {
         let mut rest = tokens;
         for _turn in 0..tokens.len() {
-            if !starts(rest, &[Kind::Elsif]) {
+            if !starts(rest, &[TokenKind::Elsif]) {
                 return Ok((found, rest));
             }
             let (item, left) = self.elsif(rest)?;
@@ -115,7 +113,7 @@ impl<F: Fn(Global, &[Token], u16) -> Result<(Stmt, &[Token]), Stop>> Bodies<F> {
         requires { ReadsStatement self.now.depth (F.pre self.now.statement) (F.post self.now.statement) }
         ensures { Gives (λ x. (map view_branch x.0, x.1.now)) result (reading.branches_at (reading.statements_at self.now.depth) tokens.now) }
     {
-        let (first, rest) = self.guarded(tokens, Kind::Then)?;
+        let (first, rest) = self.guarded(tokens, TokenKind::Then)?;
         let mut found = Items::new(self.alloc);
         found.push(first)?;
         self.elsifs(rest, found)
@@ -127,10 +125,10 @@ impl<F: Fn(Global, &[Token], u16) -> Result<(Stmt, &[Token]), Stop>> Bodies<F> {
         requires { ReadsStatement self.now.depth (F.pre self.now.statement) (F.post self.now.statement) }
         ensures { Gives (λ x. (option_map (map view_stmt) x.0, x.1.now)) result (reading.else_at (reading.statements_at self.now.depth) tokens.now) }
     {
-        if !starts(tokens, &[Kind::Else]) {
+        if !starts(tokens, &[TokenKind::Else]) {
             return Ok((None, tokens));
         }
-        let (_else, rest) = word(tokens, Kind::Else)?;
+        let (_else, rest) = word(tokens, TokenKind::Else)?;
         let (body, rest) = self.all(rest)?;
         Ok((Some(body), rest))
     }
@@ -140,11 +138,11 @@ impl<F: Fn(Global, &[Token], u16) -> Result<(Stmt, &[Token]), Stop>> Bodies<F> {
         requires { ReadsStatement self.now.depth (F.pre self.now.statement) (F.post self.now.statement) }
         ensures { Gives (λ x. (view_stmt x.0, x.1.now)) result (reading.conditional_at (reading.statements_at self.now.depth) tokens.now) }
     {
-        let (_if, rest) = word(tokens, Kind::If)?;
+        let (_if, rest) = word(tokens, TokenKind::If)?;
         let (branches, rest) = self.branches(rest)?;
         let (other, rest) = self.otherwise(rest)?;
-        let (_end, rest) = word(rest, Kind::EndIf)?;
-        let (_semicolon, rest) = word(rest, Kind::Semicolon)?;
+        let (_end, rest) = word(rest, TokenKind::EndIf)?;
+        let (_semicolon, rest) = word(rest, TokenKind::Semicolon)?;
         Ok((Stmt::If { branches, other }, rest))
     }
 
@@ -153,10 +151,10 @@ impl<F: Fn(Global, &[Token], u16) -> Result<(Stmt, &[Token]), Stop>> Bodies<F> {
         requires { ReadsStatement self.now.depth (F.pre self.now.statement) (F.post self.now.statement) }
         ensures { Gives (λ x. (view_stmt x.0, x.1.now)) result (reading.repetition_at (reading.statements_at self.now.depth) tokens.now) }
     {
-        let (_while, rest) = word(tokens, Kind::While)?;
-        let (StBranch { cond, body }, rest) = self.guarded(rest, Kind::Do)?;
-        let (_end, rest) = word(rest, Kind::EndWhile)?;
-        let (_semicolon, rest) = word(rest, Kind::Semicolon)?;
+        let (_while, rest) = word(tokens, TokenKind::While)?;
+        let (StBranch { cond, body }, rest) = self.guarded(rest, TokenKind::Do)?;
+        let (_end, rest) = word(rest, TokenKind::EndWhile)?;
+        let (_semicolon, rest) = word(rest, TokenKind::Semicolon)?;
         Ok((Stmt::While { cond, body }, rest))
     }
 
@@ -164,9 +162,9 @@ impl<F: Fn(Global, &[Token], u16) -> Result<(Stmt, &[Token]), Stop>> Bodies<F> {
         requires { ReadsStatement self.now.depth (F.pre self.now.statement) (F.post self.now.statement) }
         ensures { Gives (λ x. (view_stmt x.0, x.1.now)) result (reading.statement_from (reading.statements_at self.now.depth) tokens.now) }
     {
-        if starts(tokens, &[Kind::Name]) {
+        if starts(tokens, &[TokenKind::Name]) {
             assignment(self.alloc, tokens)
-        } else if starts(tokens, &[Kind::If]) {
+        } else if starts(tokens, &[TokenKind::If]) {
             self.conditional(tokens)
         } else {
             self.repetition(tokens)

@@ -3,60 +3,21 @@
 ghost use Rattle.std.specs.Prelude.{◌≡◌, ◌≤◌, ℕ, true, [], ◌∷◌, if◌then◌else◌, Some, None, option_map, MatchOption, IfSome};
 ghost use Rattle.grammar.specs.Lang as lang;
 ghost use Rattle.grammar.specs.Reader as reader;
-ghost use Rattle.st_ast.specs.Tokens as tokens;
 ghost use Rattle.st_ast.specs.Tokens.{number_of, greatest};
 ghost use Rattle.st_ast.specs.Grammar as grammar;
 ghost use Rattle.st_read.specs.Gives.{Gives};
-ghost use Rattle.st_read.specs.Kinds as kinds;
+ghost use Rattle.st_read.specs.Reading as reading;
 
 use crate::error::Stop;
 use cif_base::{Memory, Text};
+use st_ast::TokenKind;
 use std::alloc::Global;
 use std::marker::Model;
-
-/// The kind of a token. What is in no production is `Outside`.
-#[derive(Clone, Copy, Debug, PartialEq, Eq)]
-pub enum Kind {
-    Name,
-    Literal,
-    Program,
-    EndProgram,
-    Var,
-    VarOutput,
-    EndVar,
-    Bool,
-    Lint,
-    True,
-    False,
-    If,
-    Then,
-    Elsif,
-    Else,
-    EndIf,
-    While,
-    Do,
-    EndWhile,
-    Not,
-    And,
-    Or,
-    Semicolon,
-    Colon,
-    Assigns,
-    Dots,
-    Open,
-    Close,
-    Comma,
-    Plus,
-    Dash,
-    Equals,
-    Less,
-    Outside,
-}
 
 /// A token: its kind, its text, and the number that a literal stands for.
 #[derive(Drop)]
 pub struct Token {
-    kind: Kind,
+    kind: TokenKind,
     text: Text,
     value: u64,
 }
@@ -65,30 +26,30 @@ impl Model for Token {
     ghost use Rattle.std.specs.Prelude.{◌≡◌, ◌≤◌};
     ghost use Rattle.st_ast.specs.Tokens.{number_of, greatest};
     ghost use Rattle.st_ast.specs.Tokens as tokens;
-    ghost use Rattle.st_read.specs.Kinds.{seen};
+    ghost use Rattle.st_ast.specs.declared.kinds.TokenKind.TheVariants as kinds;
 
     ghost Value = { tokens.Token };
 
-    ghost view = { λ t. record { kind = seen t.kind; text = t.text } };
+    ghost view = { λ t. record { kind = t.kind; text = t.text } };
 
-    ghost invariant = { λ t. (seen t.kind ≡ tokens.literal → t.value ≡ number_of t.text) × (t.value ≤ greatest) };
+    ghost invariant = { λ t. (t.kind ≡ kinds.Literal → t.value ≡ number_of t.text) × (t.value ≤ greatest) };
 }
 
 /// What is read from the front, and what is left.
 pub type Read<'a, T> = Result<(T, &'a [Token]), Stop>;
 
 /// The number of a kind.
-pub fn code(kind: Kind) -> u8
-    ensures { result ≡ kinds.number kind }
+pub fn code(kind: TokenKind) -> u8
+    ensures { result ≡ grammar.code kind }
 {
     kind as u8
 }
 
 impl Token {
     /// A token that is no literal.
-    pub fn plain(kind: Kind, text: Text) -> Token
-        requires { kinds.seen kind ≡ tokens.literal → ⊥ }
-        ensures { result ≡ record { kind = kinds.seen kind; text = text } }
+    pub fn plain(kind: TokenKind, text: Text) -> Token
+        requires { kind ≡ TokenKind.Literal → ⊥ }
+        ensures { result ≡ record { kind = kind; text = text } }
     {
         Token {
             kind,
@@ -100,17 +61,17 @@ impl Token {
     /// A literal and the number that it stands for.
     pub fn literal(text: Text, value: u64) -> Token
         requires { (value ≡ number_of text) × (value ≤ greatest) }
-        ensures { result ≡ record { kind = tokens.literal; text = text } }
+        ensures { result ≡ record { kind = TokenKind.Literal; text = text } }
     {
         Token {
-            kind: Kind::Literal,
+            kind: TokenKind::Literal,
             text,
             value,
         }
     }
 
-    pub fn kind(&self) -> Kind
-        ensures { kinds.seen result ≡ self.now.kind }
+    pub fn kind(&self) -> TokenKind
+        ensures { result ≡ self.now.kind }
     {
         self.kind
     }
@@ -123,7 +84,7 @@ impl Token {
 
     /// The number that a literal stands for.
     pub fn value(&self) -> u64
-        ensures of_literal { self.now.kind ≡ tokens.literal → result ≡ number_of self.now.text }
+        ensures of_literal { self.now.kind ≡ TokenKind.Literal → result ≡ number_of self.now.text }
         ensures small { result ≤ greatest }
     {
         self.value
@@ -131,8 +92,8 @@ impl Token {
 }
 
 /// Whether a kind is among these.
-fn has(among: &[Kind], kind: Kind) -> bool
-    ensures { result ≡ lang.has (kinds.numbers among.now) (kinds.number kind) }
+fn has(among: &[TokenKind], kind: TokenKind) -> bool
+    ensures { result ≡ lang.has (reading.codes_of among.now) (grammar.code kind) }
 {
     for one in among {
         if code(*one) == code(kind) {
@@ -143,8 +104,8 @@ fn has(among: &[Kind], kind: Kind) -> bool
 }
 
 /// Whether the next token is of one of these kinds.
-pub fn starts(tokens: &[Token], among: &[Kind]) -> bool
-    ensures { result ≡ reader.starts grammar.sort (kinds.numbers among.now) tokens.now }
+pub fn starts(tokens: &[Token], among: &[TokenKind]) -> bool
+    ensures { result ≡ reader.starts grammar.sort (reading.codes_of among.now) tokens.now }
 {
     match tokens {
         [] => false,
@@ -154,8 +115,8 @@ pub fn starts(tokens: &[Token], among: &[Kind]) -> bool
 
 /// A token of this kind.
 #[tactic(auto, unfolding(grammar::specs::Reader::one_at))]
-pub fn word(tokens: &[Token], kind: Kind) -> Read<'_, &Token>
-    ensures { Gives (λ x. (x.0.now, x.1.now)) result (reader.one_at grammar.sort (kinds.numbers (kind ∷ [])) tokens.now) }
+pub fn word(tokens: &[Token], kind: TokenKind) -> Read<'_, &Token>
+    ensures { Gives (λ x. (x.0.now, x.1.now)) result (reader.one_at grammar.sort (reading.codes_of (kind ∷ [])) tokens.now) }
 {
     match tokens {
         [token, rest @ ..] if code(token.kind()) == code(kind) => Ok((token, rest)),

@@ -5,33 +5,32 @@ ghost use Rattle.std.specs.List.{list_any};
 ghost use Rattle.grammar.specs.Bytes as bytes;
 ghost use Rattle.st_ast.specs.Names as names;
 ghost use Rattle.st_ast.specs.Tokens as tokens;
-ghost use Rattle.st_read.specs.Kinds.{seen};
 ghost use Rattle.st_read.specs.Lexing as lexing;
 
-use crate::tokens::Kind;
+use st_ast::TokenKind;
 
 /// The keywords, in capitals.
-static KEYWORDS: [(&[u8], Kind); 20] = [
-    (b"PROGRAM", Kind::Program),
-    (b"END_PROGRAM", Kind::EndProgram),
-    (b"VAR", Kind::Var),
-    (b"VAR_OUTPUT", Kind::VarOutput),
-    (b"END_VAR", Kind::EndVar),
-    (b"BOOL", Kind::Bool),
-    (b"LINT", Kind::Lint),
-    (b"TRUE", Kind::True),
-    (b"FALSE", Kind::False),
-    (b"IF", Kind::If),
-    (b"THEN", Kind::Then),
-    (b"ELSIF", Kind::Elsif),
-    (b"ELSE", Kind::Else),
-    (b"END_IF", Kind::EndIf),
-    (b"WHILE", Kind::While),
-    (b"DO", Kind::Do),
-    (b"END_WHILE", Kind::EndWhile),
-    (b"NOT", Kind::Not),
-    (b"AND", Kind::And),
-    (b"OR", Kind::Or),
+static KEYWORDS: [(&[u8], TokenKind); 20] = [
+    (b"PROGRAM", TokenKind::Program),
+    (b"END_PROGRAM", TokenKind::EndProgram),
+    (b"VAR", TokenKind::Var),
+    (b"VAR_OUTPUT", TokenKind::VarOutput),
+    (b"END_VAR", TokenKind::EndVar),
+    (b"BOOL", TokenKind::Bool),
+    (b"LINT", TokenKind::Lint),
+    (b"TRUE", TokenKind::True),
+    (b"FALSE", TokenKind::False),
+    (b"IF", TokenKind::If),
+    (b"THEN", TokenKind::Then),
+    (b"ELSIF", TokenKind::Elsif),
+    (b"ELSE", TokenKind::Else),
+    (b"END_IF", TokenKind::EndIf),
+    (b"WHILE", TokenKind::While),
+    (b"DO", TokenKind::Do),
+    (b"END_WHILE", TokenKind::EndWhile),
+    (b"NOT", TokenKind::Not),
+    (b"AND", TokenKind::And),
+    (b"OR", TokenKind::Or),
 ];
 
 /// The other reserved words.
@@ -153,8 +152,8 @@ fn is_identifier(word: &[u8]) -> bool
 }
 
 /// The kind that a table has for a word, or another one.
-fn in_table(table: &[(&[u8], Kind)], word: &[u8], other: Kind) -> Kind
-    ensures { seen result ≡ tokens.in_table (map (λ p. (p.0.now, seen p.1)) table.now) word.now (seen other) }
+fn in_table(table: &[(&[u8], TokenKind)], word: &[u8], other: TokenKind) -> TokenKind
+    ensures { result ≡ tokens.in_table (map (λ p. (p.0.now, p.1)) table.now) word.now other }
 {
     for (name, kind) in table {
         if same_name(name, word) {
@@ -179,21 +178,21 @@ fn is_reserved(word: &[u8]) -> bool
 
 /// The kind of a word that is no keyword.
 #[tactic(auto, unfolding(crate::specs::Lexing::other_kind))]
-fn kind_of_other(word: &[u8]) -> Kind
-    ensures { seen result ≡ lexing.other_kind word.now }
+fn kind_of_other(word: &[u8]) -> TokenKind
+    ensures { result ≡ lexing.other_kind word.now }
 {
     if is_reserved(word) {
-        Kind::Outside
+        TokenKind::Outside
     } else if is_identifier(word) {
-        Kind::Name
+        TokenKind::Name
     } else {
-        Kind::Outside
+        TokenKind::Outside
     }
 }
 
 #[tactic(auto, unfolding(crate::specs::Lexing::word_kind))]
-pub fn kind_of_word(word: &[u8]) -> Kind
-    ensures { seen result ≡ lexing.word_kind word.now }
+pub fn kind_of_word(word: &[u8]) -> TokenKind
+    ensures { result ≡ lexing.word_kind word.now }
 {
     in_table(&KEYWORDS, word, kind_of_other(word))
 }
