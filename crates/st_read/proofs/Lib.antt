@@ -6,6 +6,7 @@ pub mod SeenLoops
 pub mod Fronts
 pub mod FoundLaws
 pub mod LexSteps
+pub mod Cursors
 pub mod Programs
 pub mod RefusalLaws
 pub mod Numbers

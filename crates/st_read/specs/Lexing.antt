@@ -16,12 +16,11 @@ use Rattle.st_read.specs.declared.error.StErr.TheVariants as err
 abbrev pub Found : Type 0
 Found = Result (Option Token × Text) Fault
 
--- the fault that the code found, unless memory ran out
+-- the fault that the code found
 abbrev pub Halts : Fault → Found → Type 0
 Halts f.BadByte found = found ≡ Err f.BadByte
 Halts f.NumberTooBig found = found ≡ Err f.NumberTooBig
 Halts f.OpenComment found = found ≡ Err f.OpenComment
-Halts f.NoMemory found = Unit {0}
 
 -- what the code returned, and what is found
 abbrev pub Finds : {X : Type 0} → (X → Option Token × Text) → Result X Fault → Found → Type 0
@@ -33,7 +32,6 @@ abbrev pub refusal_of : Fault → ℕ → StErr
 refusal_of f.BadByte at = err.StBadByte at
 refusal_of f.NumberTooBig at = err.StNumberTooBig at
 refusal_of f.OpenComment at = err.StOpenComment at
-refusal_of f.NoMemory at = err.Memory
 
 -- the tests of bytes, each as one word
 unfoldable pub letter : ℕ → Bool

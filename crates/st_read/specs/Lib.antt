@@ -4,5 +4,6 @@ pub mod ReadsUnary
 pub mod ReadsStatement
 pub mod Lexing
 pub mod Told
+pub mod Cursor
 pub mod Derives
 pub mod Refusals

@@ -8,17 +8,17 @@ ghost use Rattle.st_read.specs.Gives.{Gives};
 ghost use Rattle.st_read.specs.Reading as reading;
 
 use crate::names::{identifier, natural};
-use crate::tokens::{Read, Token, starts, word};
+use crate::tokens::{Read, Tokens, starts, word};
 use cif_base::Items;
 use st_ast::{StClass, StLit, StTy, StVar, TokenKind};
 use std::alloc::Global;
 
 /// A number, perhaps with a sign before it.
 #[tactic(auto, unfolding(crate::specs::Reading::signed_at))]
-fn signed(tokens: &[Token]) -> Read<'_, i64>
-    ensures { Gives (λ x. (x.0, x.1.now)) result (reading.signed_at tokens.now) }
+fn signed(tokens: Tokens<'_>) -> Read<'_, i64>
+    ensures { Gives (λ x. (x.0, x.1)) result (reading.signed_at tokens.entry) }
 {
-    if starts(tokens, &[TokenKind::Dash]) {
+    if starts(&tokens, &[TokenKind::Dash]) {
         let (_dash, rest) = word(tokens, TokenKind::Dash)?;
         let (value, rest) = natural(rest)?;
         Ok((-(value as i64), rest))
@@ -29,13 +29,13 @@ fn signed(tokens: &[Token]) -> Read<'_, i64>
 }
 
 #[tactic(auto, unfolding(crate::specs::Reading::first_value_at))]
-fn first_value(tokens: &[Token]) -> Read<'_, StLit>
-    ensures { Gives (λ x. (x.0, x.1.now)) result (reading.first_value_at tokens.now) }
+fn first_value(tokens: Tokens<'_>) -> Read<'_, StLit>
+    ensures { Gives (λ x. (x.0, x.1)) result (reading.first_value_at tokens.entry) }
 {
-    if starts(tokens, &[TokenKind::True]) {
+    if starts(&tokens, &[TokenKind::True]) {
         let (_true, rest) = word(tokens, TokenKind::True)?;
         Ok((StLit::Bool(true), rest))
-    } else if starts(tokens, &[TokenKind::False]) {
+    } else if starts(&tokens, &[TokenKind::False]) {
         let (_false, rest) = word(tokens, TokenKind::False)?;
         Ok((StLit::Bool(false), rest))
     } else {
@@ -46,11 +46,11 @@ fn first_value(tokens: &[Token]) -> Read<'_, StLit>
 
 /// `LINT`, perhaps with the bounds of a subrange.
 #[tactic(auto, unfolding(crate::specs::Reading::subrange_at))]
-fn integer_type(tokens: &[Token]) -> Read<'_, StTy>
-    ensures { Gives (λ x. (x.0, x.1.now)) result (reader.map_at reading.number_type (reader.both_at (reading.word_at TokenKind.Lint) reading.subrange_at) tokens.now) }
+fn integer_type(tokens: Tokens<'_>) -> Read<'_, StTy>
+    ensures { Gives (λ x. (x.0, x.1)) result (reader.map_at reading.number_type (reader.both_at (reading.word_at TokenKind.Lint) reading.subrange_at) tokens.entry) }
 {
     let (_lint, rest) = word(tokens, TokenKind::Lint)?;
-    if !starts(rest, &[TokenKind::Open]) {
+    if !starts(&rest, &[TokenKind::Open]) {
         return Ok((StTy::Lint, rest));
     }
     let (_open, rest) = word(rest, TokenKind::Open)?;
@@ -62,10 +62,10 @@ fn integer_type(tokens: &[Token]) -> Read<'_, StTy>
 }
 
 #[tactic(auto, unfolding(crate::specs::Reading::type_at))]
-fn type_use(tokens: &[Token]) -> Read<'_, StTy>
-    ensures { Gives (λ x. (x.0, x.1.now)) result (reading.type_at tokens.now) }
+fn type_use(tokens: Tokens<'_>) -> Read<'_, StTy>
+    ensures { Gives (λ x. (x.0, x.1)) result (reading.type_at tokens.entry) }
 {
-    if starts(tokens, &[TokenKind::Bool]) {
+    if starts(&tokens, &[TokenKind::Bool]) {
         let (_bool, rest) = word(tokens, TokenKind::Bool)?;
         Ok((StTy::Bool, rest))
     } else {
@@ -75,10 +75,10 @@ fn type_use(tokens: &[Token]) -> Read<'_, StTy>
 
 /// The sign `:=` and the first value, where they come.
 #[tactic(auto, unfolding(crate::specs::Reading::init_at))]
-fn init(tokens: &[Token]) -> Read<'_, Option<StLit>>
-    ensures { Gives (λ x. (x.0, x.1.now)) result (reading.init_at tokens.now) }
+fn init(tokens: Tokens<'_>) -> Read<'_, Option<StLit>>
+    ensures { Gives (λ x. (x.0, x.1)) result (reading.init_at tokens.entry) }
 {
-    if !starts(tokens, &[TokenKind::Assigns]) {
+    if !starts(&tokens, &[TokenKind::Assigns]) {
         return Ok((None, tokens));
     }
     let (_assigns, rest) = word(tokens, TokenKind::Assigns)?;
@@ -88,8 +88,8 @@ fn init(tokens: &[Token]) -> Read<'_, Option<StLit>>
 
 /// A declaration in a block of that class.
 #[tactic(auto, unfolding(crate::specs::Reading::declaration_at))]
-fn declaration(alloc: Global, tokens: &[Token], class: StClass) -> Read<'_, StVar>
-    ensures { Gives (λ x. (x.0, x.1.now)) result (reading.declaration_at class tokens.now) }
+fn declaration(alloc: Global, tokens: Tokens<'_>, class: StClass) -> Read<'_, StVar>
+    ensures { Gives (λ x. (x.0, x.1)) result (reading.declaration_at class tokens.entry) }
 {
     let (name, rest) = identifier(alloc, tokens)?;
     let (_colon, rest) = word(rest, TokenKind::Colon)?;
@@ -108,15 +108,16 @@ fn declaration(alloc: Global, tokens: &[Token], class: StClass) -> Read<'_, StVa
 #[tactic(auto, using(grammar::proofs::Loops::after_step, grammar::proofs::Loops::after_stop, grammar::proofs::Loops::after_fail, grammar::proofs::Loops::after_end))]
 fn declarations(
     alloc: Global,
-    tokens: &[Token],
+    tokens: Tokens<'_>,
     class: StClass,
     mut found: Items<StVar>,
 ) -> Read<'_, Items<StVar>>
-    ensures { Gives (λ x. (x.0, x.1.now)) result (after found (reader.many_at grammar.sort (reading.first TokenKind.Name) (reading.declaration_at class) tokens.now)) }
+    ensures { Gives (λ x. (x.0, x.1)) result (after found (reader.many_at grammar.sort (reading.first TokenKind.Name) (reading.declaration_at class) tokens.entry)) }
 {
+    let most = tokens.len();
     let mut rest = tokens;
-    for _turn in 0..tokens.len() {
-        if !starts(rest, &[TokenKind::Name]) {
+    for _turn in 0..most {
+        if !starts(&rest, &[TokenKind::Name]) {
             return Ok((found, rest));
         }
         let (item, left) = declaration(alloc, rest, class)?;
@@ -130,11 +131,11 @@ fn declarations(
 #[tactic(auto, using(grammar::proofs::Loops::after_none), unfolding(crate::specs::Reading::block_of_at))]
 fn block_of(
     alloc: Global,
-    tokens: &[Token],
+    tokens: Tokens<'_>,
     opening: TokenKind,
     class: StClass,
 ) -> Read<'_, Items<StVar>>
-    ensures { Gives (λ x. (x.0, x.1.now)) result (reading.block_of_at opening class tokens.now) }
+    ensures { Gives (λ x. (x.0, x.1)) result (reading.block_of_at opening class tokens.entry) }
 {
     let (_opening, rest) = word(tokens, opening)?;
     let (found, rest) = declarations(alloc, rest, class, Items::new(alloc))?;
@@ -143,10 +144,10 @@ fn block_of(
 }
 
 #[tactic(auto, unfolding(crate::specs::Reading::block_at))]
-fn block(alloc: Global, tokens: &[Token]) -> Read<'_, Items<StVar>>
-    ensures { Gives (λ x. (x.0, x.1.now)) result (reading.block_at tokens.now) }
+fn block(alloc: Global, tokens: Tokens<'_>) -> Read<'_, Items<StVar>>
+    ensures { Gives (λ x. (x.0, x.1)) result (reading.block_at tokens.entry) }
 {
-    if starts(tokens, &[TokenKind::Var]) {
+    if starts(&tokens, &[TokenKind::Var]) {
         block_of(alloc, tokens, TokenKind::Var, StClass::Plain)
     } else {
         block_of(alloc, tokens, TokenKind::VarOutput, StClass::Output)
@@ -155,13 +156,14 @@ fn block(alloc: Global, tokens: &[Token]) -> Read<'_, Items<StVar>>
 
 /// The declarations of all blocks as one list.
 #[tactic(auto, using(grammar::proofs::Loops::flat_step, grammar::proofs::Loops::flat_stop, grammar::proofs::Loops::flat_fail, grammar::proofs::Loops::flat_end), unfolding(crate::specs::Reading::variables_at))]
-pub fn variables(alloc: Global, tokens: &[Token]) -> Read<'_, Items<StVar>>
-    ensures { Gives (λ x. (x.0, x.1.now)) result (reading.variables_at tokens.now) }
+pub fn variables(alloc: Global, tokens: Tokens<'_>) -> Read<'_, Items<StVar>>
+    ensures { Gives (λ x. (x.0, x.1)) result (reading.variables_at tokens.entry) }
 {
     let mut found = Items::new(alloc);
+    let most = tokens.len();
     let mut rest = tokens;
-    for _turn in 0..tokens.len() {
-        if !starts(rest, &[TokenKind::Var, TokenKind::VarOutput]) {
+    for _turn in 0..most {
+        if !starts(&rest, &[TokenKind::Var, TokenKind::VarOutput]) {
             return Ok((found, rest));
         }
         let (more, left) = block(alloc, rest)?;

@@ -9,13 +9,13 @@ use crate::declarations::variables;
 use crate::error::Stop;
 use crate::names::identifier;
 use crate::statements::statements;
-use crate::tokens::{Read, Token, word};
+use crate::tokens::{Read, Tokens, word};
 use st_ast::{Program, TokenKind};
 use std::alloc::Global;
 
 #[tactic(auto, unfolding(crate::specs::Reading::program_at))]
-fn program(alloc: Global, tokens: &[Token]) -> Read<'_, Program>
-    ensures { Gives (λ x. (view x.0, x.1.now)) result (reading.program_at tokens.now) }
+fn program(alloc: Global, tokens: Tokens<'_>) -> Read<'_, Program>
+    ensures { Gives (λ x. (view x.0, x.1)) result (reading.program_at tokens.entry) }
 {
     let (_program, rest) = word(tokens, TokenKind::Program)?;
     let (name, rest) = identifier(alloc, rest)?;
@@ -27,13 +27,13 @@ fn program(alloc: Global, tokens: &[Token]) -> Read<'_, Program>
 
 /// The program that the tokens derive, all of them.
 #[tactic(auto, unfolding(crate::specs::Reading::program_of))]
-pub fn derived(alloc: Global, tokens: &[Token]) -> Result<Program, Stop>
-    ensures { Gives (λ p. view p) result (reading.program_of tokens.now) }
+pub fn derived(alloc: Global, tokens: Tokens<'_>) -> Result<Program, Stop>
+    ensures { Gives (λ p. view p) result (reading.program_of tokens.entry) }
 {
     let (program, rest) = program(alloc, tokens)?;
     if rest.is_empty() {
         Ok(program)
     } else {
-        Err(Stop::NotTaken(rest.len()))
+        Err(Stop::NotTaken(rest.left()))
     }
 }

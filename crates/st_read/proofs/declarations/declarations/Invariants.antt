@@ -8,4 +8,4 @@ use Rattle.st_read.proofs.declarations.declarations.Given as goal
 
 abbrev pub invariant-loop-turn : goal.invariant-loop-turn
 invariant-loop-turn l = after l.fn.found (many_at sort (first kinds.Name) (declaration_at l.class) l.fn.tokens)
-    ≡ after l.found (many_from sort (first kinds.Name) (declaration_at l.class) (l._turn-end - l._turn) l.rest)
+    ≡ after l.found (many_from sort (first kinds.Name) (declaration_at l.class) (l.most - l._turn) l.rest)

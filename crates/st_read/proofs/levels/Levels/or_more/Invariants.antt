@@ -9,4 +9,4 @@ use Rattle.st_read.proofs.levels.Levels.or_more.Given as goal
 
 abbrev pub invariant-loop-turn : goal.invariant-loop-turn
 invariant-loop-turn g l = deep_many sort (first kinds.Or) (or_next_at (unary_at l.self.fuel)) l.fn.tokens
-    ≡ deep_after (map view_expr l.found) l.deep (deep_from sort (first kinds.Or) (or_next_at (unary_at l.self.fuel)) (l._turn-end - l._turn) l.rest)
+    ≡ deep_after (map view_expr l.found) l.deep (deep_from sort (first kinds.Or) (or_next_at (unary_at l.self.fuel)) (l.most - l._turn) l.rest)

@@ -9,4 +9,4 @@ use Rattle.st_read.proofs.statements.Bodies.elsifs.Given as goal
 
 abbrev pub invariant-loop-turn : goal.invariant-loop-turn
 invariant-loop-turn g l = after (map view_branch l.fn.found) (many_at sort (first kinds.Elsif) (elsif_at (statements_at l.self.depth)) l.fn.tokens)
-    ≡ after (map view_branch l.found) (many_from sort (first kinds.Elsif) (elsif_at (statements_at l.self.depth)) (l._turn-end - l._turn) l.rest)
+    ≡ after (map view_branch l.found) (many_from sort (first kinds.Elsif) (elsif_at (statements_at l.self.depth)) (l.most - l._turn) l.rest)
