@@ -1,9 +1,7 @@
 -- The tokens of a text one by one are those of its pieces.
-use Rattle.std.proofs.Common.{◌≡◌, ℕ, zero, suc, ◌+◌, ◌-◌, ◌≤◌, ◌<◌, ◌==◌, true, false, Bool, List, [], ◌∷◌, ◌++◌, length, Option, Some, None, Ok, Err, refl, sym, ap, subst, ◌∙◌, append-nil, append_assoc, arith}
-use Rattle.std.proofs.lemmas.Bool.Decides.{nat_tests}
+use Rattle.std.proofs.Common.{◌≡◌, ℕ, zero, suc, ◌+◌, ◌-◌, ◌≤◌, ◌<◌, ◌==◌, true, List, [], ◌∷◌, ◌++◌, length, Option, Some, None, Ok, Err, refl, sym, ap, subst, ◌∙◌, append-nil, append_assoc, arith}
 use Rattle.grammar.specs.Pieces.{Text}
 use Rattle.st_ast.specs.Tokens.{Token}
-use Rattle.st_ast.specs.declared.kinds.TokenKind.TheVariants as kinds
 use Rattle.st_read.specs.declared.found.Fault.{Fault}
 use Rattle.st_read.specs.declared.found.Fault.TheVariants as f
 use Rattle.st_read.specs.Lexing.{Found, Halts, front_of, Lexes}

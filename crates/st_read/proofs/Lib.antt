@@ -10,4 +10,5 @@ pub mod Cursors
 pub mod Programs
 pub mod RefusalLaws
 pub mod Numbers
+pub mod WordLaws
 pub mod Told

@@ -1,10 +1,10 @@
 -- Where a refusal is due a text derives no program.
-use Rattle.std.proofs.Common.{◌≡◌, ◌&&◌, ◌||◌, ℕ, ◌≤◌, Bool, true, false, nat_le, List, [], ◌∷◌, ◌++◌, length, All, Option, Some, None, refl, sym, ap, subst, ◌∙◌, arith, codes, filter_map}
+use Rattle.std.proofs.Common.{◌≡◌, ◌&&◌, ℕ, ◌≤◌, Bool, true, false, nat_le, List, [], ◌∷◌, ◌++◌, length, All, Option, Some, None, refl, sym, ap, subst, ◌∙◌, arith, codes, filter_map}
 use Rattle.std.specs.Option.{option_or}
-use Rattle.std.proofs.lemmas.List.Elements.{All-nil, All-cons, All-head, All-tail}
+use Rattle.std.proofs.lemmas.List.Elements.{All-nil, All-cons, All-head}
 use Rattle.std.proofs.lemmas.Bool.{or_parts}
 use Rattle.std.proofs.lemmas.Bool.Decides.{nat_tests}
-use Rattle.grammar.specs.Pieces.{Text, IsLongest, Pieces, Cut, text_cut}
+use Rattle.grammar.specs.Pieces.{Text, Pieces, Cut, text_cut}
 use Rattle.grammar.proofs.Begun.{some_byte, one_piece, front_goes_on, all_tail}
 use Rattle.grammar.proofs.Closing.{unclosed}
 use Rattle.st_ast.specs.Tokens.{Token, Piece, blank, comment, word, number, sign, piece, signs, is_sign, opens_comment, token_of, number_of, greatest, kind_of_number}

@@ -46,9 +46,13 @@ digit b = is_digit b
 unfoldable pub is_reserved : Text → Bool
 is_reserved w = list_any (λ r. same_name r w) reserved
 
+-- the kind of a word that is not reserved
+abbrev pub name_kind : Text → TokenKind
+name_kind w = if is_identifier w then kinds.Name else kinds.Outside
+
 -- the kind of a word that is no keyword
 unfoldable pub other_kind : Text → TokenKind
-other_kind w = if is_reserved w then kinds.Outside else (if is_identifier w then kinds.Name else kinds.Outside)
+other_kind w = if is_reserved w then kinds.Outside else name_kind w
 
 unfoldable pub word_kind : Text → TokenKind
 word_kind w = in_table keywords w (other_kind w)
