@@ -3,7 +3,9 @@ use Rattle.std.proofs.Common.{◌≡◌, ◌==◌, ℕ, suc, ◌≤◌, pos, tru
 use Rattle.std.specs.Prelude.{codes, decimal}
 use Rattle.grammar.specs.Lang.{Lang, has}
 use Rattle.grammar.specs.Pieces.{Text}
-use Rattle.st_ast.specs.Tokens.{Token, Kind, name, literal, true_word, false_word, and_word, plus, equals, less, kind_of_word, kind_of_number, kind_of_sign, number_of, greatest}
+use Rattle.st_ast.specs.Tokens.{Token, kind_of_word, kind_of_number, kind_of_sign, number_of, greatest}
+use Rattle.st_ast.specs.declared.kinds.TokenKind.{TokenKind}
+use Rattle.st_ast.specs.declared.kinds.TokenKind.TheVariants as kinds
 use Rattle.st_ast.specs.Grammar.{sort, code, word, natural, identifier, text_of, second, Level, at_or, at_and, at_equal, at_order, at_sum, at_unary, prim, level, below, expression, disjunction, max_depth}
 use Rattle.st_ast.specs.Tree.{Expr, truth, number, named, sum, order, equal, all_of, exprs, no_exprs, terms, no_terms, exprs_of}
 use Rattle.st_ast.specs.declared.tree.StOrder.TheVariants as cmp
@@ -19,10 +21,10 @@ use Rattle.plc_back.proofs.Derived.{Derives, both_derive, map_derives, left_deri
 has-self : (n : ℕ) → has (n ∷ []) n ≡ true
 has-self n = let e : (n == n) ≡ true = search (eq-eqb) in rw e refl
 
-is-kind : (k : Kind) (t : Token) → t.kind ≡ k → has (code k ∷ []) (sort t) ≡ true
+is-kind : (k : TokenKind) (t : Token) → t.kind ≡ k → has (code k ∷ []) (sort t) ≡ true
 is-kind k t e = subst (λ j. has (code k ∷ []) (code j) ≡ true) (sym e) (has-self (code k))
 
-pub word_derives : (k : Kind) (w : Text) → kind_of_word w ≡ k → is_word_text w ≡ true → Derives (word k) (record { kind = kind_of_word w; text = w }) (λ ms. mark.word w ∷ ms)
+pub word_derives : (k : TokenKind) (w : Text) → kind_of_word w ≡ k → is_word_text w ≡ true → Derives (word k) (record { kind = kind_of_word w; text = w }) (λ ms. mark.word w ∷ ms)
 word_derives k w e good = record {
   text = record { kind = kind_of_word w; text = w } ∷ [];
   derived = (is-kind k (record { kind = kind_of_word w; text = w }) e, refl);
@@ -30,7 +32,7 @@ word_derives k w e good = record {
   good = λ ms m. (good, m);
 }
 
-pub sign_derives : (k : Kind) (s : Text) → kind_of_sign s ≡ k → is_mark (mark.sign s) ≡ true → Derives (word k) (record { kind = kind_of_sign s; text = s }) (λ ms. mark.sign s ∷ ms)
+pub sign_derives : (k : TokenKind) (s : Text) → kind_of_sign s ≡ k → is_mark (mark.sign s) ≡ true → Derives (word k) (record { kind = kind_of_sign s; text = s }) (λ ms. mark.sign s ∷ ms)
 sign_derives k s e good = record {
   text = record { kind = kind_of_sign s; text = s } ∷ [];
   derived = (is-kind k (record { kind = kind_of_sign s; text = s }) e, refl);
@@ -38,13 +40,13 @@ sign_derives k s e good = record {
   good = λ ms m. (good, m);
 }
 
-pub identifier_derives : (w : Text) → kind_of_word w ≡ name → is_word_text w ≡ true → Derives identifier w (λ ms. mark.word w ∷ ms)
-identifier_derives w e good = map_derives text_of (word_derives name w e good)
+pub identifier_derives : (w : Text) → kind_of_word w ≡ kinds.Name → is_word_text w ≡ true → Derives identifier w (λ ms. mark.word w ∷ ms)
+identifier_derives w e good = map_derives text_of (word_derives kinds.Name w e good)
 
-digits_derive : (n : ℕ) → n ≤ greatest → Derives (word literal) (record { kind = kind_of_number (decimal n); text = decimal n }) (λ ms. mark.digits n ∷ ms)
+digits_derive : (n : ℕ) → n ≤ greatest → Derives (word kinds.Literal) (record { kind = kind_of_number (decimal n); text = decimal n }) (λ ms. mark.digits n ∷ ms)
 digits_derive n le = record {
   text = record { kind = kind_of_number (decimal n); text = decimal n } ∷ [];
-  derived = (is-kind literal (record { kind = kind_of_number (decimal n); text = decimal n }) (kind_of_number-decimal n le), refl);
+  derived = (is-kind kinds.Literal (record { kind = kind_of_number (decimal n); text = decimal n }) (kind_of_number-decimal n le), refl);
   is = λ ms. refl;
   good = λ ms m. (refl, m);
 }
@@ -66,16 +68,23 @@ module _ (inner : Level → Lang Token Expr) where
   leaf_derives at_or e marks h = left_derives (left_derives (left_derives (left_derives (left_derives (right_derives h)))))
 
   pub true_is_leaf : Derives (prim inner) (truth true) (λ ms. mark.word (codes "TRUE") ∷ ms)
-  true_is_leaf = left_derives (map_derives (λ (t : Token). truth true) (word_derives true_word (codes "TRUE") refl refl))
+  true_is_leaf = left_derives (map_derives (λ (t : Token). truth true) (word_derives kinds.True (codes "TRUE") refl refl))
 
   pub false_is_leaf : Derives (prim inner) (truth false) (λ ms. mark.word (codes "FALSE") ∷ ms)
-  false_is_leaf = right_derives (left_derives (map_derives (λ (t : Token). truth false) (word_derives false_word (codes "FALSE") refl refl)))
+  false_is_leaf = right_derives (left_derives (map_derives (λ (t : Token). truth false) (word_derives kinds.False (codes "FALSE") refl refl)))
 
   pub number_is_leaf : (n : ℕ) → n ≤ greatest → Derives (prim inner) (number (pos n)) (λ ms. mark.digits n ∷ ms)
   number_is_leaf n le = right_derives (right_derives (left_derives (map_derives number (natural_derives n le))))
 
-  pub name_is_leaf : (w : Text) → kind_of_word w ≡ name → is_word_text w ≡ true → Derives (prim inner) (named w) (λ ms. mark.word w ∷ ms)
+  pub name_is_leaf : (w : Text) → kind_of_word w ≡ kinds.Name → is_word_text w ≡ true → Derives (prim inner) (named w) (λ ms. mark.word w ∷ ms)
   name_is_leaf w e good = right_derives (right_derives (right_derives (left_derives (map_derives named (identifier_derives w e good)))))
+
+-- how deep forms may nest inside one form, and inside two
+abbrev pub inside_one : ℕ
+inside_one = 399
+
+abbrev pub inside_two : ℕ
+inside_two = 398
 
 -- one level further inside
 pub below_derives : (n : ℕ) (l : Level) (e : Expr) (marks : List Mark → List Mark) → Derives (level (below n) l) e marks → Derives (below (suc n) l) e marks
@@ -90,34 +99,34 @@ pub leaf_expression : (e : Expr) (marks : List Mark → List Mark) → Derives (
 leaf_expression e marks h = expression_derives e marks (leaf_derives (below max_depth) at_or e marks h)
 
 -- a name, `=` and a number
-pub equal_derives : (w : Text) (n : ℕ) → kind_of_word w ≡ name → is_word_text w ≡ true → n ≤ greatest → Derives expression (equal (named w) true (number (pos n))) (λ ms. expr_marks (equal (named w) true (number (pos n))) ms)
+pub equal_derives : (w : Text) (n : ℕ) → kind_of_word w ≡ kinds.Name → is_word_text w ≡ true → n ≤ greatest → Derives expression (equal (named w) true (number (pos n))) (λ ms. expr_marks (equal (named w) true (number (pos n))) ms)
 equal_derives w n e good le = expression_derives _ _ (left_derives (left_derives (right_derives
-    (map_derives (λ (v : Expr × (Token × Expr)). equal v.0 true v.1.1)
-    (both_derive (below_derives 399 at_order (named w) (λ ms. mark.word w ∷ ms) (leaf_derives (below 399) at_order (named w) (λ ms. mark.word w ∷ ms) (name_is_leaf (below 399) w e good)))
-    (both_derive (sign_derives equals (codes "=") refl refl)
-    (below_derives 399 at_order (number (pos n)) (λ ms. mark.digits n ∷ ms) (leaf_derives (below 399) at_order (number (pos n)) (λ ms. mark.digits n ∷ ms) (number_is_leaf (below 399) n le)))))))))
+    (map_derives (λ ((a, (s, b)) : Expr × (Token × Expr)). equal a true b)
+    (both_derive (below_derives inside_one at_order (named w) (λ ms. mark.word w ∷ ms) (leaf_derives (below inside_one) at_order (named w) (λ ms. mark.word w ∷ ms) (name_is_leaf (below inside_one) w e good)))
+    (both_derive (sign_derives kinds.Equals (codes "=") refl refl)
+    (below_derives inside_one at_order (number (pos n)) (λ ms. mark.digits n ∷ ms) (leaf_derives (below inside_one) at_order (number (pos n)) (λ ms. mark.digits n ∷ ms) (number_is_leaf (below inside_one) n le)))))))))
 
 -- the counter and 1
-pub sum_derives : (w : Text) (n : ℕ) → kind_of_word w ≡ name → is_word_text w ≡ true → n ≤ greatest → Derives expression (sum (named w) (terms false (number (pos n)) no_terms)) (λ ms. expr_marks (sum (named w) (terms false (number (pos n)) no_terms)) ms)
+pub sum_derives : (w : Text) (n : ℕ) → kind_of_word w ≡ kinds.Name → is_word_text w ≡ true → n ≤ greatest → Derives expression (sum (named w) (terms false (number (pos n)) no_terms)) (λ ms. expr_marks (sum (named w) (terms false (number (pos n)) no_terms)) ms)
 sum_derives w n e good le = expression_derives _ _ (left_derives (left_derives (left_derives (left_derives (right_derives
-    (map_derives (λ (v : Expr × List (Token × Expr)). sum v.0 (terms_of (map (λ t. (false, t.1)) v.1)))
-    (both_derive (below_derives 399 at_unary (named w) (λ ms. mark.word w ∷ ms) (leaf_derives (below 399) at_unary (named w) (λ ms. mark.word w ∷ ms) (name_is_leaf (below 399) w e good)))
-    (some_derive (more_derive (both_derive (sign_derives plus (codes "+") refl refl)
-    (below_derives 399 at_unary (number (pos n)) (λ ms. mark.digits n ∷ ms) (leaf_derives (below 399) at_unary (number (pos n)) (λ ms. mark.digits n ∷ ms) (number_is_leaf (below 399) n le))))
+    (map_derives (λ ((first, more) : Expr × List (Token × Expr)). sum first (terms_of (map (λ t. (false, second t)) more)))
+    (both_derive (below_derives inside_one at_unary (named w) (λ ms. mark.word w ∷ ms) (leaf_derives (below inside_one) at_unary (named w) (λ ms. mark.word w ∷ ms) (name_is_leaf (below inside_one) w e good)))
+    (some_derive (more_derive (both_derive (sign_derives kinds.Plus (codes "+") refl refl)
+    (below_derives inside_one at_unary (number (pos n)) (λ ms. mark.digits n ∷ ms) (leaf_derives (below inside_one) at_unary (number (pos n)) (λ ms. mark.digits n ∷ ms) (number_is_leaf (below inside_one) n le))))
     none_derives)))))))))
 
 -- a name `<` a number, inside a conjunction
-less_derives : (w : Text) (n : ℕ) → kind_of_word w ≡ name → is_word_text w ≡ true → n ≤ greatest → Derives (below 400 at_equal) (order (named w) cmp.Lt (number (pos n))) (λ ms. expr_marks (order (named w) cmp.Lt (number (pos n))) ms)
-less_derives w n e good le = below_derives 399 at_equal _ _ (left_derives (right_derives
-    (map_derives (λ (v : Expr × (Token × Expr)). order v.0 cmp.Lt v.1.1)
-    (both_derive (below_derives 398 at_sum (named w) (λ ms. mark.word w ∷ ms) (leaf_derives (below 398) at_sum (named w) (λ ms. mark.word w ∷ ms) (name_is_leaf (below 398) w e good)))
-    (both_derive (sign_derives less (codes "<") refl refl)
-    (below_derives 398 at_sum (number (pos n)) (λ ms. mark.digits n ∷ ms) (leaf_derives (below 398) at_sum (number (pos n)) (λ ms. mark.digits n ∷ ms) (number_is_leaf (below 398) n le))))))))
+less_derives : (w : Text) (n : ℕ) → kind_of_word w ≡ kinds.Name → is_word_text w ≡ true → n ≤ greatest → Derives (below max_depth at_equal) (order (named w) cmp.Lt (number (pos n))) (λ ms. expr_marks (order (named w) cmp.Lt (number (pos n))) ms)
+less_derives w n e good le = below_derives inside_one at_equal _ _ (left_derives (right_derives
+    (map_derives (λ ((a, (s, b)) : Expr × (Token × Expr)). order a cmp.Lt b)
+    (both_derive (below_derives inside_two at_sum (named w) (λ ms. mark.word w ∷ ms) (leaf_derives (below inside_two) at_sum (named w) (λ ms. mark.word w ∷ ms) (name_is_leaf (below inside_two) w e good)))
+    (both_derive (sign_derives kinds.Less (codes "<") refl refl)
+    (below_derives inside_two at_sum (number (pos n)) (λ ms. mark.digits n ∷ ms) (leaf_derives (below inside_two) at_sum (number (pos n)) (λ ms. mark.digits n ∷ ms) (number_is_leaf (below inside_two) n le))))))))
 
 -- a name, and another name `<` a number
-pub conjunction_derives : (v w : Text) (n : ℕ) → kind_of_word v ≡ name → is_word_text v ≡ true → kind_of_word w ≡ name → is_word_text w ≡ true → n ≤ greatest
+pub conjunction_derives : (v w : Text) (n : ℕ) → kind_of_word v ≡ kinds.Name → is_word_text v ≡ true → kind_of_word w ≡ kinds.Name → is_word_text w ≡ true → n ≤ greatest
     → Derives expression (all_of (exprs (named v) (exprs (order (named w) cmp.Lt (number (pos n))) no_exprs))) (λ ms. expr_marks (all_of (exprs (named v) (exprs (order (named w) cmp.Lt (number (pos n))) no_exprs))) ms)
 conjunction_derives v w n e good f fine le = expression_derives _ _ (left_derives (right_derives
-    (map_derives (λ (u : Expr × List (Token × Expr)). all_of (exprs_of (u.0 ∷ map second u.1)))
-    (both_derive (below_derives 399 at_equal (named v) (λ ms. mark.word v ∷ ms) (leaf_derives (below 399) at_equal (named v) (λ ms. mark.word v ∷ ms) (name_is_leaf (below 399) v e good)))
-    (some_derive (more_derive (both_derive (word_derives and_word (codes "AND") refl refl) (less_derives w n f fine le)) none_derives))))))
+    (map_derives (λ ((first, more) : Expr × List (Token × Expr)). all_of (exprs_of (first ∷ map second more)))
+    (both_derive (below_derives inside_one at_equal (named v) (λ ms. mark.word v ∷ ms) (leaf_derives (below inside_one) at_equal (named v) (λ ms. mark.word v ∷ ms) (name_is_leaf (below inside_one) v e good)))
+    (some_derive (more_derive (both_derive (word_derives kinds.And (codes "AND") refl refl) (less_derives w n f fine le)) none_derives))))))

@@ -5,7 +5,8 @@ use Rattle.std.specs.List.{list_all}
 use Rattle.std.proofs.lemmas.Bool.Decides.{nat_tests}
 use Rattle.grammar.specs.Pieces.{Text, AllAre}
 use Rattle.grammar.specs.Bytes.{is_letter, is_wordy}
-use Rattle.st_ast.specs.Tokens.{name, is_identifier, kind_of_word}
+use Rattle.st_ast.specs.Tokens.{is_identifier, kind_of_word}
+use Rattle.st_ast.specs.declared.kinds.TokenKind.TheVariants as kinds
 use Rattle.st_print.specs.Marks.{is_word_text}
 use Rattle.cif_plant.specs.Named.{IsNameText}
 
@@ -27,10 +28,10 @@ after_underscore : (w : Text) → IsNameText w → is_identifier (95 ∷ w) ≡ 
 after_underscore [] h = absurd h.some
 after_underscore (b ∷ w) h = rw (letter-no_underscore b h.letters.0) (letters-identifier b w h.letters)
 
-pub place_is_name : (w : Text) → IsNameText w → kind_of_word (codes "L0_" ++ w) ≡ name
+pub place_is_name : (w : Text) → IsNameText w → kind_of_word (codes "L0_" ++ w) ≡ kinds.Name
 place_is_name w h = rw (after_underscore w h) refl
 
-pub output_is_name : (w : Text) → IsNameText w → kind_of_word (codes "P0_" ++ w) ≡ name
+pub output_is_name : (w : Text) → IsNameText w → kind_of_word (codes "P0_" ++ w) ≡ kinds.Name
 output_is_name w h = rw (after_underscore w h) refl
 
 pub place_is_word : (w : Text) → IsNameText w → is_word_text (codes "L0_" ++ w) ≡ true

@@ -3,7 +3,9 @@ use Rattle.std.proofs.Common.{◌≡◌, ℕ, zero, suc, ◌+◌, true, List, []
 use Rattle.std.specs.Prelude.{codes}
 use Rattle.grammar.specs.Lang.{Lang, ◌&◌, many}
 use Rattle.grammar.specs.Pieces.{Text}
-use Rattle.st_ast.specs.Tokens.{Token, Kind, name, if_word, then_word, elsif_word, end_if, while_word, do_word, end_while, assigns, semicolon, kind_of_word}
+use Rattle.st_ast.specs.Tokens.{Token, kind_of_word}
+use Rattle.st_ast.specs.declared.kinds.TokenKind.{TokenKind}
+use Rattle.st_ast.specs.declared.kinds.TokenKind.TheVariants as kinds
 use Rattle.st_ast.specs.Grammar.{word, expression, second, without_word, assignment, guarded, conditional, repetition, statement}
 use Rattle.st_ast.specs.Tree.{Expr, Stm, Stms, Branches, assign, choice, loop, no_stms, stms, no_branches, branches, no_other, stms_of, append}
 use Rattle.st_ast.specs.View.{branches_of, other_of}
@@ -42,32 +44,32 @@ stms_derive n k (stms s ss) all = more_derive all.0 (stms_derive n k ss all.1)
 
 -- ---- statements
 
-assignment_derives : (x : Text) (e : Expr) (k : ℕ) → kind_of_word x ≡ name → is_word_text x ≡ true → Derives expression e (λ ms. expr_marks e ms)
+assignment_derives : (x : Text) (e : Expr) (k : ℕ) → kind_of_word x ≡ kinds.Name → is_word_text x ≡ true → Derives expression e (λ ms. expr_marks e ms)
     → Derives assignment (assign x e) (λ ms. stm_marks k (assign x e) ms)
-assignment_derives x e k is good h = line_derives k (map_derives (λ (v : Text × (Token × (Expr × Token))). assign v.0 v.1.1.0)
-    (both_derive (identifier_derives x is good) (both_derive (sign_derives assigns (codes ":=") refl refl) (both_derive h (sign_derives semicolon (codes ";") refl refl)))))
+assignment_derives x e k is good h = line_derives k (map_derives (λ ((name, (sign, (value, end))) : Text × (Token × (Expr × Token))). assign name value)
+    (both_derive (identifier_derives x is good) (both_derive (sign_derives kinds.Assigns (codes ":=") refl refl) (both_derive h (sign_derives kinds.Semicolon (codes ";") refl refl)))))
 
-pub assign_derives : (n : ℕ) (x : Text) (e : Expr) (k : ℕ) → kind_of_word x ≡ name → is_word_text x ≡ true → Derives expression e (λ ms. expr_marks e ms)
+pub assign_derives : (n : ℕ) (x : Text) (e : Expr) (k : ℕ) → kind_of_word x ≡ kinds.Name → is_word_text x ≡ true → Derives expression e (λ ms. expr_marks e ms)
     → Derives (statement n) (assign x e) (λ ms. stm_marks k (assign x e) ms)
 unfolding statement
 assign_derives zero x e k is good h = let d = assignment_derives x e k is good h in record { text = d.text; derived = d.derived; is = d.is; good = d.good }
 assign_derives (suc n) x e k is good h = let d = assignment_derives x e k is good h in record { text = d.text; derived = inl d.derived; is = d.is; good = d.good }
 
-pub guarded_derives : (n k : ℕ) (kind : Kind) (w : Text) (c : Expr) (ss : Stms) → kind_of_word w ≡ kind → is_word_text w ≡ true
+pub guarded_derives : (n k : ℕ) (kind : TokenKind) (w : Text) (c : Expr) (ss : Stms) → kind_of_word w ≡ kind → is_word_text w ≡ true
     → Derives expression c (λ ms. expr_marks c ms) → AllDerive n k ss → Derives (guarded (many (statement n)) kind) (c, ss) (λ ms. expr_marks c (mark.word w ∷ stms_marks k ss ms))
 guarded_derives n k kind w c ss is good h all =
     subst (λ (r : Stms). Derives (guarded (many (statement n)) kind) (c, r) (λ ms. expr_marks c (mark.word w ∷ stms_marks k ss ms))) (stms_of-list_of ss)
-    (map_derives (λ (v : Expr × (Token × List Stm)). (v.0, stms_of v.1.1)) (both_derive h (both_derive (word_derives kind w is good) (stms_derive n k ss all))))
+    (map_derives (λ ((cond, (closing, body)) : Expr × (Token × List Stm)). (cond, stms_of body)) (both_derive h (both_derive (word_derives kind w is good) (stms_derive n k ss all))))
 
 pub loop_derives : (n k : ℕ) (c : Expr) (ss : Stms) → Derives expression c (λ ms. expr_marks c ms) → AllDerive n (k + 1) ss
     → Derives (statement (suc n)) (loop c ss) (λ ms. stm_marks k (loop c ss) ms)
 unfolding statement
 loop_derives n k c ss h all =
     let d : Derives (repetition (many (statement n))) (loop c ss) (λ ms. stm_marks k (loop c ss) ms) =
-    line_derives k (map_derives (λ (v : Token × ((Expr × Stms) × (Token × Token))). loop v.1.0.0 v.1.0.1)
-    (both_derive (word_derives while_word (codes "WHILE") refl refl)
-    (both_derive (guarded_derives n (k + 1) do_word (codes "DO") c ss refl refl h all)
-    (line_derives k (both_derive (word_derives end_while (codes "END_WHILE") refl refl) (sign_derives semicolon (codes ";") refl refl)))))) in
+    line_derives k (map_derives (λ ((opening, ((cond, body), end)) : Token × ((Expr × Stms) × (Token × Token))). loop cond body)
+    (both_derive (word_derives kinds.While (codes "WHILE") refl refl)
+    (both_derive (guarded_derives n (k + 1) kinds.Do (codes "DO") c ss refl refl h all)
+    (line_derives k (both_derive (word_derives kinds.EndWhile (codes "END_WHILE") refl refl) (sign_derives kinds.Semicolon (codes ";") refl refl)))))) in
     record { text = d.text; derived = inr (inr d.derived); is = d.is; good = d.good }
 
 -- ---- branches
@@ -88,11 +90,11 @@ branches_of-elsifs_of no_branches = refl
 branches_of-elsifs_of (branches c ss bs) = ap (λ r. branches c ss r) (branches_of-elsifs_of bs)
 
 elsifs_derive : (n k : ℕ) (bs : Branches) → BranchesDerive n k bs
-    → Derives (many (word elsif_word & guarded (many (statement n)) then_word)) (elsifs_of bs) (λ ms. branches_marks (codes "ELSIF") k bs ms)
+    → Derives (many (word kinds.Elsif & guarded (many (statement n)) kinds.Then)) (elsifs_of bs) (λ ms. branches_marks (codes "ELSIF") k bs ms)
 elsifs_derive n k no_branches all = none_derives
 elsifs_derive n k (branches c ss bs) all =
-    more_derive (line_derives k (both_derive (word_derives elsif_word (codes "ELSIF") refl refl)
-    (guarded_derives n (k + 1) then_word (codes "THEN") c ss refl refl all.0 all.1.0)))
+    more_derive (line_derives k (both_derive (word_derives kinds.Elsif (codes "ELSIF") refl refl)
+    (guarded_derives n (k + 1) kinds.Then (codes "THEN") c ss refl refl all.0 all.1.0)))
     (elsifs_derive n k bs all.1.1)
 
 abbrev Whole : Type 0
@@ -104,11 +106,11 @@ pub choice_derives : (n k : ℕ) (c : Expr) (ss : Stms) (bs : Branches) → Bran
 unfolding statement
 choice_derives n k c ss bs all =
     let d : Derives (conditional (many (statement n))) (choice (branches c ss (branches_of (map second (elsifs_of bs)))) no_other) (λ ms. stm_marks k (choice (branches c ss bs) no_other) ms) =
-    line_derives k (map_derives (λ (v : Whole). choice (branches_of (v.1.0 ∷ map second v.1.1.0)) (other_of (without_word v.1.1.1.0)))
-    (both_derive (word_derives if_word (codes "IF") refl refl)
-    (both_derive (guarded_derives n (k + 1) then_word (codes "THEN") c ss refl refl all.0 all.1.0)
+    line_derives k (map_derives (λ ((opening, (first, (more, (other, end)))) : Whole). choice (branches_of (first ∷ map second more)) (other_of (without_word other)))
+    (both_derive (word_derives kinds.If (codes "IF") refl refl)
+    (both_derive (guarded_derives n (k + 1) kinds.Then (codes "THEN") c ss refl refl all.0 all.1.0)
     (both_derive (elsifs_derive n k bs all.1.1)
     (both_derive absent_derives
-    (line_derives k (both_derive (word_derives end_if (codes "END_IF") refl refl) (sign_derives semicolon (codes ";") refl refl)))))))) in
+    (line_derives k (both_derive (word_derives kinds.EndIf (codes "END_IF") refl refl) (sign_derives kinds.Semicolon (codes ";") refl refl)))))))) in
     let e = subst (λ r. Derives (conditional (many (statement n))) (choice (branches c ss r) no_other) (λ ms. stm_marks k (choice (branches c ss bs) no_other) ms)) (branches_of-elsifs_of bs) d in
     record { text = e.text; derived = inr (inl e.derived); is = e.is; good = e.good }

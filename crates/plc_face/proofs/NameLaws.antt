@@ -9,7 +9,9 @@ use Rattle.grammar.specs.Pieces.{Text, AllAre}
 use Rattle.grammar.proofs.Texts.{and_left, and_right}
 use Rattle.st_ast.specs.Names.{folded, same_name}
 use Rattle.grammar.specs.Bytes.{begins_word, is_digit, is_wordy}
-use Rattle.st_ast.specs.Tokens.{Kind, is_identifier, in_table, keywords, reserved, kind_of_word, name, outside}
+use Rattle.st_ast.specs.Tokens.{is_identifier, in_table, keywords, reserved, kind_of_word}
+use Rattle.st_ast.specs.declared.kinds.TokenKind.{TokenKind}
+use Rattle.st_ast.specs.declared.kinds.TokenKind.TheVariants as kinds
 use Rattle.plc_face.specs.declared.letter.Letter.{Letter}
 use Rattle.plc_face.specs.declared.letter.Letter.TheVariants as letter
 use Rattle.plc_face.specs.Names.{text_of, underscore, tidied, name_for, IsIdentifier}
@@ -152,7 +154,7 @@ second-differs (b ∷ e ∷ r) c d w has digit =
     one true = refl
     one false = refl
 
-table-other : (ps : List (Text × Kind)) (c d : ℕ) (w : Text) (k : Kind) → list_all (λ p. has_second p.0) ps ≡ true → is_digit d ≡ true → in_table ps (c ∷ d ∷ w) k ≡ k
+table-other : (ps : List (Text × TokenKind)) (c d : ℕ) (w : Text) (k : TokenKind) → list_all (λ p. has_second p.0) ps ≡ true → is_digit d ≡ true → in_table ps (c ∷ d ∷ w) k ≡ k
 table-other [] c d w k all digit = refl
 table-other (p ∷ ps) c d w k all digit =
     let apart = second-differs p.0 c d w (and_left (has_second p.0) (list_all (λ p. has_second p.0) ps) all) digit in
@@ -165,11 +167,11 @@ none-reserved (r ∷ rs) c d w all digit =
     rw apart (none-reserved rs c d w (and_right (has_second r) (list_all has_second rs) all) digit)
 
 -- a word whose second byte is a digit is no reserved word
-kind-name : (c : ℕ) (x t : Text) → AllAre is_digit x → 0 < length x → is_identifier (c ∷ (x ++ (underscore ∷ t))) ≡ true → kind_of_word (c ∷ (x ++ (underscore ∷ t))) ≡ name
+kind-name : (c : ℕ) (x t : Text) → AllAre is_digit x → 0 < length x → is_identifier (c ∷ (x ++ (underscore ∷ t))) ≡ true → kind_of_word (c ∷ (x ++ (underscore ∷ t))) ≡ kinds.Name
 kind-name c [] t a some e = absurd (omega arith)
 kind-name c (d ∷ x) t a some e =
     let free = none-reserved reserved c d (x ++ (underscore ∷ t)) refl a.0 in
-    table-other keywords c d (x ++ (underscore ∷ t)) (if list_any (λ r. same_name r (c ∷ d ∷ (x ++ (underscore ∷ t)))) reserved then outside else (if is_identifier (c ∷ d ∷ (x ++ (underscore ∷ t))) then name else outside)) refl a.0
+    table-other keywords c d (x ++ (underscore ∷ t)) (if list_any (λ r. same_name r (c ∷ d ∷ (x ++ (underscore ∷ t)))) reserved then kinds.Outside else (if is_identifier (c ∷ d ∷ (x ++ (underscore ∷ t))) then kinds.Name else kinds.Outside)) refl a.0
     ∙ rw (free, e) refl
 
 byte-letter : (l : Letter) → begins_word (byte_of l) ≡ true

@@ -3,7 +3,8 @@
 use Rattle.std.specs.Prelude.{◌≡◌, ℕ, Bool, true, false, not, ◌&&◌, ◌==◌, [], ◌∷◌, ◌++◌, take, codes, decimal, if◌then◌else◌}
 use Rattle.grammar.specs.Pieces.{Text, AllAre, head_is}
 use Rattle.grammar.specs.Bytes.{begins_word, is_wordy}
-use Rattle.st_ast.specs.Tokens.{kind_of_word, name}
+use Rattle.st_ast.specs.Tokens.{kind_of_word}
+use Rattle.st_ast.specs.declared.kinds.TokenKind.TheVariants as kinds
 use Rattle.plc_face.specs.declared.letter.Letter.{Letter}
 use Rattle.plc_face.specs.declared.letter.Letter.TheVariants as letter
 
@@ -63,4 +64,4 @@ name_for l k path = text_of l ++ (decimal k ++ (underscore ∷ tidied path))
 pub record IsIdentifier (w : Text) : Type 0 where
   pub begins : head_is begins_word w ≡ true
   pub bytes : AllAre is_wordy w
-  pub kind : kind_of_word w ≡ name
+  pub kind : kind_of_word w ≡ kinds.Name

@@ -12,7 +12,8 @@ use Rattle.st_ast.specs.declared.tree.StClass.TheVariants as class
 use Rattle.st_ast.specs.declared.tree.StOrder.{StOrder}
 use Rattle.st_ast.specs.declared.tree.StOrder.TheVariants as cmp
 use Rattle.st_ast.specs.Tree.{truth, number, named, sum, order, equal, all_of, exprs, no_exprs, terms, no_terms, Stm, assign, loop, stms_of, Program}
-use Rattle.st_ast.specs.Tokens.{sign, blank, opens_comment, kind_of_word, kind_of_number, name, if_word, literal, outside}
+use Rattle.st_ast.specs.Tokens.{sign, blank, opens_comment, kind_of_word, kind_of_number}
+use Rattle.st_ast.specs.declared.kinds.TokenKind.TheVariants as kinds
 use Rattle.st_ast.specs.Checks.{unknown, duplicate, mismatch, not_assignable, init_range, check_faults}
 use Rattle.st_ast.specs.Interface.{output_values}
 use Rattle.st_ast.specs.Values.{Fault, overflow, subrange_left, value_of}
@@ -27,25 +28,25 @@ program_with vars body = record { name = codes "p"; vars = vars; body = stms_of 
 
 -- ---- words and numbers
 
-keywords_ignore_case : kind_of_word (codes "if") ≡ if_word
+keywords_ignore_case : kind_of_word (codes "if") ≡ kinds.If
 keywords_ignore_case = refl
 
-two_underscores_are_no_name : kind_of_word (codes "a__b") ≡ outside
+two_underscores_are_no_name : kind_of_word (codes "a__b") ≡ kinds.Outside
 two_underscores_are_no_name = refl
 
-a_last_underscore_is_no_name : kind_of_word (codes "a_") ≡ outside
+a_last_underscore_is_no_name : kind_of_word (codes "a_") ≡ kinds.Outside
 a_last_underscore_is_no_name = refl
 
-a_first_underscore_is_one : kind_of_word (codes "_a") ≡ name
+a_first_underscore_is_one : kind_of_word (codes "_a") ≡ kinds.Name
 a_first_underscore_is_one = refl
 
-another_word_is_reserved : kind_of_word (codes "Case") ≡ outside
+another_word_is_reserved : kind_of_word (codes "Case") ≡ kinds.Outside
 another_word_is_reserved = refl
 
-the_greatest_number : kind_of_number (codes "9223372036854775807") ≡ literal
+the_greatest_number : kind_of_number (codes "9223372036854775807") ≡ kinds.Literal
 the_greatest_number = refl
 
-a_greater_number : kind_of_number (codes "9223372036854775808") ≡ outside
+a_greater_number : kind_of_number (codes "9223372036854775808") ≡ kinds.Outside
 a_greater_number = refl
 
 a_parenthesis_and_a_star : opens_comment (sign (codes "(") ∷ sign (codes "*") ∷ []) ≡ true

@@ -1,20 +1,27 @@
 -- The tokens of Structured Text (IEC 61131-3, "Use of character set", "Identifiers", "Keywords", "Comments"): a text is
 -- blanks, comments, words, numbers and signs one after the other, each the longest that begins at its place.
-use Rattle.std.specs.Prelude.{◌≡◌, ℕ, ◌+◌, ◌-◌, ◌*◌, Bool, true, false, not, ◌||◌, ◌&&◌, ◌==◌, nat_le, List, [], ◌∷◌, codes, Option, Some, None, filter_map, if◌then◌else◌}
+use Rattle.std.specs.Prelude.{◌≡◌, ℕ, ◌+◌, ◌-◌, ◌*◌, Bool, true, false, not, ◌||◌, ◌&&◌, ◌==◌, nat_le, List, [], ◌∷◌, codes, Option, Some, None, filter_map, map, if◌then◌else◌}
 use Rattle.std.specs.List.{list_any}
 use Rattle.grammar.specs.Bytes.{is_blank, begins_word, is_digit, is_wordy, none_of, digits_from}
 use Rattle.grammar.specs.Pieces.{Text, Kinds, ◌∣◌, run, after_byte, closed, one_text, Pieces, same}
 use Rattle.st_ast.specs.Names.{same_name}
+use Rattle.st_ast.specs.declared.kinds.TokenKind.{TokenKind}
+use Rattle.st_ast.specs.declared.kinds.TokenKind.TheVariants as kinds
 
 pub data Piece : Type 0 where
   blank comment : Piece
   word number sign : Text → Piece
 
--- the longer ones first
+-- the signs with their kinds, the longer ones first
+abbrev pub sign_kinds : List (Text × TokenKind)
+sign_kinds = (codes ":=", kinds.Assigns) ∷ (codes "..", kinds.Dots) ∷ (codes "<>", kinds.Outside) ∷ (codes "<=", kinds.Outside)
+    ∷ (codes ">=", kinds.Outside) ∷ (codes ";", kinds.Semicolon) ∷ (codes ":", kinds.Colon) ∷ (codes "(", kinds.Open)
+    ∷ (codes ")", kinds.Close) ∷ (codes ",", kinds.Comma) ∷ (codes "+", kinds.Plus) ∷ (codes "-", kinds.Dash)
+    ∷ (codes "*", kinds.Outside) ∷ (codes "/", kinds.Outside) ∷ (codes "=", kinds.Equals) ∷ (codes "<", kinds.Less)
+    ∷ (codes ">", kinds.Outside) ∷ (codes "&", kinds.Outside) ∷ []
+
 abbrev pub signs : List Text
-signs = codes ":=" ∷ codes ".." ∷ codes "<>" ∷ codes "<=" ∷ codes ">="
-    ∷ codes ";" ∷ codes ":" ∷ codes "(" ∷ codes ")" ∷ codes "," ∷ codes "+" ∷ codes "-" ∷ codes "*" ∷ codes "/"
-    ∷ codes "=" ∷ codes "<" ∷ codes ">" ∷ codes "&" ∷ []
+signs = map (λ (e : Text × TokenKind). e.0) sign_kinds
 
 -- a blank byte, a word, digits, a comment from `(*` to the next `*)`, or a sign
 unfoldable pub piece : Kinds Piece
@@ -34,26 +41,17 @@ opens_comment [] = false
 opens_comment (p ∷ []) = false
 opens_comment (p ∷ q ∷ ps) = is_sign (codes "(") p && is_sign (codes "*") q || opens_comment (q ∷ ps)
 
--- The kinds of token. A token of the kind `outside` is in no production of the part of the language that is read here.
-pub data Kind : Type 0 where
-  name literal : Kind
-  program end_program var var_output end_var bool lint : Kind
-  true_word false_word if_word then_word elsif_word else_word end_if while_word do_word end_while : Kind
-  not_word and_word or_word : Kind
-  semicolon colon assigns dots open_sign close_sign comma plus dash equals less : Kind
-  outside : Kind
-
 pub record Token : Type 0 where
-  pub kind : Kind
+  pub kind : TokenKind
   pub text : Text
 
 -- the keywords, which are compared ignoring case
-abbrev pub keywords : List (Text × Kind)
-keywords = (codes "PROGRAM", program) ∷ (codes "END_PROGRAM", end_program) ∷ (codes "VAR", var) ∷ (codes "VAR_OUTPUT", var_output)
-    ∷ (codes "END_VAR", end_var) ∷ (codes "BOOL", bool) ∷ (codes "LINT", lint) ∷ (codes "TRUE", true_word)
-    ∷ (codes "FALSE", false_word) ∷ (codes "IF", if_word) ∷ (codes "THEN", then_word) ∷ (codes "ELSIF", elsif_word)
-    ∷ (codes "ELSE", else_word) ∷ (codes "END_IF", end_if) ∷ (codes "WHILE", while_word) ∷ (codes "DO", do_word)
-    ∷ (codes "END_WHILE", end_while) ∷ (codes "NOT", not_word) ∷ (codes "AND", and_word) ∷ (codes "OR", or_word) ∷ []
+abbrev pub keywords : List (Text × TokenKind)
+keywords = (codes "PROGRAM", kinds.Program) ∷ (codes "END_PROGRAM", kinds.EndProgram) ∷ (codes "VAR", kinds.Var) ∷ (codes "VAR_OUTPUT", kinds.VarOutput)
+    ∷ (codes "END_VAR", kinds.EndVar) ∷ (codes "BOOL", kinds.Bool) ∷ (codes "LINT", kinds.Lint) ∷ (codes "TRUE", kinds.True)
+    ∷ (codes "FALSE", kinds.False) ∷ (codes "IF", kinds.If) ∷ (codes "THEN", kinds.Then) ∷ (codes "ELSIF", kinds.Elsif)
+    ∷ (codes "ELSE", kinds.Else) ∷ (codes "END_IF", kinds.EndIf) ∷ (codes "WHILE", kinds.While) ∷ (codes "DO", kinds.Do)
+    ∷ (codes "END_WHILE", kinds.EndWhile) ∷ (codes "NOT", kinds.Not) ∷ (codes "AND", kinds.And) ∷ (codes "OR", kinds.Or) ∷ []
 
 -- the other reserved words
 abbrev pub reserved : List Text
@@ -64,7 +62,7 @@ reserved = codes "CONSTANT" ∷ codes "VAR_INPUT" ∷ codes "XOR" ∷ codes "MOD
     ∷ codes "LREAL" ∷ codes "TIME" ∷ codes "TYPE" ∷ []
 
 -- the kind that a table has for a word, or another one
-abbrev pub in_table : List (Text × Kind) → Text → Kind → Kind
+abbrev pub in_table : List (Text × TokenKind) → Text → TokenKind → TokenKind
 in_table [] w other = other
 in_table (p ∷ ps) w other = if same_name p.0 w then p.1 else in_table ps w other
 
@@ -74,18 +72,16 @@ is_identifier [] = true
 is_identifier (b ∷ []) = not (b == 95)
 is_identifier (a ∷ b ∷ w) = not (a == 95 && b == 95) && is_identifier (b ∷ w)
 
-abbrev pub kind_of_word : Text → Kind
+abbrev pub kind_of_word : Text → TokenKind
 kind_of_word w = in_table keywords w
-    (if list_any (λ r. same_name r w) reserved then outside else (if is_identifier w then name else outside))
+    (if list_any (λ r. same_name r w) reserved then kinds.Outside else (if is_identifier w then kinds.Name else kinds.Outside))
 
-abbrev pub kind_of_sign_in : List (Text × Kind) → Text → Kind
-kind_of_sign_in [] s = outside
+abbrev pub kind_of_sign_in : List (Text × TokenKind) → Text → TokenKind
+kind_of_sign_in [] s = kinds.Outside
 kind_of_sign_in (p ∷ ps) s = if same p.0 s then p.1 else kind_of_sign_in ps s
 
-abbrev pub kind_of_sign : Text → Kind
-kind_of_sign = kind_of_sign_in ((codes ";", semicolon) ∷ (codes ":", colon) ∷ (codes ":=", assigns) ∷ (codes "..", dots)
-    ∷ (codes "(", open_sign) ∷ (codes ")", close_sign) ∷ (codes ",", comma) ∷ (codes "+", plus) ∷ (codes "-", dash)
-    ∷ (codes "=", equals) ∷ (codes "<", less) ∷ [])
+abbrev pub kind_of_sign : Text → TokenKind
+kind_of_sign = kind_of_sign_in sign_kinds
 
 abbrev pub number_of : Text → ℕ
 number_of = digits_from 0
@@ -94,8 +90,8 @@ abbrev pub greatest : ℕ
 greatest = 9223372036854775807
 
 -- a number above the greatest is in no program
-abbrev pub kind_of_number : Text → Kind
-kind_of_number d = if nat_le (number_of d) greatest then literal else outside
+abbrev pub kind_of_number : Text → TokenKind
+kind_of_number d = if nat_le (number_of d) greatest then kinds.Literal else kinds.Outside
 
 abbrev pub token_of : Piece → Option Token
 token_of blank = None

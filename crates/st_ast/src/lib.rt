@@ -1,6 +1,8 @@
 //! The trees of Structured Text programs (IEC 61131-3), and in `specs/` their grammar, their checks and what they mean.
 #![tactic(auto)]
 
+mod kinds;
 mod tree;
 
+pub use kinds::TokenKind;
 pub use tree::{Program, StBranch, StClass, StExpr, StLit, StOrder, StTerm, StTy, StVar, Stmt};

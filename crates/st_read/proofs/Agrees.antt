@@ -6,7 +6,9 @@ use Rattle.grammar.specs.Sets.{apart}
 use Rattle.grammar.proofs.Laws.{Takes}
 use Rattle.grammar.proofs.Plain.{one_takes, map_takes, both_takes, either_takes, optional_takes, many_takes, wider, same}
 use Rattle.grammar.proofs.Depth.{Nests, IsBelow, flat_nests, deep_map_nests, deep_both_nests, deep_either_nests, inside_nests, none_nests, chain_nests, suffix_nests, whole_takes}
-use Rattle.st_ast.specs.Tokens.{Kind, Token, name, literal, program, end_program, var, var_output, end_var, bool, lint, true_word, false_word, if_word, then_word, elsif_word, else_word, end_if, while_word, do_word, end_while, not_word, and_word, or_word, semicolon, colon, assigns, dots, open_sign, close_sign, plus, dash, equals, less}
+use Rattle.st_ast.specs.Tokens.{Token}
+use Rattle.st_ast.specs.declared.kinds.TokenKind.{TokenKind}
+use Rattle.st_ast.specs.declared.kinds.TokenKind.TheVariants as kinds
 use Rattle.st_ast.specs.Tree.{Expr, number, named, Stm, Stms, choice, stms_of, Program}
 use Rattle.st_ast.specs.View.{branches_of, other_of}
 use Rattle.st_ast.specs.Grammar.{sort, second, text_of, word, identifier, natural, Level, at_or, at_and, at_equal, at_order, at_sum, at_unary, prim, unary, summed, ordered, equated, conjunction, disjunction, level, max_depth, below, expression, without_word, assignment, guarded, conditional, repetition, statement, signed, first_value, type_use, value_of_init, declaration, block_of, block, whole}
@@ -22,37 +24,37 @@ use Rattle.st_read.proofs.Mapped.{reads_same, deep_reads_same, many_mapped, join
 -- ---- what each level begins with, and what makes it go on
 
 abbrev prim_first : List ℕ
-prim_first = codes_of (true_word ∷ false_word ∷ literal ∷ name ∷ open_sign ∷ [])
+prim_first = codes_of (kinds.True ∷ kinds.False ∷ kinds.Literal ∷ kinds.Name ∷ kinds.Open ∷ [])
 
 -- what begins an expression
 abbrev pub unary_first : List ℕ
-unary_first = codes_of (not_word ∷ []) ++ prim_first
+unary_first = codes_of (kinds.Not ∷ []) ++ prim_first
 
 abbrev sum_goes : List ℕ
-sum_goes = first plus
+sum_goes = first kinds.Plus
 
 abbrev order_goes : List ℕ
-order_goes = first less ++ sum_goes
+order_goes = first kinds.Less ++ sum_goes
 
 abbrev equal_goes : List ℕ
-equal_goes = first equals ++ order_goes
+equal_goes = first kinds.Equals ++ order_goes
 
 abbrev and_goes : List ℕ
-and_goes = first and_word ++ equal_goes
+and_goes = first kinds.And ++ equal_goes
 
 -- what makes an expression go on
 abbrev pub or_goes : List ℕ
-or_goes = first or_word ++ and_goes
+or_goes = first kinds.Or ++ and_goes
 
 -- ---- names and numbers
 
-pub identifier_takes : Takes sort false (first name) [] identifier identifier_at
+pub identifier_takes : Takes sort false (first kinds.Name) [] identifier identifier_at
 unfolding identifier_at
-identifier_takes = map_takes text_of (one_takes sort (first name))
+identifier_takes = map_takes text_of (one_takes sort (first kinds.Name))
 
-pub natural_takes : Takes sort false (first literal) [] natural natural_at
+pub natural_takes : Takes sort false (first kinds.Literal) [] natural natural_at
 unfolding natural_at
-natural_takes = map_takes natural_of (one_takes sort (first literal))
+natural_takes = map_takes natural_of (one_takes sort (first kinds.Literal))
 
 -- ---- what stands alone or in parentheses
 
@@ -60,25 +62,25 @@ module _ (bound : ℕ) where
   abbrev pub Level_law : List ℕ → (ℕ → Lang Token Expr) → Deep Token Expr → Type 0
   Level_law goes_on p r = Nests sort max_depth bound false unary_first goes_on p r
 
-  word_nests : (kind : Kind) → Nests sort max_depth bound false (first kind) [] (λ n. word kind) (flat_word kind)
+  word_nests : (kind : TokenKind) → Nests sort max_depth bound false (first kind) [] (λ n. word kind) (flat_word kind)
   word_nests kind = flat_nests (one_takes sort (first kind))
 
   module _ (within : Deep Token Expr) (w : Level_law or_goes (λ n. below n at_or) within) where
-    paren_nests : Nests sort max_depth bound false (first open_sign) [] (λ n. paren_of <$> word open_sign & below n at_or & word close_sign) (paren_at within)
+    paren_nests : Nests sort max_depth bound false (first kinds.Open) [] (λ n. paren_of <$> word kinds.Open & below n at_or & word kinds.Close) (paren_at within)
     unfolding paren_at
-    paren_nests = deep_map_nests paren_of (deep_both_nests (word_nests open_sign) refl (deep_both_nests w refl (word_nests close_sign)))
+    paren_nests = deep_map_nests paren_of (deep_both_nests (word_nests kinds.Open) refl (deep_both_nests w refl (word_nests kinds.Close)))
 
     prim_nests : Nests sort max_depth bound false prim_first [] (λ n. prim (below n)) (prim_at within)
     unfolding prim_at
-    prim_nests = deep_either_nests (deep_map_nests (truth_of true) (word_nests true_word)) refl
-        (deep_either_nests (deep_map_nests (truth_of false) (word_nests false_word)) refl
+    prim_nests = deep_either_nests (deep_map_nests (truth_of true) (word_nests kinds.True)) refl
+        (deep_either_nests (deep_map_nests (truth_of false) (word_nests kinds.False)) refl
         (deep_either_nests (deep_map_nests number (flat_nests natural_takes)) refl
         (deep_either_nests (deep_map_nests named (flat_nests identifier_takes)) refl
         paren_nests)))
 
     pub unary_nests : (operand : Deep Token Expr) → Level_law [] (λ n. below n at_unary) operand → Level_law [] (λ n. unary (below n)) (unary_from within operand)
     unfolding unary_from
-    unary_nests operand u = deep_either_nests (deep_map_nests negation_of (deep_both_nests (word_nests not_word) refl u)) refl prim_nests
+    unary_nests operand u = deep_either_nests (deep_map_nests negation_of (deep_both_nests (word_nests kinds.Not) refl u)) refl prim_nests
 
 -- ---- the levels of operators
 
@@ -94,33 +96,33 @@ module _ (bound : ℕ) (c : bound ≤ max_depth + 1) where
   module _ (u : Deep Token Expr) (h : Level_law bound [] (λ n. unary (below n)) u) where
     sum_nests : Level_law bound sum_goes (λ n. summed (below n)) (sum_from u)
     unfolding sum_from term_at
-    sum_nests = deep_reads_same (chain_mapped sort (first plus) max_depth term_of u (deep_both (flat_word plus) (inside max_depth u)) sum_of)
+    sum_nests = deep_reads_same (chain_mapped sort (first kinds.Plus) max_depth term_of u (deep_both (flat_word kinds.Plus) (inside max_depth u)) sum_of)
         (chain_nests (λ e more. sum_of e (map term_of more)) (λ n. below n at_unary) sum_goes (below_is at_unary) c h refl refl
-        (deep_both_nests (word_nests bound plus) refl (deeper at_unary [] u h)) refl refl)
+        (deep_both_nests (word_nests bound kinds.Plus) refl (deeper at_unary [] u h)) refl refl)
 
     order_nests : Level_law bound order_goes (λ n. ordered (below n)) (order_from u)
     unfolding order_from ordered_at
-    order_nests = deep_reads_same (suffix_mapped sort (first less) max_depth second (sum_from u) (deep_both (flat_word less) (inside max_depth (sum_from u))) order_of)
+    order_nests = deep_reads_same (suffix_mapped sort (first kinds.Less) max_depth second (sum_from u) (deep_both (flat_word kinds.Less) (inside max_depth (sum_from u))) order_of)
         (suffix_nests (λ e v. order_of e (second v)) (λ n. below n at_sum) order_goes (below_is at_sum) c sum_nests refl
-        (deep_both_nests (word_nests bound less) refl (deeper at_sum sum_goes (sum_from u) sum_nests)) refl refl)
+        (deep_both_nests (word_nests bound kinds.Less) refl (deeper at_sum sum_goes (sum_from u) sum_nests)) refl refl)
 
     equal_nests : Level_law bound equal_goes (λ n. equated (below n)) (equal_from u)
     unfolding equal_from equated_at
-    equal_nests = deep_reads_same (suffix_mapped sort (first equals) max_depth second (order_from u) (deep_both (flat_word equals) (inside max_depth (order_from u))) equal_of)
+    equal_nests = deep_reads_same (suffix_mapped sort (first kinds.Equals) max_depth second (order_from u) (deep_both (flat_word kinds.Equals) (inside max_depth (order_from u))) equal_of)
         (suffix_nests (λ e v. equal_of e (second v)) (λ n. below n at_order) equal_goes (below_is at_order) c order_nests refl
-        (deep_both_nests (word_nests bound equals) refl (deeper at_order order_goes (order_from u) order_nests)) refl refl)
+        (deep_both_nests (word_nests bound kinds.Equals) refl (deeper at_order order_goes (order_from u) order_nests)) refl refl)
 
     and_nests : Level_law bound and_goes (λ n. conjunction (below n)) (and_from u)
     unfolding and_from and_next_at
-    and_nests = deep_reads_same (chain_mapped sort (first and_word) max_depth second (equal_from u) (deep_both (flat_word and_word) (inside max_depth (equal_from u))) all_from)
+    and_nests = deep_reads_same (chain_mapped sort (first kinds.And) max_depth second (equal_from u) (deep_both (flat_word kinds.And) (inside max_depth (equal_from u))) all_from)
         (chain_nests (λ e more. all_from e (map second more)) (λ n. below n at_equal) and_goes (below_is at_equal) c equal_nests refl refl
-        (deep_both_nests (word_nests bound and_word) refl (deeper at_equal equal_goes (equal_from u) equal_nests)) refl refl)
+        (deep_both_nests (word_nests bound kinds.And) refl (deeper at_equal equal_goes (equal_from u) equal_nests)) refl refl)
 
     pub or_nests : Level_law bound or_goes (λ n. disjunction (below n)) (or_from u)
     unfolding or_from or_next_at
-    or_nests = deep_reads_same (chain_mapped sort (first or_word) max_depth second (and_from u) (deep_both (flat_word or_word) (inside max_depth (and_from u))) any_from)
+    or_nests = deep_reads_same (chain_mapped sort (first kinds.Or) max_depth second (and_from u) (deep_both (flat_word kinds.Or) (inside max_depth (and_from u))) any_from)
         (chain_nests (λ e more. any_from e (map second more)) (λ n. below n at_and) or_goes (below_is at_and) c and_nests refl refl
-        (deep_both_nests (word_nests bound or_word) refl (deeper at_and and_goes (and_from u) and_nests)) refl refl)
+        (deep_both_nests (word_nests bound kinds.Or) refl (deeper at_and and_goes (and_from u) and_nests)) refl refl)
 
 pub unary_at_nests : (bound : ℕ) → bound ≤ max_depth + 1 → Level_law bound [] (λ n. unary (below n)) (unary_at bound)
 unfolding unary_at
@@ -140,31 +142,31 @@ expression_takes = let c : max_depth < max_calls = omega arith in whole_takes c 
 
 -- ---- statements
 
-pub assignment_takes : Takes sort false (first name) [] assignment assignment_at
+pub assignment_takes : Takes sort false (first kinds.Name) [] assignment assignment_at
 unfolding assignment_at
-assignment_takes = map_takes assign_of (both_takes identifier_takes refl (both_takes (one_takes sort (first assigns)) refl
-    (both_takes expression_takes refl (one_takes sort (first semicolon)))))
+assignment_takes = map_takes assign_of (both_takes identifier_takes refl (both_takes (one_takes sort (first kinds.Assigns)) refl
+    (both_takes expression_takes refl (one_takes sort (first kinds.Semicolon)))))
 
 module _ (body : Lang Token (List Stm)) (body_at : Reader Token (List Stm)) (b : Takes sort true statement_first statement_first body body_at) where
-  guarded_takes : (kind : Kind) → apart (first kind) or_goes ≡ true → Takes sort false unary_first statement_first (guarded body kind) (guarded_at body_at kind)
+  guarded_takes : (kind : TokenKind) → apart (first kind) or_goes ≡ true → Takes sort false unary_first statement_first (guarded body kind) (guarded_at body_at kind)
   unfolding guarded_at
   guarded_takes kind e = map_takes guarded_of (both_takes expression_takes e (both_takes (one_takes sort (first kind)) refl b))
 
-  elsifs_takes : Takes sort true (first elsif_word) (first elsif_word ++ statement_first) (map second <$> many (word elsif_word & guarded body then_word)) (elsifs_at body_at)
+  elsifs_takes : Takes sort true (first kinds.Elsif) (first kinds.Elsif ++ statement_first) (map second <$> many (word kinds.Elsif & guarded body kinds.Then)) (elsifs_at body_at)
   unfolding elsif_at
-  elsifs_takes = reads_same (many_mapped sort (first elsif_word) second (both_at (word_at elsif_word) (guarded_at body_at then_word)))
-      (map_takes (map second) (many_takes refl (both_takes (one_takes sort (first elsif_word)) refl (guarded_takes then_word refl))))
+  elsifs_takes = reads_same (many_mapped sort (first kinds.Elsif) second (both_at (word_at kinds.Elsif) (guarded_at body_at kinds.Then)))
+      (map_takes (map second) (many_takes refl (both_takes (one_takes sort (first kinds.Elsif)) refl (guarded_takes kinds.Then refl))))
 
-  else_takes : Takes sort true (first else_word) (first else_word ++ statement_first) (without_word <$> optional (word else_word & body)) (else_at body_at)
+  else_takes : Takes sort true (first kinds.Else) (first kinds.Else ++ statement_first) (without_word <$> optional (word kinds.Else & body)) (else_at body_at)
   unfolding else_at
-  else_takes = map_takes without_word (optional_takes (both_takes (one_takes sort (first else_word)) refl b))
+  else_takes = map_takes without_word (optional_takes (both_takes (one_takes sort (first kinds.Else)) refl b))
 
   abbrev chosen : Token × ((Expr × Stms) × (List (Expr × Stms) × (Option (List Stm) × (Token × Token)))) → Stm
   chosen v = choice_of (v.0, (v.1.0 ∷ v.1.1.0, v.1.1.1))
 
   -- with the words before the parts dropped
   abbrev stripped : Lang Token Stm
-  stripped = chosen <$> word if_word & guarded body then_word & (map second <$> many (word elsif_word & guarded body then_word)) & (without_word <$> optional (word else_word & body)) & word end_if & word semicolon
+  stripped = chosen <$> word kinds.If & guarded body kinds.Then & (map second <$> many (word kinds.Elsif & guarded body kinds.Then)) & (without_word <$> optional (word kinds.Else & body)) & word kinds.EndIf & word kinds.Semicolon
 
   conditional-stripped : (s : Stm) (x : List Token) → conditional body s x → stripped s x
   conditional-stripped s x ((v0, (v1, (v2, (v3, v4)))), (a, b, d, (a1, b1, d1, (a2, b2, d2, (a3, b3, d3, d4, e3), e2), e1), e), is) =
@@ -178,18 +180,18 @@ module _ (body : Lang Token (List Stm)) (body_at : Reader Token (List Stm)) (b :
         ∙ ap (λ (o : Option (List Stm)). choice (branches_of (v1 ∷ map second w2)) (other_of o)) is3,
   )
 
-  conditional_takes : Takes sort false (first if_word) [] (conditional body) (conditional_at body_at)
+  conditional_takes : Takes sort false (first kinds.If) [] (conditional body) (conditional_at body_at)
   unfolding conditional_at branches_at
-  conditional_takes = reads_same (joined_first (word_at if_word) (guarded_at body_at then_word) (elsifs_at body_at) (both_at (else_at body_at) (both_at (word_at end_if) (word_at semicolon))) (λ p. p.0 ∷ p.1) choice_of)
+  conditional_takes = reads_same (joined_first (word_at kinds.If) (guarded_at body_at kinds.Then) (elsifs_at body_at) (both_at (else_at body_at) (both_at (word_at kinds.EndIf) (word_at kinds.Semicolon))) (λ p. p.0 ∷ p.1) choice_of)
       (same conditional-stripped stripped-conditional
-      (map_takes chosen (both_takes (one_takes sort (first if_word)) refl (both_takes (guarded_takes then_word refl) refl
+      (map_takes chosen (both_takes (one_takes sort (first kinds.If)) refl (both_takes (guarded_takes kinds.Then refl) refl
       (both_takes elsifs_takes refl (both_takes else_takes refl
-      (both_takes (one_takes sort (first end_if)) refl (one_takes sort (first semicolon)))))))))
+      (both_takes (one_takes sort (first kinds.EndIf)) refl (one_takes sort (first kinds.Semicolon)))))))))
 
-  repetition_takes : Takes sort false (first while_word) [] (repetition body) (repetition_at body_at)
+  repetition_takes : Takes sort false (first kinds.While) [] (repetition body) (repetition_at body_at)
   unfolding repetition_at
-  repetition_takes = map_takes loop_of (both_takes (one_takes sort (first while_word)) refl (both_takes (guarded_takes do_word refl) refl
-      (both_takes (one_takes sort (first end_while)) refl (one_takes sort (first semicolon)))))
+  repetition_takes = map_takes loop_of (both_takes (one_takes sort (first kinds.While)) refl (both_takes (guarded_takes kinds.Do refl) refl
+      (both_takes (one_takes sort (first kinds.EndWhile)) refl (one_takes sort (first kinds.Semicolon)))))
 
 pub statement_takes : (n : ℕ) → Takes sort false statement_first [] (statement n) (statement_at n)
 unfolding statement statement_at
@@ -204,33 +206,33 @@ statements_takes n = many_takes refl (statement_takes n)
 
 -- ---- declarations
 
-signed_takes : Takes sort false (codes_of (dash ∷ literal ∷ [])) [] signed signed_at
+signed_takes : Takes sort false (codes_of (kinds.Dash ∷ kinds.Literal ∷ [])) [] signed signed_at
 unfolding signed_at
-signed_takes = either_takes (map_takes opposite_of (both_takes (one_takes sort (first dash)) refl natural_takes)) refl natural_takes
+signed_takes = either_takes (map_takes opposite_of (both_takes (one_takes sort (first kinds.Dash)) refl natural_takes)) refl natural_takes
 
-first_value_takes : Takes sort false (codes_of (true_word ∷ false_word ∷ dash ∷ literal ∷ [])) [] first_value first_value_at
+first_value_takes : Takes sort false (codes_of (kinds.True ∷ kinds.False ∷ kinds.Dash ∷ kinds.Literal ∷ [])) [] first_value first_value_at
 unfolding first_value_at
-first_value_takes = either_takes (map_takes (bool_of true) (one_takes sort (first true_word))) refl
-    (either_takes (map_takes (bool_of false) (one_takes sort (first false_word))) refl
+first_value_takes = either_takes (map_takes (bool_of true) (one_takes sort (first kinds.True))) refl
+    (either_takes (map_takes (bool_of false) (one_takes sort (first kinds.False))) refl
     (map_takes lit.Int signed_takes))
 
-subrange_takes : Takes sort true (first open_sign) (first open_sign) (optional (word open_sign & signed & word dots & signed & word close_sign)) subrange_at
+subrange_takes : Takes sort true (first kinds.Open) (first kinds.Open) (optional (word kinds.Open & signed & word kinds.Dots & signed & word kinds.Close)) subrange_at
 unfolding subrange_at
-subrange_takes = optional_takes (both_takes (one_takes sort (first open_sign)) refl (both_takes signed_takes refl
-    (both_takes (one_takes sort (first dots)) refl (both_takes signed_takes refl (one_takes sort (first close_sign))))))
+subrange_takes = optional_takes (both_takes (one_takes sort (first kinds.Open)) refl (both_takes signed_takes refl
+    (both_takes (one_takes sort (first kinds.Dots)) refl (both_takes signed_takes refl (one_takes sort (first kinds.Close))))))
 
-type_takes : Takes sort false (codes_of (bool ∷ lint ∷ [])) (first open_sign) type_use type_at
+type_takes : Takes sort false (codes_of (kinds.Bool ∷ kinds.Lint ∷ [])) (first kinds.Open) type_use type_at
 unfolding type_at
-type_takes = either_takes (map_takes bool_type (one_takes sort (first bool))) refl
-    (map_takes number_type (both_takes (one_takes sort (first lint)) refl subrange_takes))
+type_takes = either_takes (map_takes bool_type (one_takes sort (first kinds.Bool))) refl
+    (map_takes number_type (both_takes (one_takes sort (first kinds.Lint)) refl subrange_takes))
 
-init_takes : Takes sort true (first assigns) (first assigns) (value_of_init <$> optional (word assigns & first_value)) init_at
+init_takes : Takes sort true (first kinds.Assigns) (first kinds.Assigns) (value_of_init <$> optional (word kinds.Assigns & first_value)) init_at
 unfolding init_at
-init_takes = map_takes value_of_init (optional_takes (both_takes (one_takes sort (first assigns)) refl first_value_takes))
+init_takes = map_takes value_of_init (optional_takes (both_takes (one_takes sort (first kinds.Assigns)) refl first_value_takes))
 
 -- with the sign before the first value dropped
 abbrev valued : StClass → Lang Token StVar
-valued k = variable_of k <$> identifier & word colon & type_use & (value_of_init <$> optional (word assigns & first_value)) & word semicolon
+valued k = variable_of k <$> identifier & word kinds.Colon & type_use & (value_of_init <$> optional (word kinds.Assigns & first_value)) & word kinds.Semicolon
 
 declaration-valued : (k : StClass) (v : StVar) (x : List Token) → declaration k v x → valued k v x
 declaration-valued k v x ((v0, (v1, (v2, (v3, v4)))), (a, b, d, (a1, b1, d1, (a2, b2, d2, (a3, b3, d3, d4, e3), e2), e1), e), is) =
@@ -243,18 +245,18 @@ valued-declaration k v x ((v0, (v1, (v2, (v3, v4)))), (a, b, d, (a1, b1, d1, (a2
   is ∙ ap (λ (o : Option StLit). record { name = v0; class = k; ty = v2; init = o }) is3,
 )
 
-pub declaration_takes : (k : StClass) → Takes sort false (first name) [] (declaration k) (declaration_at k)
+pub declaration_takes : (k : StClass) → Takes sort false (first kinds.Name) [] (declaration k) (declaration_at k)
 unfolding declaration_at
-declaration_takes k = same (declaration-valued k) (valued-declaration k) (map_takes (variable_of k) (both_takes identifier_takes refl (both_takes (one_takes sort (first colon)) refl
-    (both_takes type_takes refl (both_takes init_takes refl (one_takes sort (first semicolon)))))))
+declaration_takes k = same (declaration-valued k) (valued-declaration k) (map_takes (variable_of k) (both_takes identifier_takes refl (both_takes (one_takes sort (first kinds.Colon)) refl
+    (both_takes type_takes refl (both_takes init_takes refl (one_takes sort (first kinds.Semicolon)))))))
 
-block_of_takes : (kind : Kind) (k : StClass) → Takes sort false (first kind) [] (block_of kind k) (block_of_at kind k)
+block_of_takes : (kind : TokenKind) (k : StClass) → Takes sort false (first kind) [] (block_of kind k) (block_of_at kind k)
 unfolding block_of_at
-block_of_takes kind k = map_takes variables_of (both_takes (one_takes sort (first kind)) refl (both_takes (many_takes refl (declaration_takes k)) refl (one_takes sort (first end_var))))
+block_of_takes kind k = map_takes variables_of (both_takes (one_takes sort (first kind)) refl (both_takes (many_takes refl (declaration_takes k)) refl (one_takes sort (first kinds.EndVar))))
 
 pub block_takes : Takes sort false block_first [] block block_at
 unfolding block_at
-block_takes = either_takes (block_of_takes var class.Plain) refl (block_of_takes var_output class.Output)
+block_takes = either_takes (block_of_takes kinds.Var class.Plain) refl (block_of_takes kinds.VarOutput class.Output)
 
 -- ---- programs
 
@@ -264,7 +266,7 @@ variables_takes = reads_same (λ ts. flat_after_none (many_at sort block_first b
 
 -- with the declarations of all blocks as one list
 abbrev flattened : Lang Token Program
-flattened = made_of <$> word program & identifier & (flat <$> many block) & many (statement max_depth) & word end_program
+flattened = made_of <$> word kinds.Program & identifier & (flat <$> many block) & many (statement max_depth) & word kinds.EndProgram
 
 whole-flattened : (p : Program) (x : List Token) → whole p x → flattened p x
 unfolding whole
@@ -279,7 +281,7 @@ flattened-whole p x ((v0, (v1, (v2, (v3, v4)))), (a, b, d, (a1, b1, d1, (a2, b2,
   is ∙ ap (λ (vars : List StVar). record { name = v1; vars = vars; body = stms_of v3 }) is2,
 )
 
-pub program_takes : Takes sort false (first program) [] whole program_at
+pub program_takes : Takes sort false (first kinds.Program) [] whole program_at
 unfolding program_at
-program_takes = same whole-flattened flattened-whole (map_takes made_of (both_takes (one_takes sort (first program)) refl (both_takes identifier_takes refl (both_takes variables_takes refl
-    (both_takes (statements_takes max_depth) refl (one_takes sort (first end_program)))))))
+program_takes = same whole-flattened flattened-whole (map_takes made_of (both_takes (one_takes sort (first kinds.Program)) refl (both_takes identifier_takes refl (both_takes variables_takes refl
+    (both_takes (statements_takes max_depth) refl (one_takes sort (first kinds.EndProgram)))))))

@@ -1,7 +1,6 @@
 -- What stands at the front of a text is the piece that is cut off there, and where nothing does none begins.
-use Rattle.std.proofs.Common.{◌≡◌, ◌==◌, ◌&&◌, ℕ, Bool, true, false, nat_le, List, [], ◌∷◌, Option, Some, None, Ok, Err, refl, sym, ap, eqb-true, ◌∙◌, arith, inl, inr, if◌then◌else◌}
+use Rattle.std.proofs.Common.{◌≡◌, ◌==◌, ◌&&◌, ℕ, Bool, true, false, nat_le, List, [], ◌∷◌, Option, Some, None, Ok, Err, refl, sym, ap, eqb-true, ◌∙◌, inl, inr, if◌then◌else◌}
 use Rattle.std.specs.Option.{option_or}
-use Rattle.std.proofs.lemmas.Bool.Decides.{nat_tests}
 use Rattle.grammar.specs.Pieces.{Text, Cutter, Cut, either_cut, run_cut, run_of, after_cut, closed_cut, close_at, text_cut, strip, or_else, head_is}
 use Rattle.grammar.proofs.Plain.{if_some}
 use Rattle.grammar.proofs.Texts.{same_equal}

@@ -1,5 +1,5 @@
 -- A loop that takes tokens from the front of a text, piece by piece.
-use Rattle.std.proofs.Common.{◌≡◌, ◌==◌, ◌&&◌, ◌||◌, Bool, true, false, ◌+◌, ◌-◌, ◌≤◌, ◌<◌, List, [], ◌∷◌, ◌++◌, length, All, Option, Some, None, Ok, Err, refl, sym, ap, subst, ◌∙◌, append-nil, arith, codes, filter_map}
+use Rattle.std.proofs.Common.{◌≡◌, ◌==◌, ◌&&◌, ◌||◌, Bool, true, false, ◌+◌, ◌-◌, ◌<◌, List, [], ◌∷◌, ◌++◌, length, All, Option, Some, None, Ok, Err, refl, sym, ap, subst, ◌∙◌, append-nil, arith, codes, filter_map}
 use Rattle.std.proofs.lemmas.Bool.{or_parts, or_from}
 use Rattle.std.proofs.lemmas.Bool.Decides.{nat_tests}
 use Rattle.std.proofs.lemmas.List.{length-append}
@@ -141,7 +141,6 @@ due_at : (text rest : Text) (tokens : List Token) (fault : Fault) → Taken text
 due_at text rest tokens f.BadByte t n e = bad text rest tokens t n e
 due_at text rest tokens f.NumberTooBig t n e = too_big text rest tokens t e
 due_at text rest tokens f.OpenComment t n e = open_end text rest tokens t e
-due_at text rest tokens f.NoMemory t n e = tt
 
 pub refused : (text rest : Text) (tokens : List Token) (fault : Fault) (why : StErr) → Taken text rest tokens → (length rest == 0) ≡ false → Halts fault (front_of rest)
     → why ≡ refusal_of fault (length text - length rest) → RefusalDue text why

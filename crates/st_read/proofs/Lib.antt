@@ -6,7 +6,9 @@ pub mod SeenLoops
 pub mod Fronts
 pub mod FoundLaws
 pub mod LexSteps
+pub mod Cursors
 pub mod Programs
 pub mod RefusalLaws
 pub mod Numbers
+pub mod WordLaws
 pub mod Told

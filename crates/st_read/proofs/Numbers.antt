@@ -1,5 +1,5 @@
 -- The number that digits stand for, digit by digit, and the kinds of words and signs.
-use Rattle.std.proofs.Common.{◌≡◌, ◌==◌, ◌&&◌, ℕ, zero, suc, ◌+◌, ◌-◌, ◌*◌, ◌<◌, ◌≤◌, Bool, true, false, not, List, [], ◌∷◌, length, drop, Some, None, refl, sym, ap, ◌∙◌, arith, codes, nat_le, if◌then◌else◌}
+use Rattle.std.proofs.Common.{◌≡◌, ◌==◌, ◌&&◌, ℕ, ◌<◌, ◌≤◌, Bool, true, false, not, List, [], ◌∷◌, length, drop, Some, None, refl, sym, ap, ◌∙◌, arith, nat_le, if◌then◌else◌}
 use Rattle.std.proofs.lemmas.Bool.Decides.{nat_tests}
 use Rattle.std.proofs.Math.ListN.{drop_of_length-le}
 use Rattle.grammar.specs.Pieces.{Text, same}
@@ -7,7 +7,9 @@ use Rattle.grammar.proofs.Texts.{and_left, and_right}
 use Rattle.grammar.proofs.Decimals.{grows}
 use Rattle.st_ast.specs.Names.{same_name}
 use Rattle.grammar.specs.Bytes.{digits_from}
-use Rattle.st_ast.specs.Tokens.{Kind, name, outside, literal, semicolon, colon, assigns, dots, open_sign, close_sign, comma, plus, dash, equals, less, keywords, in_table, is_identifier, kind_of_sign_in, number_of, greatest}
+use Rattle.st_ast.specs.Tokens.{keywords, in_table, is_identifier, kind_of_sign_in, sign_kinds, number_of, greatest}
+use Rattle.st_ast.specs.declared.kinds.TokenKind.{TokenKind}
+use Rattle.st_ast.specs.declared.kinds.TokenKind.TheVariants as kinds
 use Rattle.st_ast.specs.Grammar.{code}
 use Rattle.st_read.specs.Lexing.{is_reserved, other_kind, word_kind, sign_kind, value_in}
 
@@ -30,39 +32,38 @@ small_enough digits n i e none l =
 
 -- ---- no word and no sign is a literal
 
-abbrev none_literal : List (Text × Kind) → Bool
+abbrev none_literal : List (Text × TokenKind) → Bool
 none_literal [] = true
-none_literal (p ∷ ps) = not (code p.1 == code literal) && none_literal ps
+none_literal (p ∷ ps) = not (code p.1 == code kinds.Literal) && none_literal ps
 
-no_literal : (kind : Kind) → not (code kind == code literal) ≡ true → kind ≡ literal → ⊥
-no_literal kind e is = let f : not (code literal == code literal) ≡ true = ap (λ (k : Kind). not (code k == code literal)) (sym is) ∙ e in absurd cc
+no_literal : (kind : TokenKind) → not (code kind == code kinds.Literal) ≡ true → kind ≡ kinds.Literal → ⊥
+no_literal kind e is = let f : not (code kinds.Literal == code kinds.Literal) ≡ true = ap (λ (k : TokenKind). not (code k == code kinds.Literal)) (sym is) ∙ e in absurd cc
 
-table_apart : (ps : List (Text × Kind)) (w : Text) (other : Kind) → none_literal ps ≡ true → (other ≡ literal → ⊥) → in_table ps w other ≡ literal → ⊥
+table_apart : (ps : List (Text × TokenKind)) (w : Text) (other : TokenKind) → none_literal ps ≡ true → (other ≡ kinds.Literal → ⊥) → in_table ps w other ≡ kinds.Literal → ⊥
 table_apart [] w other e n is = n is
-table_apart (p ∷ ps) w other e n is = go (same_name p.0 w) (table_apart ps w other (and_right (not (code p.1 == code literal)) (none_literal ps) e) n) is
+table_apart (p ∷ ps) w other e n is = go (same_name p.0 w) (table_apart ps w other (and_right (not (code p.1 == code kinds.Literal)) (none_literal ps) e) n) is
   where
-    go : (x : Bool) → (in_table ps w other ≡ literal → ⊥) → (if x then p.1 else in_table ps w other) ≡ literal → ⊥
-    go true ih g = no_literal p.1 (and_left (not (code p.1 == code literal)) (none_literal ps) e) g
+    go : (x : Bool) → (in_table ps w other ≡ kinds.Literal → ⊥) → (if x then p.1 else in_table ps w other) ≡ kinds.Literal → ⊥
+    go true ih g = no_literal p.1 (and_left (not (code p.1 == code kinds.Literal)) (none_literal ps) e) g
     go false ih g = ih g
 
-other_apart : (x y : Bool) → (if x then outside else (if y then name else outside)) ≡ literal → ⊥
-other_apart true y e = no_literal outside refl e
-other_apart false true e = no_literal name refl e
-other_apart false false e = no_literal outside refl e
+other_apart : (x y : Bool) → (if x then kinds.Outside else (if y then kinds.Name else kinds.Outside)) ≡ kinds.Literal → ⊥
+other_apart true y e = no_literal kinds.Outside refl e
+other_apart false true e = no_literal kinds.Name refl e
+other_apart false false e = no_literal kinds.Outside refl e
 
-pub word_apart : (w : Text) → word_kind w ≡ literal → ⊥
+pub word_apart : (w : Text) → word_kind w ≡ kinds.Literal → ⊥
 unfolding word_kind other_kind
 word_apart w e = table_apart keywords w (other_kind w) refl (other_apart (is_reserved w) (is_identifier w)) e
 
-signs_apart : (ps : List (Text × Kind)) (s : Text) → none_literal ps ≡ true → kind_of_sign_in ps s ≡ literal → ⊥
-signs_apart [] s e is = no_literal outside refl is
-signs_apart (p ∷ ps) s e is = go (same p.0 s) (signs_apart ps s (and_right (not (code p.1 == code literal)) (none_literal ps) e)) is
+signs_apart : (ps : List (Text × TokenKind)) (s : Text) → none_literal ps ≡ true → kind_of_sign_in ps s ≡ kinds.Literal → ⊥
+signs_apart [] s e is = no_literal kinds.Outside refl is
+signs_apart (p ∷ ps) s e is = go (same p.0 s) (signs_apart ps s (and_right (not (code p.1 == code kinds.Literal)) (none_literal ps) e)) is
   where
-    go : (x : Bool) → (kind_of_sign_in ps s ≡ literal → ⊥) → (if x then p.1 else kind_of_sign_in ps s) ≡ literal → ⊥
-    go true ih g = no_literal p.1 (and_left (not (code p.1 == code literal)) (none_literal ps) e) g
+    go : (x : Bool) → (kind_of_sign_in ps s ≡ kinds.Literal → ⊥) → (if x then p.1 else kind_of_sign_in ps s) ≡ kinds.Literal → ⊥
+    go true ih g = no_literal p.1 (and_left (not (code p.1 == code kinds.Literal)) (none_literal ps) e) g
     go false ih g = ih g
 
-pub sign_apart : (s : Text) → sign_kind s ≡ literal → ⊥
+pub sign_apart : (s : Text) → sign_kind s ≡ kinds.Literal → ⊥
 unfolding sign_kind
-sign_apart s e = signs_apart ((codes ";", semicolon) ∷ (codes ":", colon) ∷ (codes ":=", assigns) ∷ (codes "..", dots) ∷ (codes "(", open_sign) ∷ (codes ")", close_sign)
-    ∷ (codes ",", comma) ∷ (codes "+", plus) ∷ (codes "-", dash) ∷ (codes "=", equals) ∷ (codes "<", less) ∷ []) s refl e
+sign_apart s e = signs_apart sign_kinds s refl e

@@ -4,7 +4,9 @@ use Rattle.std.proofs.Common.{◌≡◌, ◌==◌, ◌≤◌, ◌+◌, ◌||◌,
 use Rattle.std.proofs.lemmas.List.{length-append}
 use Rattle.grammar.specs.Pieces.{Text, Pieces}
 use Rattle.grammar.specs.Lang.{Lang, ◌&◌, ◌∣◌, ◌<$>◌, many, some, optional, flat}
-use Rattle.st_ast.specs.Tokens.{Kind, Token, Piece, blank, comment, sign, piece, token_of, name, literal, program, end_program, var, var_output, end_var, bool, lint, true_word, false_word, if_word, then_word, elsif_word, else_word, end_if, while_word, do_word, end_while, not_word, and_word, or_word, semicolon, colon, assigns, dots, open_sign, close_sign, plus, dash, equals, less, outside}
+use Rattle.st_ast.specs.Tokens.{Token, Piece, blank, comment, sign, piece, token_of}
+use Rattle.st_ast.specs.declared.kinds.TokenKind.{TokenKind}
+use Rattle.st_ast.specs.declared.kinds.TokenKind.TheVariants as kinds
 use Rattle.st_ast.specs.Tokens as tokens
 use Rattle.st_ast.specs.Tree.{Expr, Stm, Stms, stms_of, Program}
 use Rattle.st_ast.specs.View.{branches_of, other_of}
@@ -21,7 +23,7 @@ use Rattle.st_ast.specs.declared.tree.StClass.TheVariants as class
 -- no token is outside the grammar
 abbrev pub Inside : List Token → Type 0
 Inside [] = Unit {0}
-Inside (t ∷ ts) = (t.kind ≡ outside → ⊥) × Inside ts
+Inside (t ∷ ts) = (t.kind ≡ kinds.Outside → ⊥) × Inside ts
 
 inside_both : (xs ys : List Token) → Inside xs → Inside ys → Inside (xs ++ ys)
 inside_both [] ys h k = k
@@ -35,14 +37,14 @@ Fits {A = A} size p = (a : A) (x : List Token) → p a x → (size a ≤ length 
 abbrev free : {A : Type 0} → A → ℕ
 free a = 0
 
-not_outside : (kind : Kind) (t : Token) → (code kind == code outside) ≡ false → (code kind == sort t || false) ≡ true → t.kind ≡ outside → ⊥
+not_outside : (kind : TokenKind) (t : Token) → (code kind == code kinds.Outside) ≡ false → (code kind == sort t || false) ≡ true → t.kind ≡ kinds.Outside → ⊥
 not_outside kind t e h is =
-    let g : (code kind == code outside || false) ≡ true = ap (λ (k : Kind). code kind == code k || false) (sym is) ∙ h in
-    let f : (code kind == code outside || false) ≡ false = ap (λ (b : Bool). b || false) e in
+    let g : (code kind == code kinds.Outside || false) ≡ true = ap (λ (k : TokenKind). code kind == code k || false) (sym is) ∙ h in
+    let f : (code kind == code kinds.Outside || false) ≡ false = ap (λ (b : Bool). b || false) e in
     let wrong : true ≡ false = sym g ∙ f in
     cc
 
-word_fits : (kind : Kind) → (code kind == code outside) ≡ false → Fits (λ t. 1) (word kind)
+word_fits : (kind : TokenKind) → (code kind == code kinds.Outside) ≡ false → Fits (λ t. 1) (word kind)
 word_fits kind e t x d =
     let one : length x ≡ 1 = ap (λ (ts : List Token). length ts) d.1 in
     (omega arith, subst (λ (ts : List Token). Inside ts) (sym d.1) (not_outside kind t e d.0, tt))
@@ -100,34 +102,34 @@ plain_fits h b x d = let m = h d.0 x d.1 in (omega arith, m.1)
 -- ---- expressions
 
 identifier_fits : Fits free identifier
-identifier_fits = plain_fits (word_fits name refl)
+identifier_fits = plain_fits (word_fits kinds.Name refl)
 
 natural_fits : Fits free natural
-natural_fits = plain_fits (word_fits literal refl)
+natural_fits = plain_fits (word_fits kinds.Literal refl)
 
 module _ (inner : Level → Lang Token Expr) (h : (l : Level) → Fits free (inner l)) where
   prim_fits : Fits free (prim inner)
-  prim_fits = either_fits (plain_fits (word_fits true_word refl)) (either_fits (plain_fits (word_fits false_word refl))
+  prim_fits = either_fits (plain_fits (word_fits kinds.True refl)) (either_fits (plain_fits (word_fits kinds.False refl))
       (either_fits (plain_fits natural_fits) (either_fits (plain_fits identifier_fits)
-      (plain_fits (both_fits (word_fits open_sign refl) (both_fits (h at_or) (word_fits close_sign refl)))))))
+      (plain_fits (both_fits (word_fits kinds.Open refl) (both_fits (h at_or) (word_fits kinds.Close refl)))))))
 
   unary_fits : Fits free (unary inner)
-  unary_fits = either_fits (plain_fits (both_fits (word_fits not_word refl) (h at_unary))) prim_fits
+  unary_fits = either_fits (plain_fits (both_fits (word_fits kinds.Not refl) (h at_unary))) prim_fits
 
   summed_fits : Fits free (summed inner)
-  summed_fits = either_fits unary_fits (plain_fits (both_fits (h at_unary) (some_fits (both_fits (word_fits plus refl) (h at_unary)))))
+  summed_fits = either_fits unary_fits (plain_fits (both_fits (h at_unary) (some_fits (both_fits (word_fits kinds.Plus refl) (h at_unary)))))
 
   ordered_fits : Fits free (ordered inner)
-  ordered_fits = either_fits summed_fits (plain_fits (both_fits (h at_sum) (both_fits (word_fits less refl) (h at_sum))))
+  ordered_fits = either_fits summed_fits (plain_fits (both_fits (h at_sum) (both_fits (word_fits kinds.Less refl) (h at_sum))))
 
   equated_fits : Fits free (equated inner)
-  equated_fits = either_fits ordered_fits (plain_fits (both_fits (h at_order) (both_fits (word_fits equals refl) (h at_order))))
+  equated_fits = either_fits ordered_fits (plain_fits (both_fits (h at_order) (both_fits (word_fits kinds.Equals refl) (h at_order))))
 
   conjunction_fits : Fits free (conjunction inner)
-  conjunction_fits = either_fits equated_fits (plain_fits (both_fits (h at_equal) (some_fits (both_fits (word_fits and_word refl) (h at_equal)))))
+  conjunction_fits = either_fits equated_fits (plain_fits (both_fits (h at_equal) (some_fits (both_fits (word_fits kinds.And refl) (h at_equal)))))
 
   disjunction_fits : Fits free (disjunction inner)
-  disjunction_fits = either_fits conjunction_fits (plain_fits (both_fits (h at_and) (some_fits (both_fits (word_fits or_word refl) (h at_and)))))
+  disjunction_fits = either_fits conjunction_fits (plain_fits (both_fits (h at_and) (some_fits (both_fits (word_fits kinds.Or refl) (h at_and)))))
 
   level_fits : (l : Level) → Fits free (level inner l)
   level_fits at_or = disjunction_fits
@@ -149,7 +151,7 @@ expression_fits = disjunction_fits (below max_depth) (below_fits max_depth)
 -- ---- statements
 
 assignment_fits : Fits stm_count assignment
-assignment_fits = map_fits (both_fits identifier_fits (both_fits (word_fits assigns refl) (both_fits expression_fits (word_fits semicolon refl)))) stm_count _ (λ v. omega arith)
+assignment_fits = map_fits (both_fits identifier_fits (both_fits (word_fits kinds.Assigns refl) (both_fits expression_fits (word_fits kinds.Semicolon refl)))) stm_count _ (λ v. omega arith)
 
 stms_total : (ss : List Stm) → stms_count (stms_of ss) ≡ total stm_count ss
 stms_total [] = refl
@@ -167,16 +169,16 @@ other_small None = omega arith
 other_small (Some w) = let e = stms_total w.1 in omega (arith, e)
 
 module _ (body : Lang Token (List Stm)) (b : Fits (total stm_count) body) where
-  guarded_fits : (kind : Kind) → (code kind == code outside) ≡ false → Fits guarded_size (guarded body kind)
+  guarded_fits : (kind : TokenKind) → (code kind == code kinds.Outside) ≡ false → Fits guarded_size (guarded body kind)
   guarded_fits kind e = map_fits (both_fits expression_fits (both_fits (word_fits kind e) b)) guarded_size _ (λ v. let m = stms_total v.1.1 in omega (arith, m))
 
   conditional_fits : Fits stm_count (conditional body)
-  conditional_fits = map_fits (both_fits (word_fits if_word refl) (both_fits (guarded_fits then_word refl) (both_fits (many_fits (both_fits (word_fits elsif_word refl) (guarded_fits then_word refl)))
-      (both_fits (optional_fits (both_fits (word_fits else_word refl) b)) (both_fits (word_fits end_if refl) (word_fits semicolon refl)))))) stm_count _
+  conditional_fits = map_fits (both_fits (word_fits kinds.If refl) (both_fits (guarded_fits kinds.Then refl) (both_fits (many_fits (both_fits (word_fits kinds.Elsif refl) (guarded_fits kinds.Then refl)))
+      (both_fits (optional_fits (both_fits (word_fits kinds.Else refl) b)) (both_fits (word_fits kinds.EndIf refl) (word_fits kinds.Semicolon refl)))))) stm_count _
       (λ v. let m = branches_small v.1.1.0 in let n = other_small v.1.1.1.0 in omega (arith, m, n))
 
   repetition_fits : Fits stm_count (repetition body)
-  repetition_fits = map_fits (both_fits (word_fits while_word refl) (both_fits (guarded_fits do_word refl) (both_fits (word_fits end_while refl) (word_fits semicolon refl)))) stm_count _ (λ v. omega arith)
+  repetition_fits = map_fits (both_fits (word_fits kinds.While refl) (both_fits (guarded_fits kinds.Do refl) (both_fits (word_fits kinds.EndWhile refl) (word_fits kinds.Semicolon refl)))) stm_count _ (λ v. omega arith)
 
 statement_fits : (n : ℕ) → Fits stm_count (statement n)
 unfolding statement
@@ -188,32 +190,32 @@ statement_fits (suc n) s x d =
 -- ---- declarations
 
 signed_fits : Fits free signed
-signed_fits = either_fits (plain_fits (both_fits (word_fits dash refl) natural_fits)) natural_fits
+signed_fits = either_fits (plain_fits (both_fits (word_fits kinds.Dash refl) natural_fits)) natural_fits
 
 first_value_fits : Fits free first_value
-first_value_fits = either_fits (plain_fits (word_fits true_word refl)) (either_fits (plain_fits (word_fits false_word refl)) (plain_fits signed_fits))
+first_value_fits = either_fits (plain_fits (word_fits kinds.True refl)) (either_fits (plain_fits (word_fits kinds.False refl)) (plain_fits signed_fits))
 
 type_use_fits : Fits free type_use
-type_use_fits = either_fits (plain_fits (word_fits bool refl)) (plain_fits (both_fits (word_fits lint refl)
-    (optional_fits (both_fits (word_fits open_sign refl) (both_fits signed_fits (both_fits (word_fits dots refl) (both_fits signed_fits (word_fits close_sign refl))))))))
+type_use_fits = either_fits (plain_fits (word_fits kinds.Bool refl)) (plain_fits (both_fits (word_fits kinds.Lint refl)
+    (optional_fits (both_fits (word_fits kinds.Open refl) (both_fits signed_fits (both_fits (word_fits kinds.Dots refl) (both_fits signed_fits (word_fits kinds.Close refl))))))))
 
 abbrev one_each : StVar → ℕ
 one_each v = 1
 
 declaration_fits : (k : StClass) → Fits one_each (declaration k)
-declaration_fits k = map_fits (both_fits identifier_fits (both_fits (word_fits colon refl) (both_fits type_use_fits
-    (both_fits (optional_fits (both_fits (word_fits assigns refl) first_value_fits)) (word_fits semicolon refl))))) one_each _ (λ v. omega arith)
+declaration_fits k = map_fits (both_fits identifier_fits (both_fits (word_fits kinds.Colon refl) (both_fits type_use_fits
+    (both_fits (optional_fits (both_fits (word_fits kinds.Assigns refl) first_value_fits)) (word_fits kinds.Semicolon refl))))) one_each _ (λ v. omega arith)
 
 length_total : (vs : List StVar) → length vs ≡ total one_each vs
 length_total [] = refl
 length_total (v ∷ vs) = let m = length_total vs in omega (arith, m)
 
-block_of_fits : (kind : Kind) (k : StClass) → (code kind == code outside) ≡ false → Fits (λ vs. length vs) (block_of kind k)
-block_of_fits kind k e = map_fits (both_fits (word_fits kind e) (both_fits (many_fits (declaration_fits k)) (word_fits end_var refl))) (λ vs. length vs) _
+block_of_fits : (kind : TokenKind) (k : StClass) → (code kind == code kinds.Outside) ≡ false → Fits (λ vs. length vs) (block_of kind k)
+block_of_fits kind k e = map_fits (both_fits (word_fits kind e) (both_fits (many_fits (declaration_fits k)) (word_fits kinds.EndVar refl))) (λ vs. length vs) _
     (λ v. let m = length_total v.1.0 in omega (arith, m))
 
 block_fits : Fits (λ (vs : List StVar). length vs) block
-block_fits = either_fits (block_of_fits var class.Plain refl) (block_of_fits var_output class.Output refl)
+block_fits = either_fits (block_of_fits kinds.Var class.Plain refl) (block_of_fits kinds.VarOutput class.Output refl)
 
 flat_total : (vss : List (List StVar)) → length (flat vss) ≡ total (λ vs. length vs) vss
 flat_total [] = refl
@@ -226,7 +228,7 @@ program_size p = length p.vars + stms_count p.body
 
 pub whole_fits : (p : Program) (ts : List Token) → whole p ts → (length p.vars + stms_count p.body ≤ length ts) × Inside ts
 unfolding whole
-whole_fits = map_fits (both_fits (word_fits program refl) (both_fits identifier_fits (both_fits (many_fits block_fits) (both_fits (many_fits (statement_fits max_depth)) (word_fits end_program refl))))) program_size _
+whole_fits = map_fits (both_fits (word_fits kinds.Program refl) (both_fits identifier_fits (both_fits (many_fits block_fits) (both_fits (many_fits (statement_fits max_depth)) (word_fits kinds.EndProgram refl))))) program_size _
     (λ v. let m = flat_total v.1.1.0 in let n = stms_total v.1.1.1.0 in omega (arith, m, n))
 
 -- ---- no inputs
@@ -243,12 +245,12 @@ declarations_no_inputs : (k : StClass) → is_input k ≡ false → (vs : List S
 declarations_no_inputs k e [] x d = tt
 declarations_no_inputs k e (v ∷ vs) x d = (ap (λ (u : StVar). is_input u.class) d.2.2 ∙ e, declarations_no_inputs k e vs d.1 d.3)
 
-block_of_no_inputs : (kind : Kind) (k : StClass) → is_input k ≡ false → (vs : List StVar) (x : List Token) → block_of kind k vs x → NoInputs vs
+block_of_no_inputs : (kind : TokenKind) (k : StClass) → is_input k ≡ false → (vs : List StVar) (x : List Token) → block_of kind k vs x → NoInputs vs
 block_of_no_inputs kind k e vs x d = subst (λ us. NoInputs us) (sym d.2) (declarations_no_inputs k e d.0.1.0 d.1.3.0 d.1.3.2)
 
 block_no_inputs : (vs : List StVar) (x : List Token) → block vs x → NoInputs vs
-block_no_inputs vs x (inl d) = block_of_no_inputs var class.Plain refl vs x d
-block_no_inputs vs x (inr d) = block_of_no_inputs var_output class.Output refl vs x d
+block_no_inputs vs x (inl d) = block_of_no_inputs kinds.Var class.Plain refl vs x d
+block_no_inputs vs x (inr d) = block_of_no_inputs kinds.VarOutput class.Output refl vs x d
 
 blocks_no_inputs : (vss : List (List StVar)) (x : List Token) → many block vss x → NoInputs (flat vss)
 blocks_no_inputs [] x d = tt

@@ -1,13 +1,14 @@
 -- Where a refusal is due a text derives no program.
-use Rattle.std.proofs.Common.{◌≡◌, ◌&&◌, ◌||◌, ℕ, ◌≤◌, Bool, true, false, nat_le, List, [], ◌∷◌, ◌++◌, length, All, Option, Some, None, refl, sym, ap, subst, ◌∙◌, arith, codes, filter_map}
+use Rattle.std.proofs.Common.{◌≡◌, ◌&&◌, ℕ, ◌≤◌, Bool, true, false, nat_le, List, [], ◌∷◌, ◌++◌, length, All, Option, Some, None, refl, sym, ap, subst, ◌∙◌, arith, codes, filter_map}
 use Rattle.std.specs.Option.{option_or}
-use Rattle.std.proofs.lemmas.List.Elements.{All-nil, All-cons, All-head, All-tail}
+use Rattle.std.proofs.lemmas.List.Elements.{All-nil, All-cons, All-head}
 use Rattle.std.proofs.lemmas.Bool.{or_parts}
 use Rattle.std.proofs.lemmas.Bool.Decides.{nat_tests}
-use Rattle.grammar.specs.Pieces.{Text, IsLongest, Pieces, Cut, text_cut}
+use Rattle.grammar.specs.Pieces.{Text, Pieces, Cut, text_cut}
 use Rattle.grammar.proofs.Begun.{some_byte, one_piece, front_goes_on, all_tail}
 use Rattle.grammar.proofs.Closing.{unclosed}
-use Rattle.st_ast.specs.Tokens.{Token, Piece, blank, comment, word, number, sign, outside, piece, signs, is_sign, opens_comment, token_of, number_of, greatest, kind_of_number}
+use Rattle.st_ast.specs.Tokens.{Token, Piece, blank, comment, word, number, sign, piece, signs, is_sign, opens_comment, token_of, number_of, greatest, kind_of_number}
+use Rattle.st_ast.specs.declared.kinds.TokenKind.TheVariants as kinds
 use Rattle.st_ast.specs.Tree.{Program}
 use Rattle.st_lex.specs.Cutting.{piece_cut}
 use Rattle.st_lex.proofs.CuttingLaws.{piece_cuts}
@@ -104,7 +105,7 @@ no_open_comment text at due tokens t =
 
 -- ---- the numbers of a program are in range
 
-range_of : (d : Text) → (kind_of_number d ≡ outside → ⊥) → number_of d ≤ greatest
+range_of : (d : Text) → (kind_of_number d ≡ kinds.Outside → ⊥) → number_of d ≤ greatest
 range_of d h = go (nat_le (number_of d) greatest) refl
   where
     go : (x : Bool) → nat_le (number_of d) greatest ≡ x → number_of d ≤ greatest

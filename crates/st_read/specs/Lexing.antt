@@ -4,7 +4,9 @@ use Rattle.std.specs.List.{list_any}
 use Rattle.grammar.specs.Pieces.{Text, run_of, strip, rest_after}
 use Rattle.st_ast.specs.Names.{same_name}
 use Rattle.grammar.specs.Bytes.{is_blank, begins_word, is_digit, is_wordy}
-use Rattle.st_ast.specs.Tokens.{Kind, Token, Piece, blank, comment, word, number, sign, Tokens, signs, name, literal, outside, keywords, reserved, in_table, is_identifier, number_of, greatest, kind_of_sign}
+use Rattle.st_ast.specs.Tokens.{Token, Piece, blank, comment, word, number, sign, Tokens, signs, keywords, reserved, in_table, is_identifier, number_of, greatest, kind_of_sign}
+use Rattle.st_ast.specs.declared.kinds.TokenKind.{TokenKind}
+use Rattle.st_ast.specs.declared.kinds.TokenKind.TheVariants as kinds
 use Rattle.st_read.specs.declared.found.Fault.{Fault}
 use Rattle.st_read.specs.declared.found.Fault.TheVariants as f
 use Rattle.st_read.specs.declared.error.StErr.{StErr}
@@ -14,12 +16,11 @@ use Rattle.st_read.specs.declared.error.StErr.TheVariants as err
 abbrev pub Found : Type 0
 Found = Result (Option Token × Text) Fault
 
--- the fault that the code found, unless memory ran out
+-- the fault that the code found
 abbrev pub Halts : Fault → Found → Type 0
 Halts f.BadByte found = found ≡ Err f.BadByte
 Halts f.NumberTooBig found = found ≡ Err f.NumberTooBig
 Halts f.OpenComment found = found ≡ Err f.OpenComment
-Halts f.NoMemory found = Unit {0}
 
 -- what the code returned, and what is found
 abbrev pub Finds : {X : Type 0} → (X → Option Token × Text) → Result X Fault → Found → Type 0
@@ -31,7 +32,6 @@ abbrev pub refusal_of : Fault → ℕ → StErr
 refusal_of f.BadByte at = err.StBadByte at
 refusal_of f.NumberTooBig at = err.StNumberTooBig at
 refusal_of f.OpenComment at = err.StOpenComment at
-refusal_of f.NoMemory at = err.Memory
 
 -- the tests of bytes, each as one word
 unfoldable pub letter : ℕ → Bool
@@ -46,14 +46,18 @@ digit b = is_digit b
 unfoldable pub is_reserved : Text → Bool
 is_reserved w = list_any (λ r. same_name r w) reserved
 
--- the kind of a word that is no keyword
-unfoldable pub other_kind : Text → Kind
-other_kind w = if is_reserved w then outside else (if is_identifier w then name else outside)
+-- the kind of a word that is not reserved
+abbrev pub name_kind : Text → TokenKind
+name_kind w = if is_identifier w then kinds.Name else kinds.Outside
 
-unfoldable pub word_kind : Text → Kind
+-- the kind of a word that is no keyword
+unfoldable pub other_kind : Text → TokenKind
+other_kind w = if is_reserved w then kinds.Outside else name_kind w
+
+unfoldable pub word_kind : Text → TokenKind
 word_kind w = in_table keywords w (other_kind w)
 
-unfoldable pub sign_kind : Text → Kind
+unfoldable pub sign_kind : Text → TokenKind
 sign_kind s = kind_of_sign s
 
 abbrev pub worded : Text × Text → Found
@@ -65,7 +69,7 @@ value_in d = if nat_le (number_of d) greatest then Some (number_of d) else None
 
 abbrev pub with_value : Text × Text → Option ℕ → Found
 with_value w None = Err f.NumberTooBig
-with_value w (Some n) = Ok (Some (record { kind = literal; text = w.0 }), w.1)
+with_value w (Some n) = Ok (Some (record { kind = kinds.Literal; text = w.0 }), w.1)
 
 abbrev pub numbered : Text × Text → Found
 numbered w = with_value w (value_in w.0)

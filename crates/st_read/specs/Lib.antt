@@ -1,9 +1,9 @@
 pub mod Reading
-pub mod Kinds
 pub mod Gives
 pub mod ReadsUnary
 pub mod ReadsStatement
 pub mod Lexing
 pub mod Told
+pub mod Cursor
 pub mod Derives
 pub mod Refusals

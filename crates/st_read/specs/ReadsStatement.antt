@@ -1,7 +1,6 @@
 -- A function value that reads statements, so deep.
 use Rattle.std.specs.Prelude.{ℕ, List, Result}
 use Rattle.std.specs.declared.alloc.Global.{Global}
-use denote.Ref.{Bor}
 use Rattle.st_ast.specs.Tokens.{Token}
 use Rattle.st_ast.specs.View.{view_stmt}
 use Rattle.st_ast.specs.declared.tree.Stmt.{Stmt}
@@ -9,8 +8,8 @@ use Rattle.st_read.specs.declared.error.Stop.{Stop}
 use Rattle.st_read.specs.Gives.{Gives}
 use Rattle.st_read.specs.Reading.{statement_at}
 
-pub record ReadsStatement (depth : ℕ) (pre : Global → Bor (List Token) → ℕ → Type 0)
-    (post : Global → Bor (List Token) → ℕ → Result (Stmt × Bor (List Token)) Stop → Type 0) : Type 0 where
-  pub callable : (alloc : Global) (tokens : Bor (List Token)) → pre alloc tokens depth
-  pub reads : (alloc : Global) (tokens : Bor (List Token)) (r : Result (Stmt × Bor (List Token)) Stop) → post alloc tokens depth r
-      → Gives (λ x. (view_stmt x.0, x.1.now)) r (statement_at depth tokens.now)
+pub record ReadsStatement (depth : ℕ) (pre : Global → List Token → ℕ → Type 0)
+    (post : Global → List Token → ℕ → Result (Stmt × List Token) Stop → Type 0) : Type 0 where
+  pub callable : (alloc : Global) (tokens : List Token) → pre alloc tokens depth
+  pub reads : (alloc : Global) (tokens : List Token) (r : Result (Stmt × List Token) Stop) → post alloc tokens depth r
+      → Gives (λ x. (view_stmt x.0, x.1)) r (statement_at depth tokens)

@@ -1,7 +1,6 @@
 -- A function value that reads operands, so deep.
 use Rattle.std.specs.Prelude.{ℕ, List, Result}
 use Rattle.std.specs.declared.alloc.Global.{Global}
-use denote.Ref.{Bor}
 use Rattle.st_ast.specs.Tokens.{Token}
 use Rattle.st_ast.specs.View.{view_expr}
 use Rattle.st_ast.specs.declared.tree.StExpr.{StExpr}
@@ -9,8 +8,8 @@ use Rattle.st_read.specs.declared.error.Stop.{Stop}
 use Rattle.st_read.specs.Gives.{Gives}
 use Rattle.st_read.specs.Reading.{unary_at}
 
-pub record ReadsUnary (fuel : ℕ) (pre : Global → Bor (List Token) → ℕ → Type 0)
-    (post : Global → Bor (List Token) → ℕ → Result ((StExpr × ℕ) × Bor (List Token)) Stop → Type 0) : Type 0 where
-  pub callable : (alloc : Global) (tokens : Bor (List Token)) → pre alloc tokens fuel
-  pub reads : (alloc : Global) (tokens : Bor (List Token)) (r : Result ((StExpr × ℕ) × Bor (List Token)) Stop) → post alloc tokens fuel r
-      → Gives (λ x. ((view_expr x.0.0, x.0.1), x.1.now)) r (unary_at fuel tokens.now)
+pub record ReadsUnary (fuel : ℕ) (pre : Global → List Token → ℕ → Type 0)
+    (post : Global → List Token → ℕ → Result ((StExpr × ℕ) × List Token) Stop → Type 0) : Type 0 where
+  pub callable : (alloc : Global) (tokens : List Token) → pre alloc tokens fuel
+  pub reads : (alloc : Global) (tokens : List Token) (r : Result ((StExpr × ℕ) × List Token) Stop) → post alloc tokens fuel r
+      → Gives (λ x. ((view_expr x.0.0, x.0.1), x.1)) r (unary_at fuel tokens)

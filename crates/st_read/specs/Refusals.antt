@@ -1,5 +1,5 @@
 -- Why a text is not read, at which place.
-use Rattle.std.specs.Prelude.{◌≡◌, ℕ, ◌+◌, ◌≤◌, ◌<◌, false, List, [], ◌∷◌, ◌++◌, length}
+use Rattle.std.specs.Prelude.{◌≡◌, ℕ, ◌+◌, ◌≤◌, ◌<◌, false, List, ◌∷◌, ◌++◌, length}
 use Rattle.grammar.specs.Pieces.{Text, IsLongest, Begun}
 use Rattle.st_ast.specs.Tokens.{Piece, number, piece, opens_comment, number_of, greatest}
 use Rattle.st_ast.specs.Tree.{Program}

@@ -2,26 +2,24 @@
 
 ghost use Rattle.std.specs.Prelude.{◌≡◌, map};
 ghost use Rattle.st_ast.specs.Grammar as grammar;
-ghost use Rattle.st_ast.specs.Tokens as k;
 ghost use Rattle.grammar.specs.Loops.{after};
 ghost use Rattle.grammar.specs.Reader as reader;
 ghost use Rattle.st_read.specs.Gives.{Gives};
-ghost use Rattle.st_read.specs.Kinds.{seen};
 ghost use Rattle.st_read.specs.Reading as reading;
 
 use crate::names::{identifier, natural};
-use crate::tokens::{Kind, Read, Token, starts, word};
+use crate::tokens::{Read, Tokens, starts, word};
 use cif_base::Items;
-use st_ast::{StClass, StLit, StTy, StVar};
+use st_ast::{StClass, StLit, StTy, StVar, TokenKind};
 use std::alloc::Global;
 
 /// A number, perhaps with a sign before it.
 #[tactic(auto, unfolding(crate::specs::Reading::signed_at))]
-fn signed(tokens: &[Token]) -> Read<'_, i64>
-    ensures { Gives (λ x. (x.0, x.1.now)) result (reading.signed_at tokens.now) }
+fn signed(tokens: Tokens<'_>) -> Read<'_, i64>
+    ensures { Gives (λ x. (x.0, x.1)) result (reading.signed_at tokens.entry) }
 {
-    if starts(tokens, &[Kind::Dash]) {
-        let (_dash, rest) = word(tokens, Kind::Dash)?;
+    if starts(&tokens, &[TokenKind::Dash]) {
+        let (_dash, rest) = word(tokens, TokenKind::Dash)?;
         let (value, rest) = natural(rest)?;
         Ok((-(value as i64), rest))
     } else {
@@ -31,14 +29,14 @@ fn signed(tokens: &[Token]) -> Read<'_, i64>
 }
 
 #[tactic(auto, unfolding(crate::specs::Reading::first_value_at))]
-fn first_value(tokens: &[Token]) -> Read<'_, StLit>
-    ensures { Gives (λ x. (x.0, x.1.now)) result (reading.first_value_at tokens.now) }
+fn first_value(tokens: Tokens<'_>) -> Read<'_, StLit>
+    ensures { Gives (λ x. (x.0, x.1)) result (reading.first_value_at tokens.entry) }
 {
-    if starts(tokens, &[Kind::True]) {
-        let (_true, rest) = word(tokens, Kind::True)?;
+    if starts(&tokens, &[TokenKind::True]) {
+        let (_true, rest) = word(tokens, TokenKind::True)?;
         Ok((StLit::Bool(true), rest))
-    } else if starts(tokens, &[Kind::False]) {
-        let (_false, rest) = word(tokens, Kind::False)?;
+    } else if starts(&tokens, &[TokenKind::False]) {
+        let (_false, rest) = word(tokens, TokenKind::False)?;
         Ok((StLit::Bool(false), rest))
     } else {
         let (value, rest) = signed(tokens)?;
@@ -48,27 +46,27 @@ fn first_value(tokens: &[Token]) -> Read<'_, StLit>
 
 /// `LINT`, perhaps with the bounds of a subrange.
 #[tactic(auto, unfolding(crate::specs::Reading::subrange_at))]
-fn integer_type(tokens: &[Token]) -> Read<'_, StTy>
-    ensures { Gives (λ x. (x.0, x.1.now)) result (reader.map_at reading.number_type (reader.both_at (reading.word_at k.lint) reading.subrange_at) tokens.now) }
+fn integer_type(tokens: Tokens<'_>) -> Read<'_, StTy>
+    ensures { Gives (λ x. (x.0, x.1)) result (reader.map_at reading.number_type (reader.both_at (reading.word_at TokenKind.Lint) reading.subrange_at) tokens.entry) }
 {
-    let (_lint, rest) = word(tokens, Kind::Lint)?;
-    if !starts(rest, &[Kind::Open]) {
+    let (_lint, rest) = word(tokens, TokenKind::Lint)?;
+    if !starts(&rest, &[TokenKind::Open]) {
         return Ok((StTy::Lint, rest));
     }
-    let (_open, rest) = word(rest, Kind::Open)?;
+    let (_open, rest) = word(rest, TokenKind::Open)?;
     let (lo, rest) = signed(rest)?;
-    let (_dots, rest) = word(rest, Kind::Dots)?;
+    let (_dots, rest) = word(rest, TokenKind::Dots)?;
     let (hi, rest) = signed(rest)?;
-    let (_close, rest) = word(rest, Kind::Close)?;
+    let (_close, rest) = word(rest, TokenKind::Close)?;
     Ok((StTy::Range { lo, hi }, rest))
 }
 
 #[tactic(auto, unfolding(crate::specs::Reading::type_at))]
-fn type_use(tokens: &[Token]) -> Read<'_, StTy>
-    ensures { Gives (λ x. (x.0, x.1.now)) result (reading.type_at tokens.now) }
+fn type_use(tokens: Tokens<'_>) -> Read<'_, StTy>
+    ensures { Gives (λ x. (x.0, x.1)) result (reading.type_at tokens.entry) }
 {
-    if starts(tokens, &[Kind::Bool]) {
-        let (_bool, rest) = word(tokens, Kind::Bool)?;
+    if starts(&tokens, &[TokenKind::Bool]) {
+        let (_bool, rest) = word(tokens, TokenKind::Bool)?;
         Ok((StTy::Bool, rest))
     } else {
         integer_type(tokens)
@@ -77,27 +75,27 @@ fn type_use(tokens: &[Token]) -> Read<'_, StTy>
 
 /// The sign `:=` and the first value, where they come.
 #[tactic(auto, unfolding(crate::specs::Reading::init_at))]
-fn init(tokens: &[Token]) -> Read<'_, Option<StLit>>
-    ensures { Gives (λ x. (x.0, x.1.now)) result (reading.init_at tokens.now) }
+fn init(tokens: Tokens<'_>) -> Read<'_, Option<StLit>>
+    ensures { Gives (λ x. (x.0, x.1)) result (reading.init_at tokens.entry) }
 {
-    if !starts(tokens, &[Kind::Assigns]) {
+    if !starts(&tokens, &[TokenKind::Assigns]) {
         return Ok((None, tokens));
     }
-    let (_assigns, rest) = word(tokens, Kind::Assigns)?;
+    let (_assigns, rest) = word(tokens, TokenKind::Assigns)?;
     let (value, rest) = first_value(rest)?;
     Ok((Some(value), rest))
 }
 
 /// A declaration in a block of that class.
 #[tactic(auto, unfolding(crate::specs::Reading::declaration_at))]
-fn declaration(alloc: Global, tokens: &[Token], class: StClass) -> Read<'_, StVar>
-    ensures { Gives (λ x. (x.0, x.1.now)) result (reading.declaration_at class tokens.now) }
+fn declaration(alloc: Global, tokens: Tokens<'_>, class: StClass) -> Read<'_, StVar>
+    ensures { Gives (λ x. (x.0, x.1)) result (reading.declaration_at class tokens.entry) }
 {
     let (name, rest) = identifier(alloc, tokens)?;
-    let (_colon, rest) = word(rest, Kind::Colon)?;
+    let (_colon, rest) = word(rest, TokenKind::Colon)?;
     let (ty, rest) = type_use(rest)?;
     let (init, rest) = init(rest)?;
-    let (_semicolon, rest) = word(rest, Kind::Semicolon)?;
+    let (_semicolon, rest) = word(rest, TokenKind::Semicolon)?;
     let variable = StVar {
         name,
         class,
@@ -110,15 +108,16 @@ fn declaration(alloc: Global, tokens: &[Token], class: StClass) -> Read<'_, StVa
 #[tactic(auto, using(grammar::proofs::Loops::after_step, grammar::proofs::Loops::after_stop, grammar::proofs::Loops::after_fail, grammar::proofs::Loops::after_end))]
 fn declarations(
     alloc: Global,
-    tokens: &[Token],
+    tokens: Tokens<'_>,
     class: StClass,
     mut found: Items<StVar>,
 ) -> Read<'_, Items<StVar>>
-    ensures { Gives (λ x. (x.0, x.1.now)) result (after found (reader.many_at grammar.sort (reading.first k.name) (reading.declaration_at class) tokens.now)) }
+    ensures { Gives (λ x. (x.0, x.1)) result (after found (reader.many_at grammar.sort (reading.first TokenKind.Name) (reading.declaration_at class) tokens.entry)) }
 {
+    let most = tokens.len();
     let mut rest = tokens;
-    for _turn in 0..tokens.len() {
-        if !starts(rest, &[Kind::Name]) {
+    for _turn in 0..most {
+        if !starts(&rest, &[TokenKind::Name]) {
             return Ok((found, rest));
         }
         let (item, left) = declaration(alloc, rest, class)?;
@@ -132,38 +131,39 @@ fn declarations(
 #[tactic(auto, using(grammar::proofs::Loops::after_none), unfolding(crate::specs::Reading::block_of_at))]
 fn block_of(
     alloc: Global,
-    tokens: &[Token],
-    opening: Kind,
+    tokens: Tokens<'_>,
+    opening: TokenKind,
     class: StClass,
 ) -> Read<'_, Items<StVar>>
-    ensures { Gives (λ x. (x.0, x.1.now)) result (reading.block_of_at (seen opening) class tokens.now) }
+    ensures { Gives (λ x. (x.0, x.1)) result (reading.block_of_at opening class tokens.entry) }
 {
     let (_opening, rest) = word(tokens, opening)?;
     let (found, rest) = declarations(alloc, rest, class, Items::new(alloc))?;
-    let (_end, rest) = word(rest, Kind::EndVar)?;
+    let (_end, rest) = word(rest, TokenKind::EndVar)?;
     Ok((found, rest))
 }
 
 #[tactic(auto, unfolding(crate::specs::Reading::block_at))]
-fn block(alloc: Global, tokens: &[Token]) -> Read<'_, Items<StVar>>
-    ensures { Gives (λ x. (x.0, x.1.now)) result (reading.block_at tokens.now) }
+fn block(alloc: Global, tokens: Tokens<'_>) -> Read<'_, Items<StVar>>
+    ensures { Gives (λ x. (x.0, x.1)) result (reading.block_at tokens.entry) }
 {
-    if starts(tokens, &[Kind::Var]) {
-        block_of(alloc, tokens, Kind::Var, StClass::Plain)
+    if starts(&tokens, &[TokenKind::Var]) {
+        block_of(alloc, tokens, TokenKind::Var, StClass::Plain)
     } else {
-        block_of(alloc, tokens, Kind::VarOutput, StClass::Output)
+        block_of(alloc, tokens, TokenKind::VarOutput, StClass::Output)
     }
 }
 
 /// The declarations of all blocks as one list.
 #[tactic(auto, using(grammar::proofs::Loops::flat_step, grammar::proofs::Loops::flat_stop, grammar::proofs::Loops::flat_fail, grammar::proofs::Loops::flat_end), unfolding(crate::specs::Reading::variables_at))]
-pub fn variables(alloc: Global, tokens: &[Token]) -> Read<'_, Items<StVar>>
-    ensures { Gives (λ x. (x.0, x.1.now)) result (reading.variables_at tokens.now) }
+pub fn variables(alloc: Global, tokens: Tokens<'_>) -> Read<'_, Items<StVar>>
+    ensures { Gives (λ x. (x.0, x.1)) result (reading.variables_at tokens.entry) }
 {
     let mut found = Items::new(alloc);
+    let most = tokens.len();
     let mut rest = tokens;
-    for _turn in 0..tokens.len() {
-        if !starts(rest, &[Kind::Var, Kind::VarOutput]) {
+    for _turn in 0..most {
+        if !starts(&rest, &[TokenKind::Var, TokenKind::VarOutput]) {
             return Ok((found, rest));
         }
         let (more, left) = block(alloc, rest)?;

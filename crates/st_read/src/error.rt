@@ -37,7 +37,7 @@ impl<T: Drop> From<AllocFailed<T>> for StErr {
     }
 }
 
-/// Why a reader of tokens stopped: memory ran out, or it can't go on with so many tokens left.
+/// Why a reader of tokens stopped: memory ran out, or it can't go on with so many bytes left.
 #[derive(Clone, Copy, Debug, PartialEq, Eq)]
 pub enum Stop {
     NoMemory,

@@ -5,45 +5,37 @@ ghost use Rattle.std.specs.Option.{option_copied};
 ghost use Rattle.grammar.specs.Pieces as pieces;
 ghost use Rattle.grammar.specs.Pieces.{run_of, strip};
 ghost use Rattle.st_ast.specs.Tokens as k;
-ghost use Rattle.st_read.specs.Kinds.{seen};
+ghost use Rattle.st_read.specs.Cursor.{first_in, token_at, tokens_in};
 ghost use Rattle.st_read.specs.Lexing as lexing;
 ghost use Rattle.st_read.specs.Lexing.{Finds, Lexes, refusal_of};
 ghost use Rattle.st_read.specs.Refusals.{RefusalDue};
 
 use crate::error::StErr;
-use crate::found::{Fault, Found};
-use crate::tokens::{Kind, Token};
+use crate::found::{Fault, Found, Token};
 use crate::words::{begins_word, is_blank, is_digit, is_wordy, kind_of_word, value_of};
-use cif_base::{Items, Text};
-use std::alloc::Global;
+use st_ast::TokenKind;
 
-/// The signs, the longer ones first.
-static SIGNS: [&[u8]; 18] = [
-    b":=", b"..", b"<>", b"<=", b">=", b";", b":", b"(", b")", b",", b"+", b"-", b"*", b"/", b"=",
-    b"<", b">", b"&",
+/// The signs with their kinds, the longer ones first.
+static SIGNS: [(&[u8], TokenKind); 18] = [
+    (b":=", TokenKind::Assigns),
+    (b"..", TokenKind::Dots),
+    (b"<>", TokenKind::Outside),
+    (b"<=", TokenKind::Outside),
+    (b">=", TokenKind::Outside),
+    (b";", TokenKind::Semicolon),
+    (b":", TokenKind::Colon),
+    (b"(", TokenKind::Open),
+    (b")", TokenKind::Close),
+    (b",", TokenKind::Comma),
+    (b"+", TokenKind::Plus),
+    (b"-", TokenKind::Dash),
+    (b"*", TokenKind::Outside),
+    (b"/", TokenKind::Outside),
+    (b"=", TokenKind::Equals),
+    (b"<", TokenKind::Less),
+    (b">", TokenKind::Outside),
+    (b"&", TokenKind::Outside),
 ];
-
-/// The signs that the part of the language that is read has.
-static SIGN_KINDS: [(&[u8], Kind); 11] = [
-    (b";", Kind::Semicolon),
-    (b":", Kind::Colon),
-    (b":=", Kind::Assigns),
-    (b"..", Kind::Dots),
-    (b"(", Kind::Open),
-    (b")", Kind::Close),
-    (b",", Kind::Comma),
-    (b"+", Kind::Plus),
-    (b"-", Kind::Dash),
-    (b"=", Kind::Equals),
-    (b"<", Kind::Less),
-];
-
-/// The tokens of a text, and the byte at which each begins.
-#[derive(Drop)]
-pub struct Lexed {
-    pub tokens: Items<Token>,
-    pub starts: Vec<u32>,
-}
 
 /// The place of the first byte that no word has.
 fn first_unwordy(text: &[u8]) -> Option<usize>
@@ -93,26 +85,23 @@ fn split_number(text: &[u8]) -> (&[u8], &[u8])
 
 /// The word at the front.
 #[tactic(auto, using(crate::proofs::Numbers::word_apart))]
-fn word(alloc: Global, text: &[u8]) -> Found<'_>
+fn word(text: &[u8]) -> Found<'_>
     ensures { Finds (λ x. (x.0, x.1.now)) result (lexing.worded (run_of lexing.wordy text.now)) }
 {
     let (word, rest) = split_word(text);
-    let kind = kind_of_word(word);
-    let text = Text::from_slice(alloc, word)?;
-    Ok((Some(Token::plain(kind, text)), rest))
+    Ok((Some(Token::plain(kind_of_word(word), word)), rest))
 }
 
 /// The digits at the front.
 #[tactic(auto, unfolding(crate::specs::Lexing::value_in))]
-fn number(alloc: Global, text: &[u8]) -> Found<'_>
+fn number(text: &[u8]) -> Found<'_>
     ensures { Finds (λ x. (x.0, x.1.now)) result (lexing.numbered (run_of lexing.digit text.now)) }
 {
     let (digits, rest) = split_number(text);
     let Some(value) = value_of(digits) else {
         return Err(Fault::NumberTooBig);
     };
-    let text = Text::from_slice(alloc, digits)?;
-    Ok((Some(Token::literal(text, value)), rest))
+    Ok((Some(Token::literal(digits, value)), rest))
 }
 
 /// What follows the first `*)`.
@@ -161,10 +150,10 @@ fn stripped<'a>(sign: &[u8], text: &'a [u8]) -> Option<&'a [u8]>
 }
 
 /// The first of the signs that stands at the front, and what is left.
-fn first_sign<'a>(text: &'a [u8], signs: &[&'a [u8]]) -> Option<(&'a [u8], &'a [u8])>
-    ensures { option_map (λ w. (w.0.now, w.1.now)) result ≡ lexing.sign_in (map (λ s. s.now) signs.now) text.now }
+fn first_sign<'a>(text: &'a [u8], signs: &[(&'a [u8], TokenKind)]) -> Option<(&'a [u8], &'a [u8])>
+    ensures { option_map (λ w. (w.0.now, w.1.now)) result ≡ lexing.sign_in (map (λ s. s.0.now) signs.now) text.now }
 {
-    for sign in signs {
+    for (sign, _kind) in signs {
         if let Some(rest) = stripped(*sign, text) {
             return Some((*sign, rest));
         }
@@ -180,35 +169,33 @@ fn same(word: &[u8], other: &[u8]) -> bool
 }
 
 /// The kind that a table has for a sign.
-fn sign_in_table(table: &[(&[u8], Kind)], sign: &[u8]) -> Kind
-    ensures { seen result ≡ k.kind_of_sign_in (map (λ p. (p.0.now, seen p.1)) table.now) sign.now }
+fn sign_in_table(table: &[(&[u8], TokenKind)], sign: &[u8]) -> TokenKind
+    ensures { result ≡ k.kind_of_sign_in (map (λ p. (p.0.now, p.1)) table.now) sign.now }
 {
     for (text, kind) in table {
         if same(text, sign) {
             return *kind;
         }
     }
-    Kind::Outside
+    TokenKind::Outside
 }
 
 #[tactic(auto, unfolding(crate::specs::Lexing::sign_kind))]
-fn kind_of_sign(sign: &[u8]) -> Kind
-    ensures { seen result ≡ lexing.sign_kind sign.now }
+fn kind_of_sign(sign: &[u8]) -> TokenKind
+    ensures { result ≡ lexing.sign_kind sign.now }
 {
-    sign_in_table(&SIGN_KINDS, sign)
+    sign_in_table(&SIGNS, sign)
 }
 
 /// The sign at the front.
 #[tactic(auto, using(crate::proofs::Numbers::sign_apart), unfolding(crate::specs::Lexing::sign_of))]
-fn sign(alloc: Global, text: &[u8]) -> Found<'_>
+fn sign(text: &[u8]) -> Found<'_>
     ensures { Finds (λ x. (x.0, x.1.now)) result (lexing.signed (lexing.sign_of text.now)) }
 {
     let Some((sign, rest)) = first_sign(text, &SIGNS) else {
         return Err(Fault::BadByte);
     };
-    let kind = kind_of_sign(sign);
-    let text = Text::from_slice(alloc, sign)?;
-    Ok((Some(Token::plain(kind, text)), rest))
+    Ok((Some(Token::plain(kind_of_sign(sign), sign)), rest))
 }
 
 /// A comment, of which the first two bytes are read.
@@ -223,16 +210,16 @@ fn comment(text: &[u8]) -> Found<'_>
 
 /// What stands at the front.
 #[tactic(auto, unfolding(crate::specs::Lexing::front_of))]
-fn front(alloc: Global, text: &[u8]) -> Found<'_>
+fn front(text: &[u8]) -> Found<'_>
     ensures { Finds (λ x. (x.0, x.1.now)) result (lexing.front_of text.now) }
 {
     match text {
         [] => Err(Fault::BadByte),
         [byte, rest @ ..] if is_blank(*byte) => Ok((None, rest)),
-        [byte, ..] if begins_word(*byte) => word(alloc, text),
-        [byte, ..] if is_digit(*byte) => number(alloc, text),
+        [byte, ..] if begins_word(*byte) => word(text),
+        [byte, ..] if is_digit(*byte) => number(text),
         [one, two, rest @ ..] if *one == b'(' && *two == b'*' => comment(rest),
-        _ => sign(alloc, text),
+        _ => sign(text),
     }
 }
 
@@ -244,32 +231,58 @@ fn refusal(fault: Fault, at: u32) -> StErr
         Fault::BadByte => StErr::StBadByte { at },
         Fault::NumberTooBig => StErr::StNumberTooBig { at },
         Fault::OpenComment => StErr::StOpenComment { at },
-        Fault::NoMemory => StErr::Memory,
     }
 }
 
-/// The tokens of a text. The first number that is too big ends it.
-#[tactic(auto, using(crate::proofs::LexSteps::taken_token, crate::proofs::LexSteps::taken_skip, crate::proofs::LexSteps::taken_none, crate::proofs::LexSteps::left_shorter))]
-pub fn lex(alloc: Global, text: &[u8]) -> Result<Lexed, StErr>
-    requires { length text.now ≤ 16777216 }
-    ensures tokens { IfOk result (λ x. Lexes text.now x.tokens) }
-    ensures starts { IfOk result (λ x. All (λ at. at ≤ length text.now) x.starts.items) }
-    ensures refused { IfErr result (RefusalDue text.now) }
+/// The first token of a text, and the text after it.
+#[tactic(auto, using(crate::proofs::Cursors::found_first, crate::proofs::Cursors::found_later, crate::proofs::Cursors::found_none, crate::proofs::Cursors::found_end))]
+fn first(text: &[u8]) -> Option<(Token<'_>, &[u8])>
+    ensures { option_map (λ w. (w.0, w.1.now)) result ≡ first_in (length text.now) text.now }
 {
-    let mut tokens = Items::new(alloc);
-    let mut starts = Vec::new(alloc);
     let mut rest = text;
-    while !rest.is_empty() {
-        let at = (text.len() - rest.len()) as u32;
-        let (token, left) = match front(alloc, rest) {
+    for _turn in 0..text.len() {
+        let (token, left) = match front(rest) {
             Ok(found) => found,
-            Err(fault) => return Err(refusal(fault, at)),
+            Err(_fault) => return None,
         };
         if let Some(token) = token {
-            tokens.push(token)?;
-            starts.push(at)?;
+            return Some((token, left));
         }
         rest = left;
     }
-    Ok(Lexed { tokens, starts })
+    None
+}
+
+/// The first token of a text, and the text after it. A token of no production stands for none.
+#[tactic(auto, unfolding(crate::specs::Cursor::token_at))]
+pub fn next(text: &[u8]) -> (Token<'_>, &[u8])
+    ensures { (result.0, result.1.now) ≡ token_at text.now }
+{
+    match first(text) {
+        Some((token, rest)) => (token, rest),
+        None => (Token::plain(TokenKind::Outside, b""), b""),
+    }
+}
+
+/// How many tokens a text has, in which no number is too big.
+#[tactic(auto, using(crate::proofs::Cursors::counted_token, crate::proofs::Cursors::counted_skip, crate::proofs::Cursors::counted_none, crate::proofs::LexSteps::left_shorter))]
+pub fn token_count(text: &[u8]) -> Result<u32, StErr>
+    requires { length text.now ≤ 16777216 }
+    ensures tokens { IfOk result (λ n. Lexes text.now (tokens_in n text.now)) }
+    ensures refused { IfErr result (RefusalDue text.now) }
+{
+    let mut count = 0;
+    let mut rest = text;
+    while !rest.is_empty() {
+        let at = (text.len() - rest.len()) as u32;
+        let (token, left) = match front(rest) {
+            Ok(found) => found,
+            Err(fault) => return Err(refusal(fault, at)),
+        };
+        if token.is_some() {
+            count += 1;
+        }
+        rest = left;
+    }
+    Ok(count)
 }

@@ -2,13 +2,11 @@
 
 ghost use Rattle.std.specs.Prelude.{◌≡◌, map, option_map};
 ghost use Rattle.st_ast.specs.Grammar as grammar;
-ghost use Rattle.st_ast.specs.Tokens as k;
 ghost use Rattle.st_ast.specs.View.{view_stmt, view_branch};
 ghost use Rattle.grammar.specs.Reader as reader;
 ghost use Rattle.grammar.specs.Loops.{after};
 ghost use Rattle.st_ast.specs.Grammar.{max_depth};
 ghost use Rattle.st_read.specs.Gives.{Gives};
-ghost use Rattle.st_read.specs.Kinds.{seen};
 ghost use Rattle.st_read.specs.Reading as reading;
 ghost use Rattle.st_read.specs.ReadsStatement.{ReadsStatement};
 
@@ -16,9 +14,9 @@ use crate::error::Stop;
 use crate::levels::MAX_DEPTH;
 use crate::names::identifier;
 use crate::operands::expression;
-use crate::tokens::{Kind, Read, Token, starts, word};
+use crate::tokens::{Read, Tokens, starts, word};
 use cif_base::Items;
-use st_ast::{StBranch, Stmt};
+use st_ast::{StBranch, Stmt, TokenKind};
 use std::alloc::Global;
 
 /// A reader of what stands between an opening word and its end.
@@ -31,33 +29,34 @@ pub struct Bodies<F> {
 }
 
 #[tactic(auto, unfolding(crate::specs::Reading::assignment_at))]
-pub fn assignment(alloc: Global, tokens: &[Token]) -> Read<'_, Stmt>
-    ensures { Gives (λ x. (view_stmt x.0, x.1.now)) result (reading.assignment_at tokens.now) }
+pub fn assignment(alloc: Global, tokens: Tokens<'_>) -> Read<'_, Stmt>
+    ensures { Gives (λ x. (view_stmt x.0, x.1)) result (reading.assignment_at tokens.entry) }
 {
     let (target, rest) = identifier(alloc, tokens)?;
-    let (_assigns, rest) = word(rest, Kind::Assigns)?;
+    let (_assigns, rest) = word(rest, TokenKind::Assigns)?;
     let (value, rest) = expression(alloc, rest)?;
-    let (_semicolon, rest) = word(rest, Kind::Semicolon)?;
+    let (_semicolon, rest) = word(rest, TokenKind::Semicolon)?;
     Ok((Stmt::Assign { target, value }, rest))
 }
 
-impl<F: Fn(Global, &[Token], u16) -> Result<(Stmt, &[Token]), Stop>> Bodies<F> {
-    fn one<'a>(&self, tokens: &'a [Token]) -> Read<'a, Stmt>
+impl<F: Fn(Global, Tokens<'_>, u16) -> Result<(Stmt, Tokens<'_>), Stop>> Bodies<F> {
+    fn one<'a>(&self, tokens: Tokens<'a>) -> Read<'a, Stmt>
         requires { ReadsStatement self.now.depth (F.pre self.now.statement) (F.post self.now.statement) }
-        ensures { Gives (λ x. (view_stmt x.0, x.1.now)) result (reading.statement_at self.now.depth tokens.now) }
+        ensures { Gives (λ x. (view_stmt x.0, x.1)) result (reading.statement_at self.now.depth tokens.entry) }
     {
         (self.statement)(self.alloc, tokens, self.depth)
     }
 
     #[tactic(auto, using(crate::proofs::SeenLoops::seen_step, grammar::proofs::Loops::after_stop, grammar::proofs::Loops::after_fail, grammar::proofs::Loops::after_end, grammar::proofs::Loops::after_none))]
-    fn all<'a>(&self, tokens: &'a [Token]) -> Read<'a, Items<Stmt>>
+    fn all<'a>(&self, tokens: Tokens<'a>) -> Read<'a, Items<Stmt>>
         requires { ReadsStatement self.now.depth (F.pre self.now.statement) (F.post self.now.statement) }
-        ensures { Gives (λ x. (map view_stmt x.0, x.1.now)) result (reading.statements_at self.now.depth tokens.now) }
+        ensures { Gives (λ x. (map view_stmt x.0, x.1)) result (reading.statements_at self.now.depth tokens.entry) }
     {
         let mut found = Items::new(self.alloc);
+        let most = tokens.len();
         let mut rest = tokens;
-        for _turn in 0..tokens.len() {
-            if !starts(rest, &[Kind::Name, Kind::If, Kind::While]) {
+        for _turn in 0..most {
+            if !starts(&rest, &[TokenKind::Name, TokenKind::If, TokenKind::While]) {
                 return Ok((found, rest));
             }
             let (item, left) = self.one(rest)?;
@@ -69,9 +68,9 @@ impl<F: Fn(Global, &[Token], u16) -> Result<(Stmt, &[Token]), Stop>> Bodies<F> {
 
     /// A condition, the word after it and its statements.
     #[tactic(auto, unfolding(crate::specs::Reading::guarded_at))]
-    fn guarded<'a>(&self, tokens: &'a [Token], closing: Kind) -> Read<'a, StBranch>
+    fn guarded<'a>(&self, tokens: Tokens<'a>, closing: TokenKind) -> Read<'a, StBranch>
         requires { ReadsStatement self.now.depth (F.pre self.now.statement) (F.post self.now.statement) }
-        ensures { Gives (λ x. (view_branch x.0, x.1.now)) result (reading.guarded_at (reading.statements_at self.now.depth) (seen closing) tokens.now) }
+        ensures { Gives (λ x. (view_branch x.0, x.1)) result (reading.guarded_at (reading.statements_at self.now.depth) closing tokens.entry) }
     {
         let (cond, rest) = expression(self.alloc, tokens)?;
         let (_closing, rest) = word(rest, closing)?;
@@ -80,26 +79,27 @@ impl<F: Fn(Global, &[Token], u16) -> Result<(Stmt, &[Token]), Stop>> Bodies<F> {
     }
 
     #[tactic(auto, unfolding(crate::specs::Reading::elsif_at))]
-    fn elsif<'a>(&self, tokens: &'a [Token]) -> Read<'a, StBranch>
+    fn elsif<'a>(&self, tokens: Tokens<'a>) -> Read<'a, StBranch>
         requires { ReadsStatement self.now.depth (F.pre self.now.statement) (F.post self.now.statement) }
-        ensures { Gives (λ x. (view_branch x.0, x.1.now)) result (reading.elsif_at (reading.statements_at self.now.depth) tokens.now) }
+        ensures { Gives (λ x. (view_branch x.0, x.1)) result (reading.elsif_at (reading.statements_at self.now.depth) tokens.entry) }
     {
-        let (_elsif, rest) = word(tokens, Kind::Elsif)?;
-        self.guarded(rest, Kind::Then)
+        let (_elsif, rest) = word(tokens, TokenKind::Elsif)?;
+        self.guarded(rest, TokenKind::Then)
     }
 
     #[tactic(auto, using(crate::proofs::SeenLoops::seen_step, grammar::proofs::Loops::after_stop, grammar::proofs::Loops::after_fail, grammar::proofs::Loops::after_end))]
     fn elsifs<'a>(
         &self,
-        tokens: &'a [Token],
+        tokens: Tokens<'a>,
         mut found: Items<StBranch>,
     ) -> Read<'a, Items<StBranch>>
         requires { ReadsStatement self.now.depth (F.pre self.now.statement) (F.post self.now.statement) }
-        ensures { Gives (λ x. (map view_branch x.0, x.1.now)) result (after (map view_branch found) (reading.elsifs_at (reading.statements_at self.now.depth) tokens.now)) }
+        ensures { Gives (λ x. (map view_branch x.0, x.1)) result (after (map view_branch found) (reading.elsifs_at (reading.statements_at self.now.depth) tokens.entry)) }
     {
+        let most = tokens.len();
         let mut rest = tokens;
-        for _turn in 0..tokens.len() {
-            if !starts(rest, &[Kind::Elsif]) {
+        for _turn in 0..most {
+            if !starts(&rest, &[TokenKind::Elsif]) {
                 return Ok((found, rest));
             }
             let (item, left) = self.elsif(rest)?;
@@ -111,11 +111,11 @@ impl<F: Fn(Global, &[Token], u16) -> Result<(Stmt, &[Token]), Stop>> Bodies<F> {
 
     /// The branches after `IF`.
     #[tactic(auto, using(grammar::proofs::Loops::list_after), unfolding(crate::specs::Reading::branches_at))]
-    fn branches<'a>(&self, tokens: &'a [Token]) -> Read<'a, Items<StBranch>>
+    fn branches<'a>(&self, tokens: Tokens<'a>) -> Read<'a, Items<StBranch>>
         requires { ReadsStatement self.now.depth (F.pre self.now.statement) (F.post self.now.statement) }
-        ensures { Gives (λ x. (map view_branch x.0, x.1.now)) result (reading.branches_at (reading.statements_at self.now.depth) tokens.now) }
+        ensures { Gives (λ x. (map view_branch x.0, x.1)) result (reading.branches_at (reading.statements_at self.now.depth) tokens.entry) }
     {
-        let (first, rest) = self.guarded(tokens, Kind::Then)?;
+        let (first, rest) = self.guarded(tokens, TokenKind::Then)?;
         let mut found = Items::new(self.alloc);
         found.push(first)?;
         self.elsifs(rest, found)
@@ -123,50 +123,50 @@ impl<F: Fn(Global, &[Token], u16) -> Result<(Stmt, &[Token]), Stop>> Bodies<F> {
 
     /// `ELSE` and its statements, where they come.
     #[tactic(auto, unfolding(crate::specs::Reading::else_at))]
-    fn otherwise<'a>(&self, tokens: &'a [Token]) -> Read<'a, Option<Items<Stmt>>>
+    fn otherwise<'a>(&self, tokens: Tokens<'a>) -> Read<'a, Option<Items<Stmt>>>
         requires { ReadsStatement self.now.depth (F.pre self.now.statement) (F.post self.now.statement) }
-        ensures { Gives (λ x. (option_map (map view_stmt) x.0, x.1.now)) result (reading.else_at (reading.statements_at self.now.depth) tokens.now) }
+        ensures { Gives (λ x. (option_map (map view_stmt) x.0, x.1)) result (reading.else_at (reading.statements_at self.now.depth) tokens.entry) }
     {
-        if !starts(tokens, &[Kind::Else]) {
+        if !starts(&tokens, &[TokenKind::Else]) {
             return Ok((None, tokens));
         }
-        let (_else, rest) = word(tokens, Kind::Else)?;
+        let (_else, rest) = word(tokens, TokenKind::Else)?;
         let (body, rest) = self.all(rest)?;
         Ok((Some(body), rest))
     }
 
     #[tactic(auto, unfolding(crate::specs::Reading::conditional_at))]
-    fn conditional<'a>(&self, tokens: &'a [Token]) -> Read<'a, Stmt>
+    fn conditional<'a>(&self, tokens: Tokens<'a>) -> Read<'a, Stmt>
         requires { ReadsStatement self.now.depth (F.pre self.now.statement) (F.post self.now.statement) }
-        ensures { Gives (λ x. (view_stmt x.0, x.1.now)) result (reading.conditional_at (reading.statements_at self.now.depth) tokens.now) }
+        ensures { Gives (λ x. (view_stmt x.0, x.1)) result (reading.conditional_at (reading.statements_at self.now.depth) tokens.entry) }
     {
-        let (_if, rest) = word(tokens, Kind::If)?;
+        let (_if, rest) = word(tokens, TokenKind::If)?;
         let (branches, rest) = self.branches(rest)?;
         let (other, rest) = self.otherwise(rest)?;
-        let (_end, rest) = word(rest, Kind::EndIf)?;
-        let (_semicolon, rest) = word(rest, Kind::Semicolon)?;
+        let (_end, rest) = word(rest, TokenKind::EndIf)?;
+        let (_semicolon, rest) = word(rest, TokenKind::Semicolon)?;
         Ok((Stmt::If { branches, other }, rest))
     }
 
     #[tactic(auto, unfolding(crate::specs::Reading::repetition_at))]
-    fn repetition<'a>(&self, tokens: &'a [Token]) -> Read<'a, Stmt>
+    fn repetition<'a>(&self, tokens: Tokens<'a>) -> Read<'a, Stmt>
         requires { ReadsStatement self.now.depth (F.pre self.now.statement) (F.post self.now.statement) }
-        ensures { Gives (λ x. (view_stmt x.0, x.1.now)) result (reading.repetition_at (reading.statements_at self.now.depth) tokens.now) }
+        ensures { Gives (λ x. (view_stmt x.0, x.1)) result (reading.repetition_at (reading.statements_at self.now.depth) tokens.entry) }
     {
-        let (_while, rest) = word(tokens, Kind::While)?;
-        let (StBranch { cond, body }, rest) = self.guarded(rest, Kind::Do)?;
-        let (_end, rest) = word(rest, Kind::EndWhile)?;
-        let (_semicolon, rest) = word(rest, Kind::Semicolon)?;
+        let (_while, rest) = word(tokens, TokenKind::While)?;
+        let (StBranch { cond, body }, rest) = self.guarded(rest, TokenKind::Do)?;
+        let (_end, rest) = word(rest, TokenKind::EndWhile)?;
+        let (_semicolon, rest) = word(rest, TokenKind::Semicolon)?;
         Ok((Stmt::While { cond, body }, rest))
     }
 
-    fn step<'a>(&self, tokens: &'a [Token]) -> Read<'a, Stmt>
+    fn step<'a>(&self, tokens: Tokens<'a>) -> Read<'a, Stmt>
         requires { ReadsStatement self.now.depth (F.pre self.now.statement) (F.post self.now.statement) }
-        ensures { Gives (λ x. (view_stmt x.0, x.1.now)) result (reading.statement_from (reading.statements_at self.now.depth) tokens.now) }
+        ensures { Gives (λ x. (view_stmt x.0, x.1)) result (reading.statement_from (reading.statements_at self.now.depth) tokens.entry) }
     {
-        if starts(tokens, &[Kind::Name]) {
+        if starts(&tokens, &[TokenKind::Name]) {
             assignment(self.alloc, tokens)
-        } else if starts(tokens, &[Kind::If]) {
+        } else if starts(&tokens, &[TokenKind::If]) {
             self.conditional(tokens)
         } else {
             self.repetition(tokens)
@@ -176,8 +176,8 @@ impl<F: Fn(Global, &[Token], u16) -> Result<(Stmt, &[Token]), Stop>> Bodies<F> {
 
 /// A statement, in which so many may nest.
 #[tactic(auto, unfolding(crate::specs::Reading::statement_at))]
-fn statement(alloc: Global, tokens: &[Token], depth: u16) -> Result<(Stmt, &[Token]), Stop>
-    ensures { Gives (λ x. (view_stmt x.0, x.1.now)) result (reading.statement_at depth tokens.now) }
+fn statement(alloc: Global, tokens: Tokens<'_>, depth: u16) -> Result<(Stmt, Tokens<'_>), Stop>
+    ensures { Gives (λ x. (view_stmt x.0, x.1)) result (reading.statement_at depth tokens.entry) }
 {
     if depth == 0 {
         return assignment(alloc, tokens);
@@ -192,8 +192,8 @@ fn statement(alloc: Global, tokens: &[Token], depth: u16) -> Result<(Stmt, &[Tok
 }
 
 /// The statements of a program.
-pub fn statements(alloc: Global, tokens: &[Token]) -> Read<'_, Items<Stmt>>
-    ensures { Gives (λ x. (map view_stmt x.0, x.1.now)) result (reading.statements_at max_depth tokens.now) }
+pub fn statements(alloc: Global, tokens: Tokens<'_>) -> Read<'_, Items<Stmt>>
+    ensures { Gives (λ x. (map view_stmt x.0, x.1)) result (reading.statements_at max_depth tokens.entry) }
 {
     let depth = MAX_DEPTH;
     Bodies {

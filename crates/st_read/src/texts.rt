@@ -1,8 +1,9 @@
 //! A text as one program.
 
-ghost use Rattle.std.specs.Prelude.{◌≡◌, ◌≤◌, length, All, IfOk, IfErr, MatchResult};
+ghost use Rattle.std.specs.Prelude.{◌≡◌, ◌≤◌, length, IfOk, IfErr, MatchResult};
 ghost use Rattle.st_ast.specs.Tree as tree;
 ghost use Rattle.st_ast.specs.View.{view};
+ghost use Rattle.st_read.specs.Cursor.{tokens_in};
 ghost use Rattle.st_read.specs.Derives.{Derives};
 ghost use Rattle.st_read.specs.Reading as reading;
 ghost use Rattle.st_read.specs.Refusals.{RefusalDue};
@@ -10,32 +11,30 @@ ghost use Rattle.st_read.specs.Told.{Tells};
 ghost use Rattle.st_read.specs.declared.error.StErr.TheVariants.{Memory as no_memory};
 
 use crate::error::{StErr, Stop};
-use crate::lexing::{Lexed, lex};
+use crate::lexing::token_count;
 use crate::program::derived;
+use crate::tokens::Tokens;
 use st_ast::Program;
 use std::alloc::Global;
 
-/// The byte at which the token of this number begins, or the end of the text.
-fn place(starts: &[u32], number: usize, end: u32) -> u32
-    requires { All (λ at. at ≤ end) starts.now }
-    ensures { result ≤ end }
+/// The byte at which so many are left of a text.
+fn place(text: &[u8], left: usize) -> u32
+    requires { length text.now ≤ 16777216 }
+    ensures { result ≤ length text.now }
 {
-    match starts.get(number) {
-        Some(at) => *at,
-        None => end,
-    }
+    text.len().saturating_sub(left) as u32
 }
 
-/// The program that the tokens derive, in a text of so many bytes.
-fn parsed(alloc: Global, lexed: &Lexed, end: u32) -> Result<Program, StErr>
-    requires { All (λ at. at ≤ end) lexed.now.starts.items }
-    ensures { Tells end (λ p. view p) result (reading.program_of lexed.now.tokens) }
+/// The program that so many tokens of a text derive.
+fn parsed(alloc: Global, text: &[u8], count: u32) -> Result<Program, StErr>
+    requires { length text.now ≤ 16777216 }
+    ensures { Tells (length text.now) (λ p. view p) result (reading.program_of (tokens_in count text.now)) }
 {
-    match derived(alloc, lexed.tokens.as_slice()) {
+    match derived(alloc, Tokens::of(text, count)) {
         Ok(program) => Ok(program),
         Err(Stop::NoMemory) => Err(StErr::Memory),
         Err(Stop::NotTaken(left)) => Err(StErr::StNotRead {
-            at: place(&lexed.starts, lexed.starts.len().saturating_sub(left), end),
+            at: place(text, left),
         }),
     }
 }
@@ -50,6 +49,6 @@ pub fn read(alloc: Global, text: &[u8]) -> Result<Program, StErr>
     ensures complete { (p : tree.Program) → Derives text.now p
         → MatchResult result (λ q. view q ≡ p) (λ e. e ≡ no_memory) }
 {
-    let lexed = lex(alloc, text)?;
-    parsed(alloc, &lexed, text.len() as u32)
+    let count = token_count(text)?;
+    parsed(alloc, text, count)
 }

@@ -1,138 +1,98 @@
 //! Tokens one by one.
 
-ghost use Rattle.std.specs.Prelude.{◌≡◌, ◌≤◌, ℕ, true, [], ◌∷◌, if◌then◌else◌, Some, None, option_map, MatchOption, IfSome};
+ghost use Rattle.std.specs.Prelude.{◌≡◌, ◌≤◌, ◌↔◌, ℕ, IsTrue, true, [], ◌∷◌, length, if◌then◌else◌, Some, None, option_map, MatchOption, IfSome};
 ghost use Rattle.grammar.specs.Lang as lang;
 ghost use Rattle.grammar.specs.Reader as reader;
-ghost use Rattle.st_ast.specs.Tokens as tokens;
-ghost use Rattle.st_ast.specs.Tokens.{number_of, greatest};
 ghost use Rattle.st_ast.specs.Grammar as grammar;
+ghost use Rattle.st_read.specs.Cursor.{tokens_in};
 ghost use Rattle.st_read.specs.Gives.{Gives};
-ghost use Rattle.st_read.specs.Kinds as kinds;
+ghost use Rattle.st_read.specs.Reading as reading;
 
 use crate::error::Stop;
-use cif_base::{Memory, Text};
-use std::alloc::Global;
+use crate::found::Token;
+use crate::lexing::next;
+use st_ast::TokenKind;
 use std::marker::Model;
 
-/// The kind of a token. What is in no production is `Outside`.
-#[derive(Clone, Copy, Debug, PartialEq, Eq)]
-pub enum Kind {
-    Name,
-    Literal,
-    Program,
-    EndProgram,
-    Var,
-    VarOutput,
-    EndVar,
-    Bool,
-    Lint,
-    True,
-    False,
-    If,
-    Then,
-    Elsif,
-    Else,
-    EndIf,
-    While,
-    Do,
-    EndWhile,
-    Not,
-    And,
-    Or,
-    Semicolon,
-    Colon,
-    Assigns,
-    Dots,
-    Open,
-    Close,
-    Comma,
-    Plus,
-    Dash,
-    Equals,
-    Less,
-    Outside,
-}
-
-/// A token: its kind, its text, and the number that a literal stands for.
+/// The tokens from a place in a text on. Each is cut off the text when the one before it is taken.
 #[derive(Drop)]
-pub struct Token {
-    kind: Kind,
-    text: Text,
-    value: u64,
+pub struct Tokens<'a> {
+    next: Option<Token<'a>>,
+    /// How many there are after the next one.
+    later: u32,
+    rest: &'a [u8],
 }
 
-impl Model for Token {
-    ghost use Rattle.std.specs.Prelude.{◌≡◌, ◌≤◌};
-    ghost use Rattle.st_ast.specs.Tokens.{number_of, greatest};
+impl<'a> Model for Tokens<'a> {
+    ghost use Rattle.std.specs.Prelude.{List};
     ghost use Rattle.st_ast.specs.Tokens as tokens;
-    ghost use Rattle.st_read.specs.Kinds.{seen};
+    ghost use Rattle.st_read.specs.Cursor.{listed};
 
-    ghost Value = { tokens.Token };
+    ghost Value = { List tokens.Token };
 
-    ghost view = { λ t. record { kind = seen t.kind; text = t.text } };
-
-    ghost invariant = { λ t. (seen t.kind ≡ tokens.literal → t.value ≡ number_of t.text) × (t.value ≤ greatest) };
+    ghost view = { λ t. listed t.next t.later t.rest.now };
 }
 
 /// What is read from the front, and what is left.
-pub type Read<'a, T> = Result<(T, &'a [Token]), Stop>;
+pub type Read<'a, T> = Result<(T, Tokens<'a>), Stop>;
+
+impl<'a> Tokens<'a> {
+    /// So many tokens of a text.
+    #[tactic(auto, using(crate::proofs::Cursors::no_tokens, crate::proofs::Cursors::some_tokens))]
+    pub fn of(text: &'a [u8], count: u32) -> Tokens<'a>
+        ensures { result ≡ tokens_in count text.now }
+    {
+        if count == 0 {
+            return Tokens {
+                next: None,
+                later: 0,
+                rest: text,
+            };
+        }
+        let (token, rest) = next(text);
+        Tokens {
+            next: Some(token),
+            later: count - 1,
+            rest,
+        }
+    }
+
+    /// How many tokens there are.
+    #[tactic(auto, using(crate::proofs::Cursors::tokens_number))]
+    pub fn len(&self) -> usize
+        ensures { result ≡ length self.now }
+    {
+        match self.next {
+            None => 0,
+            Some(_) => self.later as usize + 1,
+        }
+    }
+
+    pub fn is_empty(&self) -> bool
+        ensures { IsTrue result ↔ self.now ≡ [] }
+    {
+        self.next.is_none()
+    }
+
+    /// How many bytes there are from the next token on.
+    pub fn left(&self) -> usize {
+        match self.next {
+            None => 0,
+            Some(ref token) => self.rest.len().saturating_add(token.text().len()),
+        }
+    }
+}
 
 /// The number of a kind.
-pub fn code(kind: Kind) -> u8
-    ensures { result ≡ kinds.number kind }
+fn code(kind: TokenKind) -> u8
+    ensures { result ≡ grammar.code kind }
 {
     kind as u8
 }
 
-impl Token {
-    /// A token that is no literal.
-    pub fn plain(kind: Kind, text: Text) -> Token
-        requires { kinds.seen kind ≡ tokens.literal → ⊥ }
-        ensures { result ≡ record { kind = kinds.seen kind; text = text } }
-    {
-        Token {
-            kind,
-            text,
-            value: 0,
-        }
-    }
-
-    /// A literal and the number that it stands for.
-    pub fn literal(text: Text, value: u64) -> Token
-        requires { (value ≡ number_of text) × (value ≤ greatest) }
-        ensures { result ≡ record { kind = tokens.literal; text = text } }
-    {
-        Token {
-            kind: Kind::Literal,
-            text,
-            value,
-        }
-    }
-
-    pub fn kind(&self) -> Kind
-        ensures { kinds.seen result ≡ self.now.kind }
-    {
-        self.kind
-    }
-
-    pub fn text(&self) -> &Text
-        ensures { result.now ≡ self.now.text }
-    {
-        &self.text
-    }
-
-    /// The number that a literal stands for.
-    pub fn value(&self) -> u64
-        ensures of_literal { self.now.kind ≡ tokens.literal → result ≡ number_of self.now.text }
-        ensures small { result ≤ greatest }
-    {
-        self.value
-    }
-}
-
 /// Whether a kind is among these.
-fn has(among: &[Kind], kind: Kind) -> bool
-    ensures { result ≡ lang.has (kinds.numbers among.now) (kinds.number kind) }
+fn has(among: &[TokenKind], kind: TokenKind) -> bool
+    ensures { result ≡ lang.has (reading.codes_of among.now) (grammar.code kind) }
 {
     for one in among {
         if code(*one) == code(kind) {
@@ -143,22 +103,24 @@ fn has(among: &[Kind], kind: Kind) -> bool
 }
 
 /// Whether the next token is of one of these kinds.
-pub fn starts(tokens: &[Token], among: &[Kind]) -> bool
-    ensures { result ≡ reader.starts grammar.sort (kinds.numbers among.now) tokens.now }
+pub fn starts(tokens: &Tokens<'_>, among: &[TokenKind]) -> bool
+    ensures { result ≡ reader.starts grammar.sort (reading.codes_of among.now) tokens.now }
 {
-    match tokens {
-        [] => false,
-        [token, ..] => has(among, token.kind()),
+    match tokens.next {
+        None => false,
+        Some(ref token) => has(among, token.kind()),
     }
 }
 
 /// A token of this kind.
 #[tactic(auto, unfolding(grammar::specs::Reader::one_at))]
-pub fn word(tokens: &[Token], kind: Kind) -> Read<'_, &Token>
-    ensures { Gives (λ x. (x.0.now, x.1.now)) result (reader.one_at grammar.sort (kinds.numbers (kind ∷ [])) tokens.now) }
+pub fn word(tokens: Tokens<'_>, kind: TokenKind) -> Read<'_, Token<'_>>
+    ensures { Gives (λ x. (x.0, x.1)) result (reader.one_at grammar.sort (reading.codes_of (kind ∷ [])) tokens.entry) }
 {
-    match tokens {
-        [token, rest @ ..] if code(token.kind()) == code(kind) => Ok((token, rest)),
-        _ => Err(Stop::NotTaken(tokens.len())),
+    let left = tokens.left();
+    let Tokens { next, later, rest } = tokens;
+    match next {
+        Some(token) if code(token.kind()) == code(kind) => Ok((token, Tokens::of(rest, later))),
+        _ => Err(Stop::NotTaken(left)),
     }
 }

@@ -1,72 +1,85 @@
 //! Bytes, and the kinds of words, signs and numbers.
 
 ghost use Rattle.std.specs.Prelude.{◌≡◌, ◌≤◌, map, Some, None, nat_le, if◌then◌else◌, option_map};
-ghost use Rattle.std.specs.List.{list_any};
 ghost use Rattle.grammar.specs.Bytes as bytes;
 ghost use Rattle.st_ast.specs.Names as names;
 ghost use Rattle.st_ast.specs.Tokens as tokens;
-ghost use Rattle.st_read.specs.Kinds.{seen};
 ghost use Rattle.st_read.specs.Lexing as lexing;
 
-use crate::tokens::Kind;
+use st_ast::TokenKind;
 
-/// The keywords, in capitals.
-static KEYWORDS: [(&[u8], Kind); 20] = [
-    (b"PROGRAM", Kind::Program),
-    (b"END_PROGRAM", Kind::EndProgram),
-    (b"VAR", Kind::Var),
-    (b"VAR_OUTPUT", Kind::VarOutput),
-    (b"END_VAR", Kind::EndVar),
-    (b"BOOL", Kind::Bool),
-    (b"LINT", Kind::Lint),
-    (b"TRUE", Kind::True),
-    (b"FALSE", Kind::False),
-    (b"IF", Kind::If),
-    (b"THEN", Kind::Then),
-    (b"ELSIF", Kind::Elsif),
-    (b"ELSE", Kind::Else),
-    (b"END_IF", Kind::EndIf),
-    (b"WHILE", Kind::While),
-    (b"DO", Kind::Do),
-    (b"END_WHILE", Kind::EndWhile),
-    (b"NOT", Kind::Not),
-    (b"AND", Kind::And),
-    (b"OR", Kind::Or),
+/// A reserved word in capitals, and its kind.
+type Entry = (&'static [u8], TokenKind);
+
+// The tables are by the number of letters, so that a word is compared with few others.
+
+static OF_TWO: [Entry; 7] = [
+    (b"IF", TokenKind::If),
+    (b"DO", TokenKind::Do),
+    (b"OR", TokenKind::Or),
+    (b"AT", TokenKind::Outside),
+    (b"OF", TokenKind::Outside),
+    (b"TO", TokenKind::Outside),
+    (b"BY", TokenKind::Outside),
 ];
 
-/// The other reserved words.
-static RESERVED: [&[u8]; 31] = [
-    b"CONSTANT",
-    b"VAR_INPUT",
-    b"XOR",
-    b"MOD",
-    b"ABS",
-    b"MIN",
-    b"MAX",
-    b"SEL",
-    b"DINT",
-    b"AT",
-    b"CASE",
-    b"OF",
-    b"END_CASE",
-    b"FOR",
-    b"TO",
-    b"BY",
-    b"END_FOR",
-    b"REPEAT",
-    b"UNTIL",
-    b"END_REPEAT",
-    b"EXIT",
-    b"RETURN",
-    b"FUNCTION",
-    b"FUNCTION_BLOCK",
-    b"ARRAY",
-    b"STRUCT",
-    b"STRING",
-    b"REAL",
-    b"LREAL",
-    b"TIME",
-    b"TYPE",
+static OF_THREE: [Entry; 10] = [
+    (b"VAR", TokenKind::Var),
+    (b"NOT", TokenKind::Not),
+    (b"AND", TokenKind::And),
+    (b"XOR", TokenKind::Outside),
+    (b"MOD", TokenKind::Outside),
+    (b"ABS", TokenKind::Outside),
+    (b"MIN", TokenKind::Outside),
+    (b"MAX", TokenKind::Outside),
+    (b"SEL", TokenKind::Outside),
+    (b"FOR", TokenKind::Outside),
+];
+
+static OF_FOUR: [Entry; 11] = [
+    (b"BOOL", TokenKind::Bool),
+    (b"LINT", TokenKind::Lint),
+    (b"TRUE", TokenKind::True),
+    (b"THEN", TokenKind::Then),
+    (b"ELSE", TokenKind::Else),
+    (b"DINT", TokenKind::Outside),
+    (b"CASE", TokenKind::Outside),
+    (b"EXIT", TokenKind::Outside),
+    (b"REAL", TokenKind::Outside),
+    (b"TIME", TokenKind::Outside),
+    (b"TYPE", TokenKind::Outside),
+];
+
+static OF_FIVE: [Entry; 6] = [
+    (b"FALSE", TokenKind::False),
+    (b"ELSIF", TokenKind::Elsif),
+    (b"WHILE", TokenKind::While),
+    (b"UNTIL", TokenKind::Outside),
+    (b"ARRAY", TokenKind::Outside),
+    (b"LREAL", TokenKind::Outside),
+];
+
+static OF_SIX: [Entry; 5] = [
+    (b"END_IF", TokenKind::EndIf),
+    (b"REPEAT", TokenKind::Outside),
+    (b"RETURN", TokenKind::Outside),
+    (b"STRUCT", TokenKind::Outside),
+    (b"STRING", TokenKind::Outside),
+];
+
+static LONGER: [Entry; 12] = [
+    (b"PROGRAM", TokenKind::Program),
+    (b"END_PROGRAM", TokenKind::EndProgram),
+    (b"VAR_OUTPUT", TokenKind::VarOutput),
+    (b"END_VAR", TokenKind::EndVar),
+    (b"END_WHILE", TokenKind::EndWhile),
+    (b"CONSTANT", TokenKind::Outside),
+    (b"VAR_INPUT", TokenKind::Outside),
+    (b"END_CASE", TokenKind::Outside),
+    (b"END_FOR", TokenKind::Outside),
+    (b"END_REPEAT", TokenKind::Outside),
+    (b"FUNCTION", TokenKind::Outside),
+    (b"FUNCTION_BLOCK", TokenKind::Outside),
 ];
 
 /// The greatest number of a program.
@@ -153,8 +166,8 @@ fn is_identifier(word: &[u8]) -> bool
 }
 
 /// The kind that a table has for a word, or another one.
-fn in_table(table: &[(&[u8], Kind)], word: &[u8], other: Kind) -> Kind
-    ensures { seen result ≡ tokens.in_table (map (λ p. (p.0.now, seen p.1)) table.now) word.now (seen other) }
+fn in_table(table: &[Entry], word: &[u8], other: TokenKind) -> TokenKind
+    ensures { result ≡ tokens.in_table (map (λ p. (p.0.now, p.1)) table.now) word.now other }
 {
     for (name, kind) in table {
         if same_name(name, word) {
@@ -164,38 +177,30 @@ fn in_table(table: &[(&[u8], Kind)], word: &[u8], other: Kind) -> Kind
     other
 }
 
-fn is_among(word: &[u8], others: &[&[u8]]) -> bool
-    ensures { result ≡ list_any (λ other. names.same_name other.now word.now) others.now }
+/// The kind of a word that is not reserved.
+fn kind_of_name(word: &[u8]) -> TokenKind
+    ensures { result ≡ lexing.name_kind word.now }
 {
-    others.iter().any(|other| same_name(*other, word))
-}
-
-#[tactic(auto, unfolding(crate::specs::Lexing::is_reserved))]
-fn is_reserved(word: &[u8]) -> bool
-    ensures { result ≡ lexing.is_reserved word.now }
-{
-    is_among(word, &RESERVED)
-}
-
-/// The kind of a word that is no keyword.
-#[tactic(auto, unfolding(crate::specs::Lexing::other_kind))]
-fn kind_of_other(word: &[u8]) -> Kind
-    ensures { seen result ≡ lexing.other_kind word.now }
-{
-    if is_reserved(word) {
-        Kind::Outside
-    } else if is_identifier(word) {
-        Kind::Name
+    if is_identifier(word) {
+        TokenKind::Name
     } else {
-        Kind::Outside
+        TokenKind::Outside
     }
 }
 
-#[tactic(auto, unfolding(crate::specs::Lexing::word_kind))]
-pub fn kind_of_word(word: &[u8]) -> Kind
-    ensures { seen result ≡ lexing.word_kind word.now }
+#[tactic(auto, using(crate::proofs::WordLaws::words_of_two, crate::proofs::WordLaws::words_of_three, crate::proofs::WordLaws::words_of_four, crate::proofs::WordLaws::words_of_five, crate::proofs::WordLaws::words_of_six, crate::proofs::WordLaws::longer_words))]
+pub fn kind_of_word(word: &[u8]) -> TokenKind
+    ensures { result ≡ lexing.word_kind word.now }
 {
-    in_table(&KEYWORDS, word, kind_of_other(word))
+    let other = kind_of_name(word);
+    match word.len() {
+        2 => in_table(&OF_TWO, word, other),
+        3 => in_table(&OF_THREE, word, other),
+        4 => in_table(&OF_FOUR, word, other),
+        5 => in_table(&OF_FIVE, word, other),
+        6 => in_table(&OF_SIX, word, other),
+        _ => in_table(&LONGER, word, other),
+    }
 }
 
 /// The number that digits stand for, where a program may have it.

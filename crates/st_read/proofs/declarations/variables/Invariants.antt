@@ -7,4 +7,4 @@ use Rattle.st_read.proofs.declarations.variables.Given as goal
 
 abbrev pub invariant-loop-turn : goal.invariant-loop-turn
 invariant-loop-turn l = flat_after [] (many_at sort block_first block_at l.fn.tokens)
-    ≡ flat_after l.found (many_from sort block_first block_at (l._turn-end - l._turn) l.rest)
+    ≡ flat_after l.found (many_from sort block_first block_at (l.most - l._turn) l.rest)

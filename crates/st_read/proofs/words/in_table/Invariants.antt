@@ -1,8 +1,7 @@
 use Rattle.std.proofs.Common.{◌≡◌, drop, map}
 use Rattle.st_ast.specs.Tokens.{in_table}
-use Rattle.st_read.specs.Kinds.{seen}
 use Rattle.st_read.proofs.words.in_table.Given as goal
 
 abbrev pub invariant-loop-name : goal.invariant-loop-name
 invariant-loop-name l =
-    in_table (map (λ p. (p.0.now, seen p.1)) l.table) l.word (seen l.other) ≡ in_table (map (λ p. (p.0.now, seen p.1)) (drop l.name-index l.table)) l.word (seen l.other)
+    in_table (map (λ p. (p.0.now, p.1)) l.table) l.word l.other ≡ in_table (map (λ p. (p.0.now, p.1)) (drop l.name-index l.table)) l.word l.other

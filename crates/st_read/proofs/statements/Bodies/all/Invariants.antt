@@ -8,4 +8,4 @@ use Rattle.st_read.proofs.statements.Bodies.all.Given as goal
 
 abbrev pub invariant-loop-turn : goal.invariant-loop-turn
 invariant-loop-turn g l = many_at sort statement_first (statement_at l.self.depth) l.fn.tokens
-    ≡ after (map view_stmt l.found) (many_from sort statement_first (statement_at l.self.depth) (l._turn-end - l._turn) l.rest)
+    ≡ after (map view_stmt l.found) (many_from sort statement_first (statement_at l.self.depth) (l.most - l._turn) l.rest)

@@ -1,0 +1,41 @@
+//! The kinds of token.
+
+/// The kind of a token (IEC 61131-3, "Use of character set", "Identifiers", "Keywords"): a name, a number, a keyword or a
+/// sign. What is in no production of the part of the language that is read is `Outside`.
+#[derive(Clone, Copy, Debug, PartialEq, Eq)]
+pub enum TokenKind {
+    Name,
+    Literal,
+    Program,
+    EndProgram,
+    Var,
+    VarOutput,
+    EndVar,
+    Bool,
+    Lint,
+    True,
+    False,
+    If,
+    Then,
+    Elsif,
+    Else,
+    EndIf,
+    While,
+    Do,
+    EndWhile,
+    Not,
+    And,
+    Or,
+    Semicolon,
+    Colon,
+    Assigns,
+    Dots,
+    Open,
+    Close,
+    Comma,
+    Plus,
+    Dash,
+    Equals,
+    Less,
+    Outside,
+}
