@@ -16,8 +16,17 @@ impl NetExpr {
         ensures same { IfOk result (λ x. x ≡ self.now) }
         ensures view { IfOk result (λ x. view x ≡ view self.now) }
     {
-        let at = self.at;
-        match &self.form {
+        self.form.copy_at(self.at, alloc)
+    }
+}
+
+impl NetForm {
+    /// A copy with its place, in a box: a `Result` with all forms of an expression in it is slow to check.
+    #[cycle(copy)]
+    fn copy_at(&self, at: u32, alloc: Global) -> Result<Boxed<NetExpr>, Memory>
+        ensures { IfOk result (λ x. x ≡ roll-NetExpr (record { form = self.now; at = at })) }
+    {
+        match self {
             NetForm::Bool(b) => node(alloc, NetForm::Bool(*b), at),
             NetForm::Int(n) => node(alloc, NetForm::Int(*n), at),
             &NetForm::Loc { auto, place } => node(alloc, NetForm::Loc { auto, place }, at),
@@ -47,7 +56,8 @@ impl NetExpr {
             }
             NetForm::Compare { left, op, right } => {
                 let (left, right) = (left.get().copy(alloc)?, right.get().copy(alloc)?);
-                node(alloc, NetForm::Compare { left, op: *op, right }, at)
+                let op = *op;
+                node(alloc, NetForm::Compare { left, op, right }, at)
             }
             NetForm::And(parts) => node(alloc, NetForm::And(copy_exprs(parts, alloc)?), at),
             NetForm::Or(parts) => node(alloc, NetForm::Or(copy_exprs(parts, alloc)?), at),
@@ -67,7 +77,6 @@ impl NetExpr {
     }
 }
 
-/// A form with its place, in a box: a `Result` with all forms of an expression in it is slow to check.
 fn node(alloc: Global, form: NetForm, at: u32) -> Result<Boxed<NetExpr>, Memory>
     ensures { IfOk result (λ e. e ≡ roll-NetExpr (record { form = form; at = at })) }
 {
@@ -143,7 +152,7 @@ impl NetUpdate {
                 Boxed::new(alloc, NetUpdate::Set { var: *var, value })
             }
             NetUpdate::If { branches, other } => {
-                let branches = copy_update_branches(branches, alloc)?;
+                let branches = copy_update_branches(branches.as_slice(), alloc)?;
                 let other = copy_updates(other.as_slice(), alloc)?;
                 Boxed::new(alloc, NetUpdate::If { branches, other })
             }
@@ -166,13 +175,13 @@ pub fn copy_updates(all: &[NetUpdate], alloc: Global) -> Result<Items<NetUpdate>
 
 #[cycle(copy_update)]
 fn copy_update_branches(
-    all: &Items<NetUpdateBranch>,
+    all: &[NetUpdateBranch],
     alloc: Global,
 ) -> Result<Items<NetUpdateBranch>, Memory>
     ensures { IfOk result (λ x. x ≡ all.now) }
 {
     let mut copies = Items::new(alloc);
-    for branch in all.as_slice() {
+    for branch in all {
         let cond = branch.cond.copy(alloc)?;
         let updates = copy_updates(branch.updates.as_slice(), alloc)?;
         copies.push(NetUpdateBranch {
