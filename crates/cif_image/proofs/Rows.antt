@@ -6,7 +6,8 @@ use Rattle.cif_ast.specs.Tree.{node, truth, paren}
 use Rattle.cif_system.specs.System.{System, State, con, unc, syncing, initial, outputs}
 use Rattle.cif_system.specs.Choices.{first_step, all_choices}
 use Rattle.cif_system.specs.Scan.{exact_scan}
-use Rattle.cif_model.specs.Net.{lt, net_expr, n_truth, n_number, n_var, n_alg, n_not, n_sum, n_compare, n_and, no_net_exprs, net_exprs, no_net_terms, net_terms, net_set, no_net_updates, net_updates, no_net_chan, one_value, NetAuto, NetEdge, Net}
+use Rattle.cif_term.specs.Tree.{lt, net_expr, n_truth, n_number, n_var, n_alg, n_not, n_sum, n_compare, n_and, no_net_exprs, net_exprs, no_net_terms, net_terms, net_set, no_net_updates, net_updates}
+use Rattle.cif_model.specs.Net.{no_net_chan, one_value, NetAuto, NetEdge, Net}
 use Rattle.cif_model.specs.Meaning.{system_of_net}
 use Rattle.cif_model.specs.Facts.{is_net}
 use Rattle.cif_source.specs.Source.{Source, no_source}

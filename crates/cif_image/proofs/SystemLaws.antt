@@ -10,7 +10,8 @@ use Rattle.cif_system.specs.Words.{Member}
 use Rattle.cif_system.specs.System.{State, syncing}
 use Rattle.cif_system.specs.Step.{same_role, is_number}
 use Rattle.cif_system.proofs.Lists.{map-length}
-use Rattle.cif_model.specs.Net.{Net, NetExpr, net_expr}
+use Rattle.cif_term.specs.Tree.{NetExpr, net_expr}
+use Rattle.cif_model.specs.Net.{Net}
 use Rattle.cif_model.specs.Meaning.{edge_meant, automaton_in, event_in, stored_in, exclusion_in, invariant_in, defined_value, system_of_net, value_in}
 use Rattle.cif_model.specs.Exprs.{placed}
 use Rattle.cif_model.proofs.Passing.{all-member}

@@ -10,7 +10,7 @@ use Rattle.cif_ast.specs.declared.expressions.CmpOp.TheVariants as cmp
 use Rattle.cif_ast.specs.declared.expressions.MulOp.{MulOp}
 use Rattle.cif_ast.specs.declared.expressions.MulOp.TheVariants as mul
 use Rattle.cif_system.specs.System.{State}
-use Rattle.cif_model.specs.Net.{NetExpr, net_expr, NetExprs, no_net_exprs, net_exprs}
+use Rattle.cif_term.specs.Tree.{NetExpr, net_expr, NetExprs, no_net_exprs, net_exprs}
 use Rattle.cif_model.specs.Value as net
 use Rattle.cif_model.specs.Value.{net_value, net_sum, net_product, net_all, net_any, net_cases}
 use Rattle.cif_source.specs.Value.{of_bool, is_true, compared, added, multiplied, value_with, shape_value, sum_value, product_value, all_true, any_true, branch_value}

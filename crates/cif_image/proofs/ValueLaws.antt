@@ -13,7 +13,8 @@ use Rattle.cif_ast.specs.declared.names.Ident.{Ident}
 use Rattle.cif_system.specs.Words.{Member}
 use Rattle.cif_system.specs.System.{State, in_range}
 use Rattle.cif_system.proofs.Lists.{filter-member, false-true, map-length}
-use Rattle.cif_model.specs.Net.{NetExpr, net_expr, n_number, AlgValue, one_value, by_loc}
+use Rattle.cif_term.specs.Tree.{NetExpr, net_expr, n_number}
+use Rattle.cif_model.specs.Net.{AlgValue, one_value, by_loc}
 use Rattle.cif_model.specs.Unfolding.{at_or}
 use Rattle.cif_model.specs.Value.{net_value, net_form_value}
 use Rattle.cif_model.specs.Meaning as net

@@ -7,7 +7,8 @@ use Rattle.cif_ast.specs.Tree.{Tree, UpdateTree, assignment, selection, UpdateTr
 use Rattle.cif_ast.specs.declared.names.Ident.{Ident}
 use Rattle.cif_ast.specs.declared.names.Name.{Name}
 use Rattle.cif_system.specs.System as system
-use Rattle.cif_model.specs.Net.{NetExpr, net_expr, n_number, NetUpdate, net_set, net_choose, NetUpdates, no_net_updates, net_updates, NetUpdateBranches, no_net_update_branches, net_update_branches, no_net_chan, NetEdge, NetAuto, NetEvent, NetStored, AlgValue, one_value, by_loc, NetAlg, NetExclusion, NetInvariant, Net}
+use Rattle.cif_term.specs.Tree.{NetExpr, net_expr, n_number, NetUpdate, net_set, net_choose, NetUpdates, no_net_updates, net_updates, NetUpdateBranches, no_net_update_branches, net_update_branches}
+use Rattle.cif_model.specs.Net.{no_net_chan, NetEdge, NetAuto, NetEvent, NetStored, AlgValue, one_value, by_loc, NetAlg, NetExclusion, NetInvariant, Net}
 use Rattle.cif_model.specs.Exprs.{placed}
 use Rattle.cif_source.specs.Source.{Text, RoleTree, sends, LocationTree, always, needs, disables, event_decl, disc_decl, input_decl, alg_decl, invariant_decl, TypeTree, SourceBody, group_body, automaton_body, Source, tree_at, list_of_trees}
 use Rattle.cif_source.specs.Components.{Component, body_of, specification_of, Path, path_of}

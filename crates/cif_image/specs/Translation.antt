@@ -9,8 +9,8 @@ use Rattle.cif_ast.specs.declared.expressions.CmpOp.{CmpOp}
 use Rattle.cif_ast.specs.declared.expressions.CmpOp.TheVariants as cmp
 use Rattle.cif_ast.specs.declared.expressions.MulOp.{MulOp}
 use Rattle.cif_ast.specs.declared.expressions.MulOp.TheVariants as mul
-use Rattle.cif_model.specs.Net as net
-use Rattle.cif_model.specs.Net.{NetExpr, net_expr, NetForm, n_truth, n_number, n_loc, n_var, n_input, n_alg, n_received, n_minus, n_plus, n_not, n_abs, n_min, n_max, n_sum, n_product, n_compare, n_and, n_or, n_implies, n_iff, n_if, NetExprs, no_net_exprs, net_exprs, NetTerms, no_net_terms, net_terms, NetFactors, no_net_factors, net_factors, NetBranches, no_net_branches, net_branches}
+use Rattle.cif_term.specs.Tree as net
+use Rattle.cif_term.specs.Tree.{NetExpr, net_expr, NetForm, n_truth, n_number, n_loc, n_var, n_input, n_alg, n_received, n_minus, n_plus, n_not, n_abs, n_min, n_max, n_sum, n_product, n_compare, n_and, n_or, n_implies, n_iff, n_if, NetExprs, no_net_exprs, net_exprs, NetTerms, no_net_terms, net_terms, NetFactors, no_net_factors, net_factors, NetBranches, no_net_branches, net_branches}
 use Rattle.cif_model.specs.Exprs.{placed}
 use Rattle.cif_source.specs.Source.{const_decl, alg_decl, input_decl, disc_decl}
 use Rattle.cif_source.specs.Components.{Component, specification_of, declared, literal, location}

@@ -8,7 +8,7 @@ use Rattle.std.proofs.Math.Nat.{mul-le-mul_right, mul-le-mul_left, div-mul-le_se
 use Rattle.std.proofs.lemmas.Nat.{le-div}
 use Rattle.cif_base.specs.Bounds.{corners, greatest_abs, least_rem, greatest_rem}
 use Rattle.cif_system.specs.System.{Range, in_range}
-use Rattle.cif_model.specs.Net.{MulOp, times, divided, modulo}
+use Rattle.cif_term.specs.Tree.{MulOp, times, divided, modulo}
 use Rattle.cif_model.specs.Value.{multiplied}
 use Rattle.cif_model.specs.Interval.{between, as_bounds, as_range, mul_ranges, abs_range}
 use Rattle.cif_model.proofs.Orders.{Lies, Between, rising, falling, four}

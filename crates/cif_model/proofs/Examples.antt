@@ -4,7 +4,8 @@ use Rattle.std.specs.List.{range_with_len}
 use Rattle.cif_base.specs.declared.types.Ty.{Ty}
 use Rattle.cif_base.specs.declared.types.Ty.TheVariants as ty
 use Rattle.cif_system.specs.System.{State, Class, plain, con, unc, Role, syncing, sending, receiving}
-use Rattle.cif_model.specs.Net.{CmpOp, eq, lt, le, times, divided, modulo, NetExpr, net_expr, NetForm, n_truth, n_number, n_var, n_input, n_alg, n_received, n_minus, n_sum, n_product, n_compare, no_net_terms, net_terms, no_net_factors, net_factors, net_set, net_choose, NetUpdates, no_net_updates, net_updates, no_net_update_branches, net_update_branches, NetChan, no_net_chan, net_chan_of, NetEdge, NetAuto, NetEvent, NetStored, one_value, by_loc, NetAlg, Net}
+use Rattle.cif_term.specs.Tree.{CmpOp, eq, lt, le, times, divided, modulo, NetExpr, net_expr, NetForm, n_truth, n_number, n_var, n_input, n_alg, n_received, n_minus, n_sum, n_product, n_compare, no_net_terms, net_terms, no_net_factors, net_factors, net_set, net_choose, NetUpdates, no_net_updates, net_updates, no_net_update_branches, net_update_branches}
+use Rattle.cif_model.specs.Net.{NetChan, no_net_chan, net_chan_of, NetEdge, NetAuto, NetEvent, NetStored, one_value, by_loc, NetAlg, Net}
 
 -- ---- expressions, with no place told
 

@@ -3,7 +3,7 @@ use Rattle.std.proofs.Common.{◌≡◌, Bool, true, false, ℤ, pos, nat_abs, �
 use Rattle.std.proofs.lemmas.Int.{ints, clamps}
 use Rattle.cif_base.specs.Bounds.{of_four}
 use Rattle.cif_system.specs.System.{Range, in_range}
-use Rattle.cif_model.specs.Net.{MulOp, times, divided, modulo}
+use Rattle.cif_term.specs.Tree.{MulOp, times, divided, modulo}
 use Rattle.cif_model.specs.Interval.{as_range, joined, neg_range, add_ranges, mul_ranges, abs_range, min_ranges, max_ranges}
 use Rattle.cif_model.proofs.Orders.{Lies, le-trans}
 use Rattle.cif_model.proofs.Corners.{corner_range, rem_range, greatest, CanMultiply, times-holds, quot-holds, abs-most, abs-holds, not-zero}

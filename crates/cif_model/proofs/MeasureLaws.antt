@@ -1,7 +1,7 @@
 -- The interval and the measure of an expression in which algebraic variables are replaced.
 use Rattle.std.proofs.Common.{◌≡◌, ℕ, suc, ◌+◌, max, List, [], ◌∷◌, map, length, refl, ap, arith}
 use Rattle.cif_system.specs.System.{Range}
-use Rattle.cif_model.specs.Net.{NetExpr, net_expr, NetForm, n_truth, n_number, n_loc, n_var, n_input, n_alg, n_received, n_minus, n_plus, n_not, n_abs, n_min, n_max, n_sum, n_product, n_compare, n_and, n_or, n_implies, n_iff, n_if, NetExprs, no_net_exprs, net_exprs, NetTerms, no_net_terms, net_terms, NetFactors, no_net_factors, net_factors, NetBranches, no_net_branches, net_branches}
+use Rattle.cif_term.specs.Tree.{NetExpr, net_expr, NetForm, n_truth, n_number, n_loc, n_var, n_input, n_alg, n_received, n_minus, n_plus, n_not, n_abs, n_min, n_max, n_sum, n_product, n_compare, n_and, n_or, n_implies, n_iff, n_if, NetExprs, no_net_exprs, net_exprs, NetTerms, no_net_terms, net_terms, NetFactors, no_net_factors, net_factors, NetBranches, no_net_branches, net_branches}
 use Rattle.cif_model.specs.Interval.{join_all, joined, neg_range, add_ranges, mul_ranges, abs_range, min_ranges, max_ranges, Ranges, with_algs, range_of, form_range, sum_range, product_range, cases_range}
 use Rattle.cif_model.specs.Counts.{Measure, all_beside, by_location, beside, above, measure_by, form_measure, terms_measure, factors_measure, list_measure, branches_measure}
 use Rattle.cif_model.specs.Inline.{replaced, form_replaced, terms_replaced, factors_replaced, list_replaced, branches_replaced, place_branches, last_of, by_places}

@@ -4,7 +4,8 @@ use Rattle.std.specs.List.{range_with_len}
 use Rattle.cif_base.specs.declared.types.Ty.{Ty}
 use Rattle.cif_base.specs.declared.types.Ty.TheVariants as ty
 use Rattle.cif_system.specs.System.{plain, unc, syncing, sending, receiving}
-use Rattle.cif_model.specs.Net.{Text, eq, ne, lt, le, gt, times, divided, NetExpr, net_expr, n_number, n_loc, n_input, n_alg, n_received, n_minus, n_plus, n_abs, n_min, n_max, n_not, n_product, n_and, n_or, n_implies, n_iff, n_if, n_compare, no_net_exprs, net_exprs, no_net_factors, net_factors, no_net_branches, net_branches, net_choose, no_net_updates, net_updates, no_net_update_branches, net_update_branches, NetChan, no_net_chan, void_net_chan, net_chan_of, NetEdge, NetStored, by_loc, Net}
+use Rattle.cif_term.specs.Tree.{eq, ne, lt, le, gt, times, divided, NetExpr, net_expr, n_number, n_loc, n_input, n_alg, n_received, n_minus, n_plus, n_abs, n_min, n_max, n_not, n_product, n_and, n_or, n_implies, n_iff, n_if, n_compare, no_net_exprs, net_exprs, no_net_factors, net_factors, no_net_branches, net_branches, net_choose, no_net_updates, net_updates, no_net_update_branches, net_update_branches}
+use Rattle.cif_model.specs.Net.{Text, NetChan, no_net_chan, void_net_chan, net_chan_of, NetEdge, NetStored, by_loc, Net}
 use Rattle.cif_model.specs.Facts.{is_net, is_type, things}
 use Rattle.cif_system.specs.Words.{one, more}
 use Rattle.cif_model.specs.Rules.{is_plain, IsCyclic, AlgCycle, ZeroDivisor, TooWide, InvariantReadsInput, InvariantFalse, TooLarge}

@@ -5,7 +5,8 @@ use Rattle.std.proofs.lemmas.Int.{ints}
 use Rattle.cif_base.specs.Bounds.{in_64_bits}
 use Rattle.cif_system.specs.System.{Range, State, AllFit, IsState, in_range}
 use Rattle.cif_system.specs.Words.{Member}
-use Rattle.cif_model.specs.Net.{NetExpr, NetStored, Net}
+use Rattle.cif_term.specs.Tree.{NetExpr}
+use Rattle.cif_model.specs.Net.{NetStored, Net}
 use Rattle.cif_model.specs.Unfolding.{at_or}
 use Rattle.cif_model.specs.Meaning.{alg_values, stored_in, system_of_net, value_in}
 use Rattle.cif_model.specs.Interval.{declared_ranges, interval, stored_range}

@@ -3,7 +3,8 @@ use Rattle.std.proofs.Common.{◌≡◌, ◌+◌, ◌*◌, pos, negsuc, Bool, tr
 use Rattle.cif_system.specs.System.{State, initial, outputs}
 use Rattle.cif_system.specs.Choices.{first_step, all_choices}
 use Rattle.cif_system.specs.Scan.{exact_scan}
-use Rattle.cif_model.specs.Net.{eq, lt, times, divided, modulo, n_truth, n_input, n_alg, n_loc, n_received, no_net_updates, Net}
+use Rattle.cif_term.specs.Tree.{eq, lt, times, divided, modulo, n_truth, n_input, n_alg, n_loc, n_received, no_net_updates}
+use Rattle.cif_model.specs.Net.{Net}
 use Rattle.cif_model.specs.Meaning.{system_of_net, true_in}
 use Rattle.cif_model.specs.Interval.{point, between, mul_ranges, abs_range, interval}
 use Rattle.cif_model.specs.Facts.{is_net}

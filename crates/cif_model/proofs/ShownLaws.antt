@@ -5,7 +5,8 @@ use Rattle.std.proofs.lemmas.Int.{ints}
 use Rattle.cif_base.specs.declared.types.Ty.{Ty}
 use Rattle.cif_system.specs.System.{Range, State, IsState, in_range}
 use Rattle.cif_system.specs.Words.{Member}
-use Rattle.cif_model.specs.Net.{NetExpr, net_expr, NetForm, NetEdge, NetStored, Net}
+use Rattle.cif_term.specs.Tree.{NetExpr, net_expr, NetForm}
+use Rattle.cif_model.specs.Net.{NetEdge, NetStored, Net}
 use Rattle.cif_model.specs.Unfolding.{at_or}
 use Rattle.cif_model.specs.Value.{net_value}
 use Rattle.cif_model.specs.Meaning.{type_range, alg_values, value_in, true_in, system_of_net}

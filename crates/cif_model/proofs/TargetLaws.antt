@@ -7,7 +7,8 @@ use Rattle.cif_base.specs.declared.types.Ty.TheVariants as ty
 use Rattle.cif_system.specs.System.{State, IsState, Role, syncing, sending, receiving, in_range}
 use Rattle.cif_system.specs.Words.{Member}
 use Rattle.cif_system.proofs.Picks.{append-left, append-right, map-member, flat_map-member, at-member}
-use Rattle.cif_model.specs.Net.{NetExpr, NetUpdate, net_set, net_choose, NetUpdates, no_net_updates, net_updates, NetUpdateBranches, no_net_update_branches, net_update_branches, NetChan, no_net_chan, void_net_chan, net_chan_of, NetEdge, NetAuto, NetStored, Net}
+use Rattle.cif_term.specs.Tree.{NetExpr, NetUpdate, net_set, net_choose, NetUpdates, no_net_updates, net_updates, NetUpdateBranches, no_net_update_branches, net_update_branches}
+use Rattle.cif_model.specs.Net.{NetChan, no_net_chan, void_net_chan, net_chan_of, NetEdge, NetAuto, NetStored, Net}
 use Rattle.cif_model.specs.Unfolding.{at_or}
 use Rattle.cif_model.specs.Meaning.{type_range, alg_values, value_in, true_in, system_of_net}
 use Rattle.cif_model.specs.Exprs.{Written, writes_all, writes_by, writes_in, updates_exprs, update_exprs, branches_exprs, edge_exprs, all_edges}

@@ -5,7 +5,8 @@ use Rattle.std.proofs.lemmas.List.Folds.{list_all-append}
 use Rattle.std.proofs.lemmas.Bool.Decides.{nat_tests}
 use Rattle.cif_system.specs.System.{State, Role, syncing, sending, receiving}
 use Rattle.cif_system.specs.Step.{Choice, moves, same_role, is_enabled, passes, fits}
-use Rattle.cif_model.specs.Net.{NetExpr, NetAuto, NetEdge, Net}
+use Rattle.cif_term.specs.Tree.{NetExpr}
+use Rattle.cif_model.specs.Net.{NetAuto, NetEdge, Net}
 use Rattle.cif_model.specs.Unfolding.{at_or}
 use Rattle.cif_model.specs.Value.{of_bool, is_true, net_all}
 use Rattle.cif_model.specs.Meaning.{alg_values, true_in, edge_meant, automaton_in, system_of_net}

@@ -3,7 +3,8 @@
 use Rattle.std.specs.Prelude.{ℕ, zero, suc, ◌+◌, ◌*◌, max, min, nat_lt, Bool, ◌||◌, List, [], ◌∷◌, map, length, flat_map, filter, sum_by, nat_eq}
 use Rattle.cif_system.specs.Step.{Choice}
 use Rattle.cif_system.specs.Choices.{choices, event_numbers, product_by}
-use Rattle.cif_model.specs.Net.{NetExpr, net_expr, NetForm, n_alg, n_minus, n_plus, n_not, n_abs, n_min, n_max, n_sum, n_product, n_compare, n_and, n_or, n_implies, n_iff, n_if, NetExprs, no_net_exprs, net_exprs, NetTerms, no_net_terms, net_terms, NetFactors, no_net_factors, net_factors, NetBranches, no_net_branches, net_branches, one_value, by_loc, NetAlg, NetExclusion, NetInvariant, Net}
+use Rattle.cif_term.specs.Tree.{NetExpr, net_expr, NetForm, n_alg, n_minus, n_plus, n_not, n_abs, n_min, n_max, n_sum, n_product, n_compare, n_and, n_or, n_implies, n_iff, n_if, NetExprs, no_net_exprs, net_exprs, NetTerms, no_net_terms, net_terms, NetFactors, no_net_factors, net_factors, NetBranches, no_net_branches, net_branches}
+use Rattle.cif_model.specs.Net.{one_value, by_loc, NetAlg, NetExclusion, NetInvariant, Net}
 use Rattle.cif_model.specs.Unfolding.{at_or, unfolded}
 use Rattle.cif_model.specs.Meaning.{system_of_net}
 use Rattle.cif_model.specs.Exprs.{edge_exprs, all_exprs}

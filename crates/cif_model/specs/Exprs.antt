@@ -1,6 +1,7 @@
 -- The expressions that a net evaluates, and the variables that its updates assign.
 use Rattle.std.specs.Prelude.{ℕ, List, [], ◌∷◌, ◌++◌, map, flat_map, option_to_list}
-use Rattle.cif_model.specs.Net.{NetExpr, net_expr, NetUpdate, net_set, net_choose, NetUpdates, no_net_updates, net_updates, NetUpdateBranches, no_net_update_branches, net_update_branches, NetEdge, NetAuto, one_value, by_loc, NetAlg, NetExclusion, NetInvariant, Net}
+use Rattle.cif_term.specs.Tree.{NetExpr, net_expr, NetUpdate, net_set, net_choose, NetUpdates, no_net_updates, net_updates, NetUpdateBranches, no_net_update_branches, net_update_branches}
+use Rattle.cif_model.specs.Net.{NetEdge, NetAuto, one_value, by_loc, NetAlg, NetExclusion, NetInvariant, Net}
 
 abbrev pub expr_at : NetExpr → ℕ
 expr_at (net_expr f at) = at

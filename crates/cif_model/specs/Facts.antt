@@ -5,7 +5,8 @@ use Rattle.cif_base.specs.declared.types.Ty.{Ty}
 use Rattle.cif_base.specs.declared.types.Ty.TheVariants as ty
 use Rattle.cif_system.specs.System.{Role, syncing, sending, receiving, in_range}
 use Rattle.cif_system.specs.Step.{same_role}
-use Rattle.cif_model.specs.Net.{Text, NetExpr, NetUpdate, net_set, net_choose, NetUpdates, no_net_updates, net_updates, NetUpdateBranches, no_net_update_branches, net_update_branches, NetChan, no_net_chan, void_net_chan, net_chan_of, NetEdge, NetAuto, NetEvent, NetStored, one_value, by_loc, NetAlg, NetExclusion, NetInvariant, Net}
+use Rattle.cif_term.specs.Tree.{NetExpr, NetUpdate, net_set, net_choose, NetUpdates, no_net_updates, net_updates, NetUpdateBranches, no_net_update_branches, net_update_branches}
+use Rattle.cif_model.specs.Net.{Text, NetChan, no_net_chan, void_net_chan, net_chan_of, NetEdge, NetAuto, NetEvent, NetStored, one_value, by_loc, NetAlg, NetExclusion, NetInvariant, Net}
 use Rattle.cif_model.specs.Meaning.{type_range}
 use Rattle.cif_model.specs.Exprs.{edge_values, targets}
 use Rattle.cif_model.specs.Kinds.{Kind, bool_kind, kind_of, in_32_bits, places_of, fits, fits_type}

@@ -3,7 +3,8 @@
 use Rattle.std.specs.Prelude.{ℕ, ℤ, pos, Bool, true, false, List, [], ◌∷◌, map, length, Option, Some, None, slice_get}
 use Rattle.cif_base.specs.Bounds.{Bounds, neg_bounds, add_bounds, sub_bounds, mul_bounds, div_bounds, rem_bounds, abs_bounds, min_bounds, max_bounds, join_bounds}
 use Rattle.cif_system.specs.System.{Range}
-use Rattle.cif_model.specs.Net.{MulOp, times, divided, modulo, NetExpr, net_expr, NetForm, n_number, n_var, n_input, n_alg, n_received, n_minus, n_plus, n_abs, n_min, n_max, n_sum, n_product, n_if, NetTerms, no_net_terms, net_terms, NetFactors, no_net_factors, net_factors, NetBranches, no_net_branches, net_branches, NetStored, one_value, by_loc, NetAlg, Net}
+use Rattle.cif_term.specs.Tree.{MulOp, times, divided, modulo, NetExpr, net_expr, NetForm, n_number, n_var, n_input, n_alg, n_received, n_minus, n_plus, n_abs, n_min, n_max, n_sum, n_product, n_if, NetTerms, no_net_terms, net_terms, NetFactors, no_net_factors, net_factors, NetBranches, no_net_branches, net_branches}
+use Rattle.cif_model.specs.Net.{NetStored, one_value, by_loc, NetAlg, Net}
 use Rattle.cif_model.specs.Unfolding.{at_or, unfolded}
 use Rattle.cif_model.specs.Meaning.{type_range}
 

@@ -3,7 +3,8 @@ use Rattle.std.specs.Prelude.{ℕ, ℤ, pos, neg_ℤ, int_lt, int_le, Bool, true
 use Rattle.std.specs.List.{list_any}
 use Rattle.cif_base.specs.declared.types.Ty.{Ty}
 use Rattle.cif_base.specs.declared.types.Ty.TheVariants as ty
-use Rattle.cif_model.specs.Net.{Text, CmpOp, eq, ne, NetExpr, net_expr, NetForm, n_truth, n_number, n_loc, n_var, n_input, n_alg, n_received, n_minus, n_plus, n_not, n_abs, n_min, n_max, n_sum, n_product, n_compare, n_and, n_or, n_implies, n_iff, n_if, NetExprs, no_net_exprs, net_exprs, NetTerms, no_net_terms, net_terms, NetFactors, no_net_factors, net_factors, NetBranches, no_net_branches, net_branches, NetChan, net_chan_of, NetAuto, NetEvent, NetStored, NetAlg, Net}
+use Rattle.cif_term.specs.Tree.{CmpOp, eq, ne, NetExpr, net_expr, NetForm, n_truth, n_number, n_loc, n_var, n_input, n_alg, n_received, n_minus, n_plus, n_not, n_abs, n_min, n_max, n_sum, n_product, n_compare, n_and, n_or, n_implies, n_iff, n_if, NetExprs, no_net_exprs, net_exprs, NetTerms, no_net_terms, net_terms, NetFactors, no_net_factors, net_factors, NetBranches, no_net_branches, net_branches}
+use Rattle.cif_model.specs.Net.{Text, NetChan, net_chan_of, NetAuto, NetEvent, NetStored, NetAlg, Net}
 use Rattle.std.specs.Cmp.Lexicographic.{pointwise}
 
 -- two enumerations are one type where their literals have the same names in the same order

@@ -5,7 +5,8 @@ use Rattle.std.specs.List.{list_any, enumerate_from, range_with_len}
 use Rattle.cif_system.specs.System.{Role, syncing, sending, receiving, System}
 use Rattle.cif_system.specs.Step.{Choice, same_role}
 use Rattle.cif_system.specs.Choices.{choices, event_numbers}
-use Rattle.cif_model.specs.Net.{NetExpr, net_expr, n_loc, n_not, n_and, NetExprs, no_net_exprs, net_exprs, NetUpdates, no_net_updates, net_updates, NetEdge, NetAuto, NetExclusion, Net}
+use Rattle.cif_term.specs.Tree.{NetExpr, net_expr, n_loc, n_not, n_and, NetExprs, no_net_exprs, net_exprs, NetUpdates, no_net_updates, net_updates}
+use Rattle.cif_model.specs.Net.{NetEdge, NetAuto, NetExclusion, Net}
 use Rattle.cif_model.specs.Meaning.{system_of_net}
 
 -- ---- roles

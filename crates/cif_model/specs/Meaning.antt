@@ -4,7 +4,8 @@ use Rattle.std.specs.List.{list_all, list_any}
 use Rattle.cif_base.specs.declared.types.Ty.{Ty}
 use Rattle.cif_base.specs.declared.types.Ty.TheVariants as ty
 use Rattle.cif_system.specs.System.{State, Range, Edge, Automaton, Channel, no_channel, void_channel, value_channel, Event, Exclusion, Stored, System}
-use Rattle.cif_model.specs.Net.{NetExpr, NetUpdate, net_set, net_choose, NetUpdates, no_net_updates, net_updates, NetUpdateBranches, no_net_update_branches, net_update_branches, NetChan, no_net_chan, void_net_chan, net_chan_of, NetEdge, NetAuto, NetEvent, NetStored, one_value, by_loc, NetAlg, NetExclusion, NetInvariant, Net}
+use Rattle.cif_term.specs.Tree.{NetExpr, NetUpdate, net_set, net_choose, NetUpdates, no_net_updates, net_updates, NetUpdateBranches, no_net_update_branches, net_update_branches}
+use Rattle.cif_model.specs.Net.{NetChan, no_net_chan, void_net_chan, net_chan_of, NetEdge, NetAuto, NetEvent, NetStored, one_value, by_loc, NetAlg, NetExclusion, NetInvariant, Net}
 use Rattle.cif_model.specs.Unfolding.{at_or, unfolded}
 use Rattle.cif_model.specs.Value.{is_true, net_value}
 

@@ -4,7 +4,7 @@ use Rattle.std.specs.Prelude.{ℕ, pos, Bool, not, List, [], ◌∷◌, ◌++◌
 use Rattle.std.specs.List.{list_all}
 use Rattle.cif_base.specs.Bounds as bounds
 use Rattle.cif_system.specs.System.{Range, in_range}
-use Rattle.cif_model.specs.Net.{MulOp, times, divided, modulo, NetExpr, net_expr, NetForm, n_minus, n_plus, n_not, n_abs, n_min, n_max, n_sum, n_product, n_compare, n_and, n_or, n_implies, n_iff, n_if, NetExprs, no_net_exprs, net_exprs, NetTerms, no_net_terms, net_terms, NetFactors, no_net_factors, net_factors, NetBranches, no_net_branches, net_branches}
+use Rattle.cif_term.specs.Tree.{MulOp, times, divided, modulo, NetExpr, net_expr, NetForm, n_minus, n_plus, n_not, n_abs, n_min, n_max, n_sum, n_product, n_compare, n_and, n_or, n_implies, n_iff, n_if, NetExprs, no_net_exprs, net_exprs, NetTerms, no_net_terms, net_terms, NetFactors, no_net_factors, net_factors, NetBranches, no_net_branches, net_branches}
 use Rattle.cif_model.specs.Interval.{as_bounds, Ranges, range_of}
 
 abbrev pub add_term : NetTerms → (minus : Bool) → NetExpr → NetTerms

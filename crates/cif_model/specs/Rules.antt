@@ -4,7 +4,8 @@ use Rattle.std.specs.Prelude.{◌≡◌, ℕ, ◌<◌, pos, Bool, true, false, n
 use Rattle.std.specs.List.{list_all}
 use Rattle.cif_system.specs.System.{Range, initial, in_range}
 use Rattle.cif_system.specs.Words.{Member, Chain}
-use Rattle.cif_model.specs.Net.{NetExpr, NetEdge, NetAlg, NetInvariant, Net}
+use Rattle.cif_term.specs.Tree.{NetExpr}
+use Rattle.cif_model.specs.Net.{NetEdge, NetAlg, NetInvariant, Net}
 use Rattle.cif_model.specs.Meaning.{true_in, system_of_net}
 use Rattle.cif_model.specs.Interval.{interval, declared_ranges, truths}
 use Rattle.cif_model.specs.Exprs.{expr_at, alg_exprs, edge_exprs, all_edges, other_exprs}

@@ -5,7 +5,8 @@ use Rattle.std.specs.Int.{int_min, int_max}
 use Rattle.cif_base.specs.declared.types.Ty.{Ty}
 use Rattle.cif_base.specs.declared.types.Ty.TheVariants as ty
 use Rattle.cif_system.specs.System.{Range}
-use Rattle.cif_model.specs.Net.{CmpOp, eq, ne, lt, le, gt, ge, NetExpr, net_expr, NetForm, n_var, n_input, n_compare, n_and, NetExprs, no_net_exprs, net_exprs, NetChan, net_chan_of, NetEdge, NetStored, Net}
+use Rattle.cif_term.specs.Tree.{CmpOp, eq, ne, lt, le, gt, ge, NetExpr, net_expr, NetForm, n_var, n_input, n_compare, n_and, NetExprs, no_net_exprs, net_exprs}
+use Rattle.cif_model.specs.Net.{NetChan, net_chan_of, NetEdge, NetStored, Net}
 use Rattle.cif_model.specs.Value.{net_value}
 use Rattle.cif_model.specs.Meaning.{type_range}
 use Rattle.cif_model.specs.Interval.{Ranges, range_of, between, point, truths}

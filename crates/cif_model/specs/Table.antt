@@ -4,7 +4,8 @@ use Rattle.std.specs.List.{list_all, range_with_len}
 use Rattle.cif_base.specs.declared.types.Ty.{Ty}
 use Rattle.cif_system.specs.System.{State}
 use Rattle.cif_system.specs.Step.{agrees, sent, assigned, is_permitted}
-use Rattle.cif_model.specs.Net.{NetExpr, Net}
+use Rattle.cif_term.specs.Tree.{NetExpr}
+use Rattle.cif_model.specs.Net.{Net}
 use Rattle.cif_model.specs.Meaning.{value_in, true_in, net_assigned_all, system_of_net}
 use Rattle.cif_model.specs.Exprs.{updates_exprs}
 use Rattle.cif_model.specs.Kinds.{bool_kind, fits, fits_type}
