@@ -3,8 +3,10 @@
 use crate::commands::tool_case;
 use crate::fault::Fault;
 use crate::fields::Fields;
+use crate::graphs::order_case;
 use crate::laws::laws_case;
 use crate::naming::name_case;
+use crate::nets::net_copies_case;
 use crate::plants::{Sight as Plant, emit_case, plant_case};
 use crate::programs::{check_case, print_case, read_case, rows_case, scan_case};
 use crate::sources::{Sight as Source, source_case};
@@ -24,6 +26,8 @@ pub enum Call {
     Plant(Plant),
     Emit,
     Name,
+    Order,
+    NetCopies,
     Program(Program),
 }
 
@@ -145,6 +149,8 @@ impl Call {
             "numbers" => return Some(Call::Plant(Plant::Numbers)),
             "emit" => return Some(Call::Emit),
             "name" => return Some(Call::Name),
+            "order" => return Some(Call::Order),
+            "net-copies" => return Some(Call::NetCopies),
             _ => {}
         }
         if let Some(front) = front_named(word) {
@@ -170,6 +176,8 @@ impl Call {
             Call::Plant(sight) => plant_case(fields, page, sight),
             Call::Emit => emit_case(fields, page),
             Call::Name => name_case(fields, page),
+            Call::Order => order_case(fields, page),
+            Call::NetCopies => net_copies_case(fields.alloc, page),
             Call::Program(program) => program_case(program, fields, page),
         }
     }

@@ -54,6 +54,11 @@ impl<'a> Fields<'a> {
         }
     }
 
+    /// All fields, as they are written.
+    pub fn all(&self) -> &[&'a str] {
+        self.all.as_slice()
+    }
+
     /// The fields behind the first, as they are written.
     pub fn others(&self) -> &[&'a str] {
         match self.all.as_slice() {

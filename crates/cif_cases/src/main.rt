@@ -31,6 +31,9 @@
 //! - `interval OPERATOR | LO HI [LO HI]`, `list ITEM ..`, `text TEXT | FRONT | NUMBER`: intervals, lists and texts;
 //! - `int TEXT`, `put TEXT | TAKES | N ..`, `sure-put TEXT`, `reads N .. | file NAME TEXT | read NAME LIMIT`, `sure-reads`: numbers,
 //!   sinks and files in memory;
+//! - `order NEEDS | NEEDS ..`: the order of nodes, each with the numbers of those that it needs, `-` for none, and the lowest that
+//!   reaches itself;
+//! - `net-copies`: copies of an expression and of an update of a net;
 //! - `laws`: the functions that are laws.
 //!
 //! A program is a text, or a tree where no text says it: `(PROGRAM name (VAR x LINT 5) (INPUT y (RANGE 0 9)) (:= x (+ x 1))
@@ -46,8 +49,10 @@ mod declarations;
 mod expressions;
 mod fault;
 mod fields;
+mod graphs;
 mod laws;
 mod naming;
+mod nets;
 mod page;
 mod plants;
 mod programs;
