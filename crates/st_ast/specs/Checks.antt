@@ -3,7 +3,7 @@
 use Rattle.std.specs.Prelude.{ℕ, suc, ◌+◌, int_le, Bool, true, false, not, ◌&&◌, List, [], ◌∷◌, ◌++◌, Option, Some, None, is_some, option_map, if◌then◌else◌}
 use Rattle.std.specs.List.{list_any}
 use Rattle.st_ast.specs.Names.{same_name, declared}
-use Rattle.st_ast.specs.Tree.{Expr, Exprs, Terms, truth, number, named, paren, negation, sum, order, equal, all_of, any_of, no_exprs, exprs, no_terms, terms, Stm, Stms, Branches, Other, assign, choice, loop, no_stms, stms, no_branches, branches, no_other, other, Program}
+use Rattle.st_ast.specs.Tree.{Expr, Exprs, Factors, Terms, truth, number, named, paren, negation, complement, product, sum, order, equal, all_of, odd_of, any_of, absolute, least, greatest, selection, no_exprs, exprs, no_factors, factors, no_terms, terms, Stm, Stms, Branches, Other, assign, choice, loop, no_stms, stms, no_branches, branches, no_other, other, Program}
 use Rattle.st_ast.specs.declared.tree.StVar.{StVar}
 use Rattle.st_ast.specs.declared.tree.StTy.{StTy}
 use Rattle.st_ast.specs.declared.tree.StTy.TheVariants as ty
@@ -90,12 +90,24 @@ abbrev mutual
   sort_of vars (number z) = Some integer
   sort_of vars (named x) = option_map (λ (v : StVar). sort_of_type v.ty) (declared vars x)
   sort_of vars (paren e) = sort_of vars e
-  sort_of vars (negation e) = given (is_boolean (sort_of vars e)) boolean
+  sort_of vars (negation e) = given (is_integer (sort_of vars e)) integer
+  sort_of vars (complement e) = given (is_boolean (sort_of vars e)) boolean
+  sort_of vars (product e rest) = given (is_integer (sort_of vars e) && all_integer_factors vars rest) integer
   sort_of vars (sum e rest) = given (is_integer (sort_of vars e) && all_integers vars rest) integer
   sort_of vars (order a op b) = given (is_integer (sort_of vars a) && is_integer (sort_of vars b)) boolean
   sort_of vars (equal a same b) = given (is_same_sort (sort_of vars a) (sort_of vars b)) boolean
   sort_of vars (all_of es) = given (all_booleans vars es) boolean
+  sort_of vars (odd_of es) = given (all_booleans vars es) boolean
   sort_of vars (any_of es) = given (all_booleans vars es) boolean
+  sort_of vars (absolute e) = given (is_integer (sort_of vars e)) integer
+  sort_of vars (least a b) = given (is_integer (sort_of vars a) && is_integer (sort_of vars b)) integer
+  sort_of vars (greatest a b) = given (is_integer (sort_of vars a) && is_integer (sort_of vars b)) integer
+  sort_of vars (selection g a b) =
+      if is_boolean (sort_of vars g) && is_same_sort (sort_of vars a) (sort_of vars b) then sort_of vars a else None
+
+  pub all_integer_factors : List StVar → Factors → Bool
+  all_integer_factors vars no_factors = true
+  all_integer_factors vars (factors op e fs) = is_integer (sort_of vars e) && all_integer_factors vars fs
 
   pub all_integers : List StVar → Terms → Bool
   all_integers vars no_terms = true
@@ -113,11 +125,22 @@ abbrev mutual
   knows vars (named x) = is_some (declared vars x)
   knows vars (paren e) = knows vars e
   knows vars (negation e) = knows vars e
+  knows vars (complement e) = knows vars e
+  knows vars (product e rest) = knows vars e && knows_factors vars rest
   knows vars (sum e rest) = knows vars e && knows_terms vars rest
   knows vars (order a op b) = knows vars a && knows vars b
   knows vars (equal a same b) = knows vars a && knows vars b
   knows vars (all_of es) = knows_all vars es
+  knows vars (odd_of es) = knows_all vars es
   knows vars (any_of es) = knows_all vars es
+  knows vars (absolute e) = knows vars e
+  knows vars (least a b) = knows vars a && knows vars b
+  knows vars (greatest a b) = knows vars a && knows vars b
+  knows vars (selection g a b) = knows vars g && (knows vars a && knows vars b)
+
+  pub knows_factors : List StVar → Factors → Bool
+  knows_factors vars no_factors = true
+  knows_factors vars (factors op e fs) = knows vars e && knows_factors vars fs
 
   pub knows_terms : List StVar → Terms → Bool
   knows_terms vars no_terms = true

@@ -14,11 +14,11 @@ pub data Piece : Type 0 where
 
 -- the signs with their kinds, the longer ones first
 abbrev pub sign_kinds : List (Text × TokenKind)
-sign_kinds = (codes ":=", kinds.Assigns) ∷ (codes "..", kinds.Dots) ∷ (codes "<>", kinds.Outside) ∷ (codes "<=", kinds.Outside)
-    ∷ (codes ">=", kinds.Outside) ∷ (codes ";", kinds.Semicolon) ∷ (codes ":", kinds.Colon) ∷ (codes "(", kinds.Open)
+sign_kinds = (codes ":=", kinds.Assigns) ∷ (codes "..", kinds.Dots) ∷ (codes "<>", kinds.Differs) ∷ (codes "<=", kinds.AtMost)
+    ∷ (codes ">=", kinds.AtLeast) ∷ (codes ";", kinds.Semicolon) ∷ (codes ":", kinds.Colon) ∷ (codes "(", kinds.Open)
     ∷ (codes ")", kinds.Close) ∷ (codes ",", kinds.Comma) ∷ (codes "+", kinds.Plus) ∷ (codes "-", kinds.Dash)
-    ∷ (codes "*", kinds.Outside) ∷ (codes "/", kinds.Outside) ∷ (codes "=", kinds.Equals) ∷ (codes "<", kinds.Less)
-    ∷ (codes ">", kinds.Outside) ∷ (codes "&", kinds.Outside) ∷ []
+    ∷ (codes "*", kinds.Times) ∷ (codes "/", kinds.Slash) ∷ (codes "=", kinds.Equals) ∷ (codes "<", kinds.Less)
+    ∷ (codes ">", kinds.Greater) ∷ (codes "&", kinds.And) ∷ []
 
 abbrev pub signs : List Text
 signs = map (λ (e : Text × TokenKind). e.0) sign_kinds
@@ -47,17 +47,19 @@ pub record Token : Type 0 where
 
 -- the keywords, which are compared ignoring case
 abbrev pub keywords : List (Text × TokenKind)
-keywords = (codes "PROGRAM", kinds.Program) ∷ (codes "END_PROGRAM", kinds.EndProgram) ∷ (codes "VAR", kinds.Var) ∷ (codes "VAR_OUTPUT", kinds.VarOutput)
+keywords = (codes "PROGRAM", kinds.Program) ∷ (codes "END_PROGRAM", kinds.EndProgram) ∷ (codes "VAR", kinds.Var)
+    ∷ (codes "CONSTANT", kinds.Constant) ∷ (codes "VAR_INPUT", kinds.VarInput) ∷ (codes "VAR_OUTPUT", kinds.VarOutput)
     ∷ (codes "END_VAR", kinds.EndVar) ∷ (codes "BOOL", kinds.Bool) ∷ (codes "LINT", kinds.Lint) ∷ (codes "TRUE", kinds.True)
     ∷ (codes "FALSE", kinds.False) ∷ (codes "IF", kinds.If) ∷ (codes "THEN", kinds.Then) ∷ (codes "ELSIF", kinds.Elsif)
     ∷ (codes "ELSE", kinds.Else) ∷ (codes "END_IF", kinds.EndIf) ∷ (codes "WHILE", kinds.While) ∷ (codes "DO", kinds.Do)
-    ∷ (codes "END_WHILE", kinds.EndWhile) ∷ (codes "NOT", kinds.Not) ∷ (codes "AND", kinds.And) ∷ (codes "OR", kinds.Or) ∷ []
+    ∷ (codes "END_WHILE", kinds.EndWhile) ∷ (codes "NOT", kinds.Not) ∷ (codes "AND", kinds.And) ∷ (codes "XOR", kinds.Xor)
+    ∷ (codes "OR", kinds.Or) ∷ (codes "MOD", kinds.Mod) ∷ (codes "ABS", kinds.Abs) ∷ (codes "MIN", kinds.Min)
+    ∷ (codes "MAX", kinds.Max) ∷ (codes "SEL", kinds.Sel) ∷ []
 
 -- the other reserved words
 abbrev pub reserved : List Text
-reserved = codes "CONSTANT" ∷ codes "VAR_INPUT" ∷ codes "XOR" ∷ codes "MOD" ∷ codes "ABS" ∷ codes "MIN" ∷ codes "MAX"
-    ∷ codes "SEL" ∷ codes "DINT" ∷ codes "AT" ∷ codes "CASE" ∷ codes "OF" ∷ codes "END_CASE" ∷ codes "FOR" ∷ codes "TO"
-    ∷ codes "BY" ∷ codes "END_FOR" ∷ codes "REPEAT" ∷ codes "UNTIL" ∷ codes "END_REPEAT" ∷ codes "EXIT" ∷ codes "RETURN"
+reserved = codes "DINT" ∷ codes "AT" ∷ codes "CASE" ∷ codes "OF" ∷ codes "END_CASE" ∷ codes "FOR" ∷ codes "TO" ∷ codes "BY"
+    ∷ codes "END_FOR" ∷ codes "REPEAT" ∷ codes "UNTIL" ∷ codes "END_REPEAT" ∷ codes "EXIT" ∷ codes "RETURN"
     ∷ codes "FUNCTION" ∷ codes "FUNCTION_BLOCK" ∷ codes "ARRAY" ∷ codes "STRUCT" ∷ codes "STRING" ∷ codes "REAL"
     ∷ codes "LREAL" ∷ codes "TIME" ∷ codes "TYPE" ∷ []
 

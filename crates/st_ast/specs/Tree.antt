@@ -1,6 +1,7 @@
 -- The tree of a program as plain data, on which all definitions stand. `View` ties it to the types of `src/`.
 use Rattle.std.specs.Prelude.{ℤ, Bool, List, [], ◌∷◌}
 use Rattle.grammar.specs.Pieces.{Text}
+use Rattle.st_ast.specs.declared.tree.StMul.{StMul}
 use Rattle.st_ast.specs.declared.tree.StOrder.{StOrder}
 use Rattle.st_ast.specs.declared.tree.StVar.{StVar}
 
@@ -10,16 +11,32 @@ mutual
     number : ℤ → Expr
     named : Text → Expr
     paren : Expr → Expr
+    -- unary minus
     negation : Expr → Expr
+    -- NOT
+    complement : Expr → Expr
+    product : Expr → Factors → Expr
     sum : Expr → Terms → Expr
     order : Expr → StOrder → Expr → Expr
     equal : Expr → Bool → Expr → Expr
+    -- AND, XOR, OR
     all_of : Exprs → Expr
+    odd_of : Exprs → Expr
     any_of : Exprs → Expr
+    -- ABS, MIN, MAX
+    absolute : Expr → Expr
+    least : Expr → Expr → Expr
+    greatest : Expr → Expr → Expr
+    -- SEL: the condition, the value where it is FALSE, and the one where it is TRUE
+    selection : Expr → Expr → Expr → Expr
 
   pub data Exprs : Type 0 where
     no_exprs : Exprs
     exprs : Expr → Exprs → Exprs
+
+  pub data Factors : Type 0 where
+    no_factors : Factors
+    factors : StMul → Expr → Factors → Factors
 
   -- true: subtracted
   pub data Terms : Type 0 where

@@ -1,9 +1,11 @@
 -- The values of expressions (IEC 61131-3, "Expressions"). A BOOL is 0 or 1. Every operand is evaluated, from left to
 -- right, and the first fault ends the evaluation.
-use Rattle.std.specs.Prelude.{ℕ, zero, suc, ◌^◌, ℤ, pos, negsuc, ◌+ℤ◌, ◌-ℤ◌, int_lt, int_le, nat_lt, nat_eq, Bool, true, false, not, ◌&&◌, ◌||◌, List, Result, Ok, Err, slice_index_or, if◌then◌else◌}
+use Rattle.std.specs.Prelude.{ℕ, zero, suc, ◌^◌, ℤ, pos, negsuc, ◌+ℤ◌, ◌-ℤ◌, ◌*ℤ◌, neg_ℤ, nat_abs, int_div, int_rem, int_lt, int_le, nat_lt, nat_eq, Bool, true, false, not, ◌&&◌, ◌||◌, List, Result, Ok, Err, slice_index_or, if◌then◌else◌}
 use Rattle.st_ast.specs.Names.{place_of}
-use Rattle.st_ast.specs.Tree.{Expr, Exprs, Terms, truth, number, named, paren, negation, sum, order, equal, all_of, any_of, no_exprs, exprs, no_terms, terms}
+use Rattle.st_ast.specs.Tree.{Expr, Exprs, Factors, Terms, truth, number, named, paren, negation, complement, product, sum, order, equal, all_of, odd_of, any_of, absolute, least, greatest, selection, no_exprs, exprs, no_factors, factors, no_terms, terms}
 use Rattle.st_ast.specs.declared.tree.StVar.{StVar}
+use Rattle.st_ast.specs.declared.tree.StMul.{StMul}
+use Rattle.st_ast.specs.declared.tree.StMul.TheVariants as mul
 use Rattle.st_ast.specs.declared.tree.StOrder.{StOrder}
 use Rattle.st_ast.specs.declared.tree.StOrder.TheVariants as cmp
 
@@ -64,18 +66,56 @@ abbrev pub are_equal : Bool → ℤ → ℤ → Bool
 are_equal true a b = same_number a b
 are_equal false a b = not (same_number a b)
 
+-- `/` rounds towards zero, and by 0 it is a fault
+abbrev pub divided : ℤ → ℤ → Result ℤ Fault
+divided a b = if same_number b (pos 0) then Err zero_divide else checked (int_div a b)
+
+-- MOD has the sign of the dividend, and by 0 it is 0
+abbrev pub remainder : ℤ → ℤ → ℤ
+remainder a b = if same_number b (pos 0) then pos 0 else int_rem a b
+
+abbrev pub multiplied : StMul → ℤ → ℤ → Result ℤ Fault
+multiplied mul.Times a b = checked (a *ℤ b)
+multiplied mul.Div a b = divided a b
+multiplied mul.Mod a b = Ok (remainder a b)
+
+abbrev pub smaller : ℤ → ℤ → ℤ
+smaller a b = if int_le a b then a else b
+
+abbrev pub larger : ℤ → ℤ → ℤ
+larger a b = if int_le a b then b else a
+
+-- whether one of two holds and the other does not
+abbrev pub differ : Bool → Bool → Bool
+differ false b = b
+differ true b = not b
+
 abbrev mutual
   pub value_of : List StVar → Expr → Memory → Result ℤ Fault
   value_of vars (truth b) m = Ok (of_bool b)
   value_of vars (number z) m = Ok z
   value_of vars (named x) m = Ok (slice_index_or m (place_of vars x) (pos 0))
   value_of vars (paren e) m = value_of vars e m
-  value_of vars (negation e) m = with_value (value_of vars e m) (λ f. Err f) (λ x. Ok (of_bool (not (is_true x))))
+  value_of vars (negation e) m = with_value (value_of vars e m) (λ f. Err f) (λ x. checked (neg_ℤ x))
+  value_of vars (complement e) m = with_value (value_of vars e m) (λ f. Err f) (λ x. Ok (of_bool (not (is_true x))))
+  value_of vars (product e rest) m = with_value (value_of vars e m) (λ f. Err f) (λ x. product_on vars x rest m)
   value_of vars (sum e rest) m = with_value (value_of vars e m) (λ f. Err f) (λ x. sum_on vars x rest m)
   value_of vars (order a op b) m = both (λ x y. Ok (of_bool (holds op x y))) (value_of vars a m) (value_of vars b m)
   value_of vars (equal a same b) m = both (λ x y. Ok (of_bool (are_equal same x y))) (value_of vars a m) (value_of vars b m)
   value_of vars (all_of es) m = joined vars (λ a b. a && b) true es m
+  value_of vars (odd_of es) m = joined vars differ false es m
   value_of vars (any_of es) m = joined vars (λ a b. a || b) false es m
+  value_of vars (absolute e) m = with_value (value_of vars e m) (λ f. Err f) (λ x. checked (pos (nat_abs x)))
+  value_of vars (least a b) m = both (λ x y. Ok (smaller x y)) (value_of vars a m) (value_of vars b m)
+  value_of vars (greatest a b) m = both (λ x y. Ok (larger x y)) (value_of vars a m) (value_of vars b m)
+  value_of vars (selection g a b) m = with_value (value_of vars g m) (λ f. Err f)
+      (λ c. both (λ x y. Ok (if is_true c then y else x)) (value_of vars a m) (value_of vars b m))
+
+  -- the product so far and its further operands; each partial product has its value, or its fault, before the next operand
+  pub product_on : List StVar → ℤ → Factors → Memory → Result ℤ Fault
+  product_on vars z no_factors m = Ok z
+  product_on vars z (factors op e fs) m =
+      with_value (value_of vars e m) (λ f. Err f) (λ x. with_value (multiplied op z x) (λ f. Err f) (λ y. product_on vars y fs m))
 
   -- the sum so far and what is added to it; each partial sum has its value, or its fault, before the next operand
   pub sum_on : List StVar → ℤ → Terms → Memory → Result ℤ Fault

@@ -1,7 +1,8 @@
 //! The kinds of token.
 
 /// The kind of a token (IEC 61131-3, "Use of character set", "Identifiers", "Keywords"): a name, a number, a keyword or a
-/// sign. What is in no production of the part of the language that is read is `Outside`.
+/// sign. `AND` and `&` are one kind. What is in no production is `Outside`: another reserved word, a word that is no identifier, and a
+/// number above the greatest.
 #[derive(Clone, Copy, Debug, PartialEq, Eq)]
 pub enum TokenKind {
     Name,
@@ -9,6 +10,8 @@ pub enum TokenKind {
     Program,
     EndProgram,
     Var,
+    Constant,
+    VarInput,
     VarOutput,
     EndVar,
     Bool,
@@ -25,7 +28,13 @@ pub enum TokenKind {
     EndWhile,
     Not,
     And,
+    Xor,
     Or,
+    Mod,
+    Abs,
+    Min,
+    Max,
+    Sel,
     Semicolon,
     Colon,
     Assigns,
@@ -35,7 +44,13 @@ pub enum TokenKind {
     Comma,
     Plus,
     Dash,
+    Times,
+    Slash,
     Equals,
+    Differs,
     Less,
+    Greater,
+    AtMost,
+    AtLeast,
     Outside,
 }

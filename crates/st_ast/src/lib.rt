@@ -5,4 +5,6 @@ mod kinds;
 mod tree;
 
 pub use kinds::TokenKind;
-pub use tree::{Program, StBranch, StClass, StExpr, StLit, StOrder, StTerm, StTy, StVar, Stmt};
+pub use tree::{
+    Program, StBranch, StClass, StExpr, StFactor, StLit, StMul, StOrder, StTerm, StTy, StVar, Stmt,
+};

@@ -35,6 +35,14 @@ pub struct StVar {
     pub init: Option<StLit>,
 }
 
+/// An operator of products: `*`, `/`, `MOD`.
+#[derive(Clone, Copy, Debug, PartialEq, Eq)]
+pub enum StMul {
+    Times,
+    Div,
+    Mod,
+}
+
 /// An order: `<`, `>`, `<=`, `>=`.
 #[derive(Clone, Copy, Debug, PartialEq, Eq)]
 pub enum StOrder {
@@ -44,7 +52,8 @@ pub enum StOrder {
     Ge,
 }
 
-/// An expression. A list of operands of one level is one form.
+/// An expression. A list of operands of one level is one form. `Sel` has the condition first, then the value where it is FALSE,
+/// and then the one where it is TRUE.
 #[cycle(expressions)]
 #[derive(Debug, Drop)]
 pub enum StExpr {
@@ -52,7 +61,12 @@ pub enum StExpr {
     Int(i64),
     Named(Text),
     Paren(Boxed<StExpr>),
+    Neg(Boxed<StExpr>),
     Not(Boxed<StExpr>),
+    Product {
+        first: Boxed<StExpr>,
+        rest: Items<StFactor>,
+    },
     Sum {
         first: Boxed<StExpr>,
         rest: Items<StTerm>,
@@ -68,7 +82,20 @@ pub enum StExpr {
         right: Boxed<StExpr>,
     },
     And(Items<StExpr>),
+    Xor(Items<StExpr>),
     Or(Items<StExpr>),
+    Abs(Boxed<StExpr>),
+    Min(Boxed<StExpr>, Boxed<StExpr>),
+    Max(Boxed<StExpr>, Boxed<StExpr>),
+    Sel(Boxed<StExpr>, Boxed<StExpr>, Boxed<StExpr>),
+}
+
+/// A further operand of a product, with the operator before it.
+#[cycle(expressions)]
+#[derive(Debug, Drop)]
+pub struct StFactor {
+    pub op: StMul,
+    pub value: StExpr,
 }
 
 /// A further operand of a sum, added or, where `minus` is set, subtracted.
