@@ -1,6 +1,6 @@
 -- Worked examples of the definitions, by computation.
 use Rattle.std.proofs.Common.{◌≡◌, pos, negsuc, true, false, List, [], ◌∷◌, Some, None, Ok, Err, refl}
-use Rattle.std.specs.Prelude.{ℤ, Result, codes, map}
+use Rattle.std.specs.Prelude.{ℤ, Bool, Result, codes, map}
 use Rattle.grammar.specs.Pieces.{Text}
 use Rattle.st_ast.specs.declared.tree.StVar.{StVar}
 use Rattle.st_ast.specs.declared.tree.StTy.{StTy}
@@ -9,14 +9,16 @@ use Rattle.st_ast.specs.declared.tree.StLit.{StLit}
 use Rattle.st_ast.specs.declared.tree.StLit.TheVariants as lit
 use Rattle.st_ast.specs.declared.tree.StClass.{StClass}
 use Rattle.st_ast.specs.declared.tree.StClass.TheVariants as class
+use Rattle.st_ast.specs.declared.tree.StMul.{StMul}
+use Rattle.st_ast.specs.declared.tree.StMul.TheVariants as mul
 use Rattle.st_ast.specs.declared.tree.StOrder.{StOrder}
 use Rattle.st_ast.specs.declared.tree.StOrder.TheVariants as cmp
-use Rattle.st_ast.specs.Tree.{truth, number, named, sum, order, equal, all_of, exprs, no_exprs, terms, no_terms, Stm, assign, loop, stms_of, Program}
-use Rattle.st_ast.specs.Tokens.{sign, blank, opens_comment, kind_of_word, kind_of_number}
+use Rattle.st_ast.specs.Tree.{Expr, truth, number, named, negation, complement, product, sum, order, equal, all_of, odd_of, any_of, absolute, least, greatest, selection, Exprs, exprs, no_exprs, factors, no_factors, terms, no_terms, Stm, assign, loop, stms_of, Program}
+use Rattle.st_ast.specs.Tokens.{sign, blank, opens_comment, kind_of_word, kind_of_number, kind_of_sign}
 use Rattle.st_ast.specs.declared.kinds.TokenKind.TheVariants as kinds
-use Rattle.st_ast.specs.Checks.{unknown, duplicate, mismatch, not_assignable, init_range, check_faults}
+use Rattle.st_ast.specs.Checks.{unknown, duplicate, mismatch, not_assignable, init_range, check_faults, sort_of}
 use Rattle.st_ast.specs.Interface.{output_values}
-use Rattle.st_ast.specs.Values.{Fault, overflow, subrange_left, value_of}
+use Rattle.st_ast.specs.Values.{Fault, overflow, zero_divide, subrange_left, value_of}
 use Rattle.st_ast.specs.Exec.{Ended, Faulted, OutOfTurns, repeated, exec}
 use Rattle.st_ast.specs.Scan.{start_memory, scan_of, store_row}
 
@@ -42,6 +44,12 @@ a_first_underscore_is_one = refl
 
 another_word_is_reserved : kind_of_word (codes "Case") ≡ kinds.Outside
 another_word_is_reserved = refl
+
+a_word_of_the_grammar : kind_of_word (codes "var_Input") ≡ kinds.VarInput
+a_word_of_the_grammar = refl
+
+signs_have_kinds : map kind_of_sign (codes "<>" ∷ codes "<=" ∷ codes ">=" ∷ codes ">" ∷ codes "*" ∷ codes "/" ∷ codes "&" ∷ []) ≡ kinds.Differs ∷ kinds.AtMost ∷ kinds.AtLeast ∷ kinds.Greater ∷ kinds.Times ∷ kinds.Slash ∷ kinds.And ∷ []
+signs_have_kinds = refl
 
 the_greatest_number : kind_of_number (codes "9223372036854775807") ≡ kinds.Literal
 the_greatest_number = refl
@@ -134,6 +142,94 @@ the_least_number_has_64_bits = refl
 -- no operand is left out, though the first decides
 all_operands_are_evaluated : value_of [] (all_of (exprs (truth false) (exprs (equal (sum (number (pos 9223372036854775807)) (terms false (number (pos 1)) no_terms)) true (number (pos 0))) no_exprs))) [] ≡ Err overflow
 all_operands_are_evaluated = refl
+
+-- ---- products
+
+abbrev over : ℤ → StMul → ℤ → Result ℤ Fault
+over a op b = value_of [] (product (number a) (factors op (number b) no_factors)) []
+
+division_rounds_towards_zero : over (pos 7) mul.Div (pos 2) ∷ over (negsuc 6) mul.Div (pos 2) ∷ over (pos 7) mul.Div (negsuc 1) ∷ over (negsuc 6) mul.Div (negsuc 1) ∷ [] ≡ Ok (pos 3) ∷ Ok (negsuc 2) ∷ Ok (negsuc 2) ∷ Ok (pos 3) ∷ []
+division_rounds_towards_zero = refl
+
+remainder_has_the_sign_of_the_dividend : over (pos 7) mul.Mod (pos 2) ∷ over (negsuc 6) mul.Mod (pos 2) ∷ over (pos 7) mul.Mod (negsuc 1) ∷ over (negsuc 6) mul.Mod (negsuc 1) ∷ [] ≡ Ok (pos 1) ∷ Ok (negsuc 0) ∷ Ok (pos 1) ∷ Ok (negsuc 0) ∷ []
+remainder_has_the_sign_of_the_dividend = refl
+
+division_by_zero_is_a_fault : over (pos 7) mul.Div (pos 0) ≡ Err zero_divide
+division_by_zero_is_a_fault = refl
+
+remainder_by_zero_is_zero : over (pos 7) mul.Mod (pos 0) ≡ Ok (pos 0)
+remainder_by_zero_is_zero = refl
+
+least_number_by_minus_one : over (negsuc 9223372036854775807) mul.Div (negsuc 0) ∷ over (negsuc 9223372036854775807) mul.Mod (negsuc 0) ∷ [] ≡ Err overflow ∷ Ok (pos 0) ∷ []
+least_number_by_minus_one = refl
+
+product_out_of_64_bits : over (pos 4294967296) mul.Times (pos 2147483648) ∷ over (negsuc 4294967295) mul.Times (pos 2147483648) ∷ [] ≡ Err overflow ∷ Ok (negsuc 9223372036854775807) ∷ []
+product_out_of_64_bits = refl
+
+-- 7 / 2 * 2
+products_go_from_the_left : value_of [] (product (number (pos 7)) (factors mul.Div (number (pos 2)) (factors mul.Times (number (pos 2)) no_factors))) [] ≡ Ok (pos 6)
+products_go_from_the_left = refl
+
+-- 9223372036854775807 * 2 / 0: the product so far has its fault before the next operand
+first_fault_of_a_product : value_of [] (product (number (pos 9223372036854775807)) (factors mul.Times (number (pos 2)) (factors mul.Div (number (pos 0)) no_factors))) [] ≡ Err overflow
+first_fault_of_a_product = refl
+
+-- ---- the other operators
+
+minus_a_number : value_of [] (negation (number (pos 3))) [] ≡ Ok (negsuc 2)
+minus_a_number = refl
+
+minus_the_least_number : value_of [] (negation (number (negsuc 9223372036854775807))) [] ≡ Err overflow
+minus_the_least_number = refl
+
+absolute_values : map (λ z. value_of [] (absolute (number z)) []) (pos 3 ∷ negsuc 2 ∷ negsuc 9223372036854775807 ∷ []) ≡ Ok (pos 3) ∷ Ok (pos 3) ∷ Err overflow ∷ []
+absolute_values = refl
+
+least_and_greatest : value_of [] (least (number (negsuc 4)) (number (pos 3))) [] ∷ value_of [] (greatest (number (negsuc 4)) (number (pos 3))) [] ∷ [] ≡ Ok (negsuc 4) ∷ Ok (pos 3) ∷ []
+least_and_greatest = refl
+
+not_a_truth : value_of [] (complement (truth true)) [] ∷ value_of [] (complement (truth false)) [] ∷ [] ≡ Ok (pos 0) ∷ Ok (pos 1) ∷ []
+not_a_truth = refl
+
+-- of three truths XOR holds where one or all three do
+abbrev three : Bool → Bool → Bool → Exprs
+three a b c = exprs (truth a) (exprs (truth b) (exprs (truth c) no_exprs))
+
+an_odd_number_of_truths : value_of [] (odd_of (three true true true)) [] ∷ value_of [] (odd_of (three true true false)) [] ∷ value_of [] (odd_of (three false true false)) [] ∷ value_of [] (odd_of (three false false false)) [] ∷ [] ≡ Ok (pos 1) ∷ Ok (pos 0) ∷ Ok (pos 1) ∷ Ok (pos 0) ∷ []
+an_odd_number_of_truths = refl
+
+any_truth : value_of [] (any_of (three false true false)) [] ∷ value_of [] (any_of (three false false false)) [] ∷ [] ≡ Ok (pos 1) ∷ Ok (pos 0) ∷ []
+any_truth = refl
+
+-- SEL(g, 4, 5)
+selects_by_the_first : value_of [] (selection (truth false) (number (pos 4)) (number (pos 5))) [] ∷ value_of [] (selection (truth true) (number (pos 4)) (number (pos 5))) [] ∷ [] ≡ Ok (pos 4) ∷ Ok (pos 5) ∷ []
+selects_by_the_first = refl
+
+-- SEL(FALSE, 4, 1 / 0): what is not selected is evaluated too
+abbrev by_zero : Expr
+by_zero = product (number (pos 1)) (factors mul.Div (number (pos 0)) no_factors)
+
+selection_evaluates_all : value_of [] (selection (truth false) (number (pos 4)) by_zero) [] ∷ value_of [] (selection (truth true) by_zero (number (pos 4))) [] ∷ [] ≡ Err zero_divide ∷ Err zero_divide ∷ []
+selection_evaluates_all = refl
+
+-- SEL(g, TRUE, 1)
+selection_of_two_sorts : check_faults (program_with (variable (codes "x") class.Plain ty.Bool ∷ []) (assign (codes "x") (selection (truth true) (truth true) (number (pos 1))) ∷ [])) ≡ mismatch 0 ∷ []
+selection_of_two_sorts = refl
+
+selection_by_a_number : check_faults (program_with (variable (codes "x") class.Plain ty.Bool ∷ []) (assign (codes "x") (selection (number (pos 1)) (truth true) (truth true)) ∷ [])) ≡ mismatch 0 ∷ []
+selection_by_a_number = refl
+
+selection_has_the_sort_of_its_values : check_faults (program_with (variable (codes "x") class.Plain ty.Bool ∷ []) (assign (codes "x") (selection (truth true) (truth true) (truth true)) ∷ [])) ≡ []
+selection_has_the_sort_of_its_values = refl
+
+-- MOD, unary minus, ABS, MIN and MAX take integers, XOR takes truths
+abbrev sorts_for_a_number : List Expr
+sorts_for_a_number = product (truth true) (factors mul.Mod (number (pos 2)) no_factors) ∷ product (number (pos 2)) (factors mul.Mod (truth true) no_factors) ∷ negation (truth true) ∷ absolute (truth true) ∷ least (truth true) (number (pos 1)) ∷ greatest (number (pos 1)) (truth true) ∷ odd_of (exprs (truth true) (exprs (number (pos 1)) no_exprs)) ∷ []
+
+wrong_sorts : map (λ e. sort_of [] e) sorts_for_a_number ≡ None ∷ None ∷ None ∷ None ∷ None ∷ None ∷ None ∷ []
+wrong_sorts = refl
+
+-- ---- names
 
 name_in_another_case : value_of (x_of ty.Lint (lit.Int (pos 7)) ∷ []) (named (codes "X")) (pos 7 ∷ []) ≡ Ok (pos 7)
 name_in_another_case = refl
