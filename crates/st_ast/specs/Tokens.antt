@@ -1,6 +1,6 @@
 -- The tokens of Structured Text (IEC 61131-3, "Use of character set", "Identifiers", "Keywords", "Comments"): a text is
 -- blanks, comments, words, numbers and signs one after the other, each the longest that begins at its place.
-use Rattle.std.specs.Prelude.{◌≡◌, ℕ, ◌+◌, ◌-◌, ◌*◌, Bool, true, false, not, ◌||◌, ◌&&◌, ◌==◌, nat_le, List, [], ◌∷◌, codes, Option, Some, None, filter_map, map, if◌then◌else◌}
+use Rattle.std.specs.Prelude.{◌≡◌, ℕ, Bool, true, false, not, ◌||◌, ◌&&◌, ◌==◌, nat_le, List, [], ◌∷◌, codes, Option, Some, None, filter_map, map, if◌then◌else◌}
 use Rattle.std.specs.List.{list_any}
 use Rattle.grammar.specs.Bytes.{is_blank, begins_word, is_digit, is_wordy, none_of, digits_from}
 use Rattle.grammar.specs.Pieces.{Text, Kinds, ◌∣◌, run, after_byte, closed, one_text, Pieces, same}

@@ -1,7 +1,7 @@
 -- What is read is what the grammar derives.
-use Rattle.std.proofs.Common.{◌≡◌, ℕ, zero, suc, ◌+◌, ◌≤◌, ◌<◌, true, false, List, [], ◌∷◌, ◌++◌, map, Option, refl, ap, ◌∙◌, arith}
-use Rattle.grammar.specs.Lang.{Lang, ◌&◌, ◌<$>◌, many, optional, flat}
-use Rattle.grammar.specs.Reader.{Reader, Deep, inside, many_at, both_at, deep_both}
+use Rattle.std.proofs.Common.{◌≡◌, ℕ, zero, suc, ◌+◌, ◌≤◌, ◌<◌, true, false, List, [], ◌∷◌, ◌++◌, map, Option, refl, ap, ◌∙◌, arith, inl, inr}
+use Rattle.grammar.specs.Lang.{Lang, ◌&◌, ◌∣◌, ◌<$>◌, many, optional, flat}
+use Rattle.grammar.specs.Reader.{Reader, Deep, one_at, flat_at, inside, many_at, both_at, deep_both}
 use Rattle.grammar.specs.Sets.{apart}
 use Rattle.grammar.proofs.Laws.{Takes}
 use Rattle.grammar.proofs.Plain.{one_takes, map_takes, both_takes, either_takes, optional_takes, many_takes, wider, same}
@@ -9,42 +9,38 @@ use Rattle.grammar.proofs.Depth.{Nests, IsBelow, flat_nests, deep_map_nests, dee
 use Rattle.st_ast.specs.Tokens.{Token}
 use Rattle.st_ast.specs.declared.kinds.TokenKind.{TokenKind}
 use Rattle.st_ast.specs.declared.kinds.TokenKind.TheVariants as kinds
-use Rattle.st_ast.specs.Tree.{Expr, number, named, Stm, Stms, choice, stms_of, Program}
+use Rattle.st_ast.specs.Tree.{Expr, number, named, paren, Stm, Stms, choice, stms_of, Program}
 use Rattle.st_ast.specs.View.{branches_of, other_of}
-use Rattle.st_ast.specs.Grammar.{sort, second, text_of, word, identifier, natural, Level, at_or, at_and, at_equal, at_order, at_sum, at_unary, prim, unary, summed, ordered, equated, conjunction, disjunction, level, max_depth, below, expression, without_word, assignment, guarded, conditional, repetition, statement, signed, first_value, type_use, value_of_init, declaration, block_of, block, whole}
+use Rattle.st_ast.specs.Grammar.{sort, second, middle, text_of, word, identifier, natural, after_kind, Level, at_or, at_xor, at_and, at_equal, at_order, at_sum, at_product, at_unary, one_argument, two_arguments, three_arguments, prim, unary, multiplied, summed, ordered, equated, conjunction, exclusion, disjunction, level, max_depth, below, expression, without_word, assignment, guarded, conditional, repetition, statement, signed, first_value, type_use, value_of_init, declaration, block_of, block, whole}
 use Rattle.st_ast.specs.declared.tree.StVar.{StVar}
 use Rattle.st_ast.specs.declared.tree.StLit.{StLit}
 use Rattle.st_ast.specs.declared.tree.StLit.TheVariants as lit
 use Rattle.st_ast.specs.declared.tree.StClass.{StClass}
 use Rattle.st_ast.specs.declared.tree.StClass.TheVariants as class
-use Rattle.st_read.specs.Reading.{max_calls, codes_of, first, word_at, flat_word, identifier_at, natural_of, natural_at, truth_of, paren_of, negation_of, term_of, sum_of, order_of, equal_of, all_from, any_from, paren_at, prim_at, unary_from, term_at, sum_from, ordered_at, order_from, equated_at, equal_from, and_next_at, and_from, or_next_at, or_from, unary_at, expression_at, assign_of, assignment_at, guarded_of, choice_of, loop_of, guarded_at, elsif_at, elsifs_at, branches_at, else_at, conditional_at, repetition_at, statement_first, statement_at, statements_at, opposite_of, signed_at, bool_of, first_value_at, bool_type, number_type, subrange_at, type_at, variable_of, init_at, declaration_at, variables_of, block_of_at, block_at, block_first, variables_at, made_of, program_at}
+use Rattle.st_read.specs.Reading.{max_calls, codes_of, first, word_at, flat_word, identifier_at, natural_of, natural_at, truth_of, negation_of, complement_of, absolute_of, least_of, greatest_of, selection_of, two_of, three_of, one_argument_at, two_arguments_at, three_arguments_at, function_at, prim_at, unary_from, operators, made_at, other_at, others_at, joined_at, level_at, levels, unary_at, expression_at, assign_of, assignment_at, guarded_of, choice_of, loop_of, guarded_at, elsif_at, elsifs_at, branches_at, else_at, conditional_at, repetition_at, statement_first, statement_at, statements_at, opposite_of, signed_at, bool_of, first_value_at, bool_type, number_type, subrange_at, type_at, variable_of, init_at, declaration_at, ended_variables, rest_at, block_of_at, plain_at, block_at, block_first, variables_at, made_of, program_at}
 use Rattle.grammar.proofs.Loops.{flat_after_none}
-use Rattle.st_read.proofs.Mapped.{reads_same, deep_reads_same, many_mapped, joined_first, chain_mapped, suffix_mapped}
+use Rattle.st_read.proofs.Mapped.{reads_same, deep_reads_same, many_mapped, joined_first, chain_mapped, single_mapped}
 
 -- ---- what each level begins with, and what makes it go on
 
+abbrev function_first : List ℕ
+function_first = codes_of (kinds.Abs ∷ kinds.Min ∷ kinds.Max ∷ kinds.Sel ∷ [])
+
 abbrev prim_first : List ℕ
-prim_first = codes_of (kinds.True ∷ kinds.False ∷ kinds.Literal ∷ kinds.Name ∷ kinds.Open ∷ [])
+prim_first = codes_of (kinds.True ∷ kinds.False ∷ kinds.Literal ∷ kinds.Name ∷ kinds.Open ∷ []) ++ function_first
 
 -- what begins an expression
 abbrev pub unary_first : List ℕ
-unary_first = codes_of (kinds.Not ∷ []) ++ prim_first
+unary_first = codes_of (kinds.Dash ∷ kinds.Not ∷ []) ++ prim_first
 
-abbrev sum_goes : List ℕ
-sum_goes = first kinds.Plus
-
-abbrev order_goes : List ℕ
-order_goes = first kinds.Less ++ sum_goes
-
-abbrev equal_goes : List ℕ
-equal_goes = first kinds.Equals ++ order_goes
-
-abbrev and_goes : List ℕ
-and_goes = first kinds.And ++ equal_goes
+-- what makes so many levels go on
+abbrev goes_on : ℕ → List ℕ
+goes_on zero = []
+goes_on (suc l) = codes_of (operators l) ++ goes_on l
 
 -- what makes an expression go on
 abbrev pub or_goes : List ℕ
-or_goes = first kinds.Or ++ and_goes
+or_goes = goes_on levels
 
 -- ---- names and numbers
 
@@ -66,21 +62,48 @@ module _ (bound : ℕ) where
   word_nests kind = flat_nests (one_takes sort (first kind))
 
   module _ (within : Deep Token Expr) (w : Level_law or_goes (λ n. below n at_or) within) where
-    paren_nests : Nests sort max_depth bound false (first kinds.Open) [] (λ n. paren_of <$> word kinds.Open & below n at_or & word kinds.Close) (paren_at within)
-    unfolding paren_at
-    paren_nests = deep_map_nests paren_of (deep_both_nests (word_nests kinds.Open) refl (deep_both_nests w refl (word_nests kinds.Close)))
+    one_nests : Nests sort max_depth bound false (first kinds.Open) [] (λ n. one_argument (below n)) (one_argument_at within)
+    unfolding one_argument_at
+    one_nests = deep_map_nests middle (deep_both_nests (word_nests kinds.Open) refl (deep_both_nests w refl (word_nests kinds.Close)))
+
+    two_nests : Nests sort max_depth bound false (first kinds.Open) [] (λ n. two_arguments (below n)) (two_arguments_at within)
+    unfolding two_arguments_at
+    two_nests = deep_map_nests two_of (deep_both_nests (word_nests kinds.Open) refl (deep_both_nests w refl
+        (deep_both_nests (word_nests kinds.Comma) refl (deep_both_nests w refl (word_nests kinds.Close)))))
+
+    three_nests : Nests sort max_depth bound false (first kinds.Open) [] (λ n. three_arguments (below n)) (three_arguments_at within)
+    unfolding three_arguments_at
+    three_nests = deep_map_nests three_of (deep_both_nests (word_nests kinds.Open) refl (deep_both_nests w refl
+        (deep_both_nests (word_nests kinds.Comma) refl (deep_both_nests w refl
+        (deep_both_nests (word_nests kinds.Comma) refl (deep_both_nests w refl (word_nests kinds.Close)))))))
+
+    -- each function begins with a word of its own
+    functions : Level → ℕ → Lang Token Expr
+    functions l n = absolute_of <$> word kinds.Abs & one_argument (below n)
+        ∣ least_of <$> word kinds.Min & two_arguments (below n)
+        ∣ greatest_of <$> word kinds.Max & two_arguments (below n)
+        ∣ selection_of <$> word kinds.Sel & three_arguments (below n)
+
+    function_nests : Nests sort max_depth bound false function_first [] (functions at_or) (function_at within)
+    unfolding function_at functions
+    function_nests = deep_either_nests (deep_map_nests absolute_of (deep_both_nests (word_nests kinds.Abs) refl one_nests)) refl
+        (deep_either_nests (deep_map_nests least_of (deep_both_nests (word_nests kinds.Min) refl two_nests)) refl
+        (deep_either_nests (deep_map_nests greatest_of (deep_both_nests (word_nests kinds.Max) refl two_nests)) refl
+        (deep_map_nests selection_of (deep_both_nests (word_nests kinds.Sel) refl three_nests))))
 
     prim_nests : Nests sort max_depth bound false prim_first [] (λ n. prim (below n)) (prim_at within)
-    unfolding prim_at
+    unfolding prim_at functions
     prim_nests = deep_either_nests (deep_map_nests (truth_of true) (word_nests kinds.True)) refl
         (deep_either_nests (deep_map_nests (truth_of false) (word_nests kinds.False)) refl
         (deep_either_nests (deep_map_nests number (flat_nests natural_takes)) refl
         (deep_either_nests (deep_map_nests named (flat_nests identifier_takes)) refl
-        paren_nests)))
+        (deep_either_nests (deep_map_nests paren one_nests) refl
+        function_nests))))
 
     pub unary_nests : (operand : Deep Token Expr) → Level_law [] (λ n. below n at_unary) operand → Level_law [] (λ n. unary (below n)) (unary_from within operand)
     unfolding unary_from
-    unary_nests operand u = deep_either_nests (deep_map_nests negation_of (deep_both_nests (word_nests kinds.Not) refl u)) refl prim_nests
+    unary_nests operand u = deep_either_nests (deep_map_nests negation_of (deep_both_nests (word_nests kinds.Dash) refl u)) refl
+        (deep_either_nests (deep_map_nests complement_of (deep_both_nests (word_nests kinds.Not) refl u)) refl prim_nests)
 
 -- ---- the levels of operators
 
@@ -89,40 +112,60 @@ below_is : (l : Level) → IsBelow (λ n. level (below n) l) (λ n. below n l)
 unfolding below
 below_is l = record { nothing = λ a x d. d; opens = λ m a x d. d; closes = λ m a x d. d }
 
+-- an operator of a level and an operand inside
+abbrev tail_at : ℕ → Deep Token Expr → Deep Token (Token × Expr)
+tail_at l r = deep_both (flat_at (one_at sort (codes_of (operators l)))) (inside max_depth r)
+
 module _ (bound : ℕ) (c : bound ≤ max_depth + 1) where
-  deeper : (l : Level) (goes_on : List ℕ) (r : Deep Token Expr) → Level_law bound goes_on (λ n. level (below n) l) r → Level_law bound goes_on (λ n. below n l) (inside max_depth r)
-  deeper l goes_on r h = inside_nests bound (λ n. below n l) (below_is l) (omega arith) c h
+  deeper : (l : Level) (goes : List ℕ) (r : Deep Token Expr) → Level_law bound goes (λ n. level (below n) l) r → Level_law bound goes (λ n. below n l) (inside max_depth r)
+  deeper l goes r h = inside_nests bound (λ n. below n l) (below_is l) (omega arith) c h
 
   module _ (u : Deep Token Expr) (h : Level_law bound [] (λ n. unary (below n)) u) where
-    sum_nests : Level_law bound sum_goes (λ n. summed (below n)) (sum_from u)
-    unfolding sum_from term_at
-    sum_nests = deep_reads_same (chain_mapped sort (first kinds.Plus) max_depth term_of u (deep_both (flat_word kinds.Plus) (inside max_depth u)) sum_of)
-        (chain_nests (λ e more. sum_of e (map term_of more)) (λ n. below n at_unary) sum_goes (below_is at_unary) c h refl refl
-        (deep_both_nests (word_nests bound kinds.Plus) refl (deeper at_unary [] u h)) refl refl)
+    -- the reader of so many levels
+    abbrev up : ℕ → Deep Token Expr
+    up l = level_at l u
 
-    order_nests : Level_law bound order_goes (λ n. ordered (below n)) (order_from u)
-    unfolding order_from ordered_at
-    order_nests = deep_reads_same (suffix_mapped sort (first kinds.Less) max_depth second (sum_from u) (deep_both (flat_word kinds.Less) (inside max_depth (sum_from u))) order_of)
-        (suffix_nests (λ e v. order_of e (second v)) (λ n. below n at_sum) order_goes (below_is at_sum) c sum_nests refl
-        (deep_both_nests (word_nests bound kinds.Less) refl (deeper at_sum sum_goes (sum_from u) sum_nests)) refl refl)
+    product_nests : Level_law bound (goes_on 1) (λ n. multiplied (below n)) (up 1)
+    unfolding level_at joined_at others_at other_at
+    product_nests = deep_reads_same (chain_mapped sort (codes_of (operators 0)) max_depth after_kind (up 0) (tail_at 0 (up 0)) (made_at 0))
+        (chain_nests (λ e more. made_at 0 e (map after_kind more)) (λ n. below n at_unary) (goes_on 1) (below_is at_unary) c h refl refl
+        (deep_both_nests (flat_nests (one_takes sort (codes_of (operators 0)))) refl (deeper at_unary [] (up 0) h)) refl refl)
 
-    equal_nests : Level_law bound equal_goes (λ n. equated (below n)) (equal_from u)
-    unfolding equal_from equated_at
-    equal_nests = deep_reads_same (suffix_mapped sort (first kinds.Equals) max_depth second (order_from u) (deep_both (flat_word kinds.Equals) (inside max_depth (order_from u))) equal_of)
-        (suffix_nests (λ e v. equal_of e (second v)) (λ n. below n at_order) equal_goes (below_is at_order) c order_nests refl
-        (deep_both_nests (word_nests bound kinds.Equals) refl (deeper at_order order_goes (order_from u) order_nests)) refl refl)
+    sum_nests : Level_law bound (goes_on 2) (λ n. summed (below n)) (up 2)
+    unfolding level_at joined_at others_at other_at
+    sum_nests = deep_reads_same (chain_mapped sort (codes_of (operators 1)) max_depth after_kind (up 1) (tail_at 1 (up 1)) (made_at 1))
+        (chain_nests (λ e more. made_at 1 e (map after_kind more)) (λ n. below n at_product) (goes_on 2) (below_is at_product) c product_nests refl refl
+        (deep_both_nests (flat_nests (one_takes sort (codes_of (operators 1)))) refl (deeper at_product (goes_on 1) (up 1) product_nests)) refl refl)
 
-    and_nests : Level_law bound and_goes (λ n. conjunction (below n)) (and_from u)
-    unfolding and_from and_next_at
-    and_nests = deep_reads_same (chain_mapped sort (first kinds.And) max_depth second (equal_from u) (deep_both (flat_word kinds.And) (inside max_depth (equal_from u))) all_from)
-        (chain_nests (λ e more. all_from e (map second more)) (λ n. below n at_equal) and_goes (below_is at_equal) c equal_nests refl refl
-        (deep_both_nests (word_nests bound kinds.And) refl (deeper at_equal equal_goes (equal_from u) equal_nests)) refl refl)
+    order_nests : Level_law bound (goes_on 3) (λ n. ordered (below n)) (up 3)
+    unfolding level_at joined_at others_at other_at
+    order_nests = deep_reads_same (single_mapped sort (codes_of (operators 2)) max_depth after_kind (up 2) (tail_at 2 (up 2)) (made_at 2))
+        (suffix_nests (λ e v. made_at 2 e (after_kind v ∷ [])) (λ n. below n at_sum) (goes_on 3) (below_is at_sum) c sum_nests refl
+        (deep_both_nests (flat_nests (one_takes sort (codes_of (operators 2)))) refl (deeper at_sum (goes_on 2) (up 2) sum_nests)) refl refl)
 
-    pub or_nests : Level_law bound or_goes (λ n. disjunction (below n)) (or_from u)
-    unfolding or_from or_next_at
-    or_nests = deep_reads_same (chain_mapped sort (first kinds.Or) max_depth second (and_from u) (deep_both (flat_word kinds.Or) (inside max_depth (and_from u))) any_from)
-        (chain_nests (λ e more. any_from e (map second more)) (λ n. below n at_and) or_goes (below_is at_and) c and_nests refl refl
-        (deep_both_nests (word_nests bound kinds.Or) refl (deeper at_and and_goes (and_from u) and_nests)) refl refl)
+    equal_nests : Level_law bound (goes_on 4) (λ n. equated (below n)) (up 4)
+    unfolding level_at joined_at others_at other_at
+    equal_nests = deep_reads_same (single_mapped sort (codes_of (operators 3)) max_depth after_kind (up 3) (tail_at 3 (up 3)) (made_at 3))
+        (suffix_nests (λ e v. made_at 3 e (after_kind v ∷ [])) (λ n. below n at_order) (goes_on 4) (below_is at_order) c order_nests refl
+        (deep_both_nests (flat_nests (one_takes sort (codes_of (operators 3)))) refl (deeper at_order (goes_on 3) (up 3) order_nests)) refl refl)
+
+    and_nests : Level_law bound (goes_on 5) (λ n. conjunction (below n)) (up 5)
+    unfolding level_at joined_at others_at other_at
+    and_nests = deep_reads_same (chain_mapped sort (codes_of (operators 4)) max_depth after_kind (up 4) (tail_at 4 (up 4)) (made_at 4))
+        (chain_nests (λ e more. made_at 4 e (map after_kind more)) (λ n. below n at_equal) (goes_on 5) (below_is at_equal) c equal_nests refl refl
+        (deep_both_nests (flat_nests (one_takes sort (codes_of (operators 4)))) refl (deeper at_equal (goes_on 4) (up 4) equal_nests)) refl refl)
+
+    xor_nests : Level_law bound (goes_on 6) (λ n. exclusion (below n)) (up 6)
+    unfolding level_at joined_at others_at other_at
+    xor_nests = deep_reads_same (chain_mapped sort (codes_of (operators 5)) max_depth after_kind (up 5) (tail_at 5 (up 5)) (made_at 5))
+        (chain_nests (λ e more. made_at 5 e (map after_kind more)) (λ n. below n at_and) (goes_on 6) (below_is at_and) c and_nests refl refl
+        (deep_both_nests (flat_nests (one_takes sort (codes_of (operators 5)))) refl (deeper at_and (goes_on 5) (up 5) and_nests)) refl refl)
+
+    pub or_nests : Level_law bound or_goes (λ n. disjunction (below n)) (up levels)
+    unfolding level_at joined_at others_at other_at
+    or_nests = deep_reads_same (chain_mapped sort (codes_of (operators 6)) max_depth after_kind (up 6) (tail_at 6 (up 6)) (made_at 6))
+        (chain_nests (λ e more. made_at 6 e (map after_kind more)) (λ n. below n at_xor) or_goes (below_is at_xor) c xor_nests refl refl
+        (deep_both_nests (flat_nests (one_takes sort (codes_of (operators 6)))) refl (deeper at_xor (goes_on 6) (up 6) xor_nests)) refl refl)
 
 pub unary_at_nests : (bound : ℕ) → bound ≤ max_depth + 1 → Level_law bound [] (λ n. unary (below n)) (unary_at bound)
 unfolding unary_at
@@ -130,10 +173,10 @@ unary_at_nests zero c = none_nests (λ n. unary (below n))
 unary_at_nests (suc n) c =
     let less_fuel : n ≤ max_depth + 1 = omega arith in
     let h = unary_at_nests n less_fuel in
-    unary_nests (suc n) (inside max_depth (or_from (unary_at n))) (inside_nests (suc n) (λ m. below m at_or) (below_is at_or) (omega arith) c (or_nests n less_fuel (unary_at n) h))
+    unary_nests (suc n) (inside max_depth (level_at levels (unary_at n))) (inside_nests (suc n) (λ m. below m at_or) (below_is at_or) (omega arith) c (or_nests n less_fuel (unary_at n) h))
     (inside max_depth (unary_at n)) (inside_nests (suc n) (λ m. below m at_unary) (below_is at_unary) (omega arith) c h)
 
-or_law : Nests sort max_depth max_calls false unary_first or_goes (λ n. disjunction (below n)) (or_from (unary_at max_calls))
+or_law : Nests sort max_depth max_calls false unary_first or_goes (λ n. disjunction (below n)) (level_at levels (unary_at max_calls))
 or_law = let c : max_calls ≤ max_depth + 1 = omega arith in or_nests max_calls c (unary_at max_calls) (unary_at_nests max_calls c)
 
 pub expression_takes : Takes sort false unary_first or_goes expression expression_at
@@ -250,13 +293,55 @@ unfolding declaration_at
 declaration_takes k = same (declaration-valued k) (valued-declaration k) (map_takes (variable_of k) (both_takes identifier_takes refl (both_takes (one_takes sort (first kinds.Colon)) refl
     (both_takes type_takes refl (both_takes init_takes refl (one_takes sort (first kinds.Semicolon)))))))
 
+-- a block after its first word
+abbrev rest : StClass → Lang Token (List StVar)
+rest k = ended_variables <$> many (declaration k) & word kinds.EndVar
+
+rest_takes : (k : StClass) → Takes sort false (codes_of (kinds.Name ∷ kinds.EndVar ∷ [])) [] (rest k) (rest_at k)
+unfolding rest_at
+rest_takes k = map_takes ended_variables (both_takes (many_takes refl (declaration_takes k)) refl (one_takes sort (first kinds.EndVar)))
+
+abbrev opened : TokenKind → StClass → Lang Token (List StVar)
+opened kind k = second <$> word kind & rest k
+
+block-opened : (kind : TokenKind) (k : StClass) (vs : List StVar) (x : List Token) → block_of kind k vs x → opened kind k vs x
+block-opened kind k vs x ((w, (us, e)), (a, b, d, more, is), eq) = ((w, us), (a, b, d, ((us, e), more, refl), is), eq)
+
+opened-block : (kind : TokenKind) (k : StClass) (vs : List StVar) (x : List Token) → opened kind k vs x → block_of kind k vs x
+opened-block kind k vs x ((w, us), (a, b, d, ((ws, e), more, same_list), is), eq) = ((w, (ws, e)), (a, b, d, more, is), eq ∙ same_list)
+
 block_of_takes : (kind : TokenKind) (k : StClass) → Takes sort false (first kind) [] (block_of kind k) (block_of_at kind k)
 unfolding block_of_at
-block_of_takes kind k = map_takes variables_of (both_takes (one_takes sort (first kind)) refl (both_takes (many_takes refl (declaration_takes k)) refl (one_takes sort (first kinds.EndVar))))
+block_of_takes kind k = same (block-opened kind k) (opened-block kind k) (map_takes second (both_takes (one_takes sort (first kind)) refl (rest_takes k)))
+
+-- what stands after VAR
+abbrev plain : Lang Token (List StVar)
+plain = block_of kinds.Constant class.Constant ∣ rest class.Plain
+
+plain_takes : Takes sort false (codes_of (kinds.Constant ∷ kinds.Name ∷ kinds.EndVar ∷ [])) [] plain plain_at
+unfolding plain_at
+plain_takes = either_takes (block_of_takes kinds.Constant class.Constant) refl (rest_takes class.Plain)
+
+abbrev factored : Lang Token (List StVar)
+factored = second <$> word kinds.Var & plain ∣ block_of kinds.VarInput class.Input ∣ block_of kinds.VarOutput class.Output
+
+block-factored : (vs : List StVar) (x : List Token) → block vs x → factored vs x
+block-factored vs x (inl d) =
+    let o = block-opened kinds.Var class.Plain vs x d in
+    inl ((o.0.0, o.0.1), (o.1.0, o.1.1, o.1.2, inr o.1.3, o.1.4), o.2)
+block-factored vs x (inr (inl d)) = inl ((d.0.0, d.0.1), (d.1.0, d.1.1, d.1.2, inl d.1.3, d.1.4), d.2)
+block-factored vs x (inr (inr d)) = inr d
+
+factored-block : (vs : List StVar) (x : List Token) → factored vs x → block vs x
+factored-block vs x (inl ((w, us), (a, b, d, inl more, is), eq)) = inr (inl ((w, us), (a, b, d, more, is), eq))
+factored-block vs x (inl ((w, us), (a, b, d, inr more, is), eq)) = inl (opened-block kinds.Var class.Plain vs x ((w, us), (a, b, d, more, is), eq))
+factored-block vs x (inr d) = inr (inr d)
 
 pub block_takes : Takes sort false block_first [] block block_at
 unfolding block_at
-block_takes = either_takes (block_of_takes kinds.Var class.Plain) refl (block_of_takes kinds.VarOutput class.Output)
+block_takes = same block-factored factored-block
+    (either_takes (map_takes second (both_takes (one_takes sort (first kinds.Var)) refl plain_takes)) refl
+    (either_takes (block_of_takes kinds.VarInput class.Input) refl (block_of_takes kinds.VarOutput class.Output)))
 
 -- ---- programs
 

@@ -10,5 +10,6 @@ pub mod Cursors
 pub mod Programs
 pub mod RefusalLaws
 pub mod Numbers
+pub mod Made
 pub mod WordLaws
 pub mod Told

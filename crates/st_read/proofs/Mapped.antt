@@ -1,5 +1,5 @@
 -- A reader of parts that maps each of them, beside one that maps them all at the end.
-use Rattle.std.proofs.Common.{◌≡◌, ℕ, zero, suc, Bool, true, false, List, [], ◌∷◌, ◌++◌, length, map, Some, None, refl, sym, ◌∙◌, if◌then◌else◌}
+use Rattle.std.proofs.Common.{◌≡◌, ℕ, zero, suc, max, arith, Bool, true, false, List, [], ◌∷◌, ◌++◌, length, map, Some, None, refl, sym, ◌∙◌, if◌then◌else◌}
 use Rattle.grammar.specs.Lang.{Lang}
 use Rattle.grammar.specs.Reader.{Read, Reader, and_then, starts, both_at, map_at, many_from, many_at, Deep, deep_map, joined, deep_from, deep_many, level, above, chained, chain_at, suffix_at}
 use Rattle.grammar.proofs.Laws.{Takes}
@@ -21,6 +21,9 @@ deep_reads_same e h = record {
   sound = λ ts a d rest g. h.sound ts a d rest (sym (e ts) ∙ g);
   complete = λ n a x rest l d s. let c = h.complete n a x rest l d s in record { depth = c.depth; small = c.small; reads = e (x ++ rest) ∙ c.reads };
 }
+
+max_zero : (n : ℕ) → max n 0 ≡ n
+max_zero n = omega arith
 
 -- ---- lists
 
@@ -110,23 +113,29 @@ module _ {T A B C : Type 0} (code : T → ℕ) (ks : List ℕ) (limit : ℕ) (h 
   pub chain_mapped : (make : A → List C → A) (ts : List T) → chain_at code ks limit make first (deep_map h r) ts ≡ chain_at code ks limit (λ a bs. make a (map h bs)) first r ts
   chain_mapped make ts = chain_first make (first ts)
 
-  suffix_more : (make : A → C → A) (o : A × ℕ) (read : Read T (B × ℕ))
-      → and_then {A = C × ℕ} {B = A × ℕ} (and_then {A = B × ℕ} {B = C × ℕ} read (λ p us. Some ((h p.0, p.1), us))) (λ b vs. and_then {A = A × ℕ} {B = A × ℕ} (level limit o.0 o.1 vs) (λ p ws. Some (above make p b, ws)))
-      ≡ and_then {A = B × ℕ} {B = A × ℕ} read (λ b vs. and_then {A = A × ℕ} {B = A × ℕ} (level limit o.0 o.1 vs) (λ p ws. Some (above (λ a c. make a (h c)) p b, ws)))
-  suffix_more make o None = refl
-  suffix_more make o (Some p) = refl
+  -- at most one part after the first
+  abbrev single : (A → List C → A) → Deep T A
+  single make ts = and_then (first ts) (λ a us. and_then (deep_from code ks (deep_map h r) 1 us) (λ bs vs. chained limit make a bs vs))
 
-  suffix_step : (make : A → C → A) (o : A × ℕ) (us : List T) (b : Bool)
-      → (if b then and_then {A = C × ℕ} {B = A × ℕ} (deep_map h r us) (λ b vs. and_then {A = A × ℕ} {B = A × ℕ} (level limit o.0 o.1 vs) (λ p ws. Some (above make p b, ws))) else Some (o, us))
-      ≡ (if b then and_then {A = B × ℕ} {B = A × ℕ} (r us) (λ b vs. and_then {A = A × ℕ} {B = A × ℕ} (level limit o.0 o.1 vs) (λ p ws. Some (above (λ a c. make a (h c)) p b, ws))) else Some (o, us))
-  suffix_step make o us false = refl
-  suffix_step make o us true = suffix_more make o (r us)
+  single_more : (make : A → List C → A) (o : A × ℕ) (read : Read T (B × ℕ))
+      → and_then {A = List C × ℕ} {B = A × ℕ} (and_then {A = C × ℕ} {B = List C × ℕ} (and_then {A = B × ℕ} {B = C × ℕ} read (λ p us. Some ((h p.0, p.1), us))) (λ a us. and_then {A = List C × ℕ} {B = List C × ℕ} (deep_from code ks (deep_map h r) 0 us) (λ more vs. Some (joined a more, vs)))) (λ bs vs. chained limit make o bs vs)
+      ≡ and_then {A = B × ℕ} {B = A × ℕ} read (λ b vs. and_then {A = A × ℕ} {B = A × ℕ} (level limit o.0 o.1 vs) (λ p ws. Some (above (λ a c. make a (h c ∷ [])) p b, ws)))
+  unfolding deep_from
+  single_more make o None = refl
+  single_more make o (Some p) = rw (max_zero p.0.1) refl
 
-  suffix_first : (make : A → C → A) (read : Read T (A × ℕ))
-      → and_then {A = A × ℕ} {B = A × ℕ} read (λ a us. if starts code ks us then and_then {A = C × ℕ} {B = A × ℕ} (deep_map h r us) (λ b vs. and_then {A = A × ℕ} {B = A × ℕ} (level limit a.0 a.1 vs) (λ p ws. Some (above make p b, ws))) else Some (a, us))
-      ≡ and_then {A = A × ℕ} {B = A × ℕ} read (λ a us. if starts code ks us then and_then {A = B × ℕ} {B = A × ℕ} (r us) (λ b vs. and_then {A = A × ℕ} {B = A × ℕ} (level limit a.0 a.1 vs) (λ p ws. Some (above (λ c d. make c (h d)) p b, ws))) else Some (a, us))
-  suffix_first make None = refl
-  suffix_first make (Some p) = suffix_step make p.0 p.1 (starts code ks p.1)
+  single_step : (make : A → List C → A) (o : A × ℕ) (us : List T) (b : Bool)
+      → and_then {A = List C × ℕ} {B = A × ℕ} (if b then and_then {A = C × ℕ} {B = List C × ℕ} (deep_map h r us) (λ a vs. and_then {A = List C × ℕ} {B = List C × ℕ} (deep_from code ks (deep_map h r) 0 vs) (λ more ws. Some (joined a more, ws))) else Some (([], 0), us)) (λ bs vs. chained limit make o bs vs)
+      ≡ (if b then and_then {A = B × ℕ} {B = A × ℕ} (r us) (λ b vs. and_then {A = A × ℕ} {B = A × ℕ} (level limit o.0 o.1 vs) (λ p ws. Some (above (λ a c. make a (h c ∷ [])) p b, ws))) else Some (o, us))
+  single_step make o us false = refl
+  single_step make o us true = single_more make o (r us)
 
-  pub suffix_mapped : (make : A → C → A) (ts : List T) → suffix_at code ks limit make first (deep_map h r) ts ≡ suffix_at code ks limit (λ a b. make a (h b)) first r ts
-  suffix_mapped make ts = suffix_first make (first ts)
+  single_first : (make : A → List C → A) (read : Read T (A × ℕ))
+      → and_then {A = A × ℕ} {B = A × ℕ} read (λ a us. and_then {A = List C × ℕ} {B = A × ℕ} (deep_from code ks (deep_map h r) 1 us) (λ bs vs. chained limit make a bs vs))
+      ≡ and_then {A = A × ℕ} {B = A × ℕ} read (λ a us. if starts code ks us then and_then {A = B × ℕ} {B = A × ℕ} (r us) (λ b vs. and_then {A = A × ℕ} {B = A × ℕ} (level limit a.0 a.1 vs) (λ p ws. Some (above (λ c d. make c (h d ∷ [])) p b, ws))) else Some (a, us))
+  unfolding deep_from
+  single_first make None = refl
+  single_first make (Some p) = single_step make p.0 p.1 (starts code ks p.1)
+
+  pub single_mapped : (make : A → List C → A) (ts : List T) → single make ts ≡ suffix_at code ks limit (λ a b. make a (h b ∷ [])) first r ts
+  single_mapped make ts = single_first make (first ts)

@@ -1,9 +1,9 @@
--- The programs that are read: no token of theirs is outside the grammar, they have no more variables and statements than
--- their texts have bytes, and no input.
-use Rattle.std.proofs.Common.{◌≡◌, ◌==◌, ◌≤◌, ◌+◌, ◌||◌, ℕ, zero, suc, Bool, true, false, List, [], ◌∷◌, ◌++◌, length, map, Option, Some, None, refl, sym, ap, subst, ◌∙◌, arith, inl, inr, filter_map}
+-- The programs that are read: no token of theirs is outside the grammar, and they have no more variables and statements
+-- than their texts have bytes.
+use Rattle.std.proofs.Common.{◌≡◌, ◌≤◌, ◌+◌, ℕ, zero, suc, true, false, List, [], ◌∷◌, ◌++◌, length, map, Option, Some, None, refl, sym, ap, subst, ◌∙◌, arith, inl, inr, filter_map}
 use Rattle.std.proofs.lemmas.List.{length-append}
 use Rattle.grammar.specs.Pieces.{Text, Pieces}
-use Rattle.grammar.specs.Lang.{Lang, ◌&◌, ◌∣◌, ◌<$>◌, many, some, optional, flat}
+use Rattle.grammar.specs.Lang.{Lang, has, ◌&◌, ◌∣◌, ◌<$>◌, many, some, optional, flat}
 use Rattle.st_ast.specs.Tokens.{Token, Piece, blank, comment, sign, piece, token_of}
 use Rattle.st_ast.specs.declared.kinds.TokenKind.{TokenKind}
 use Rattle.st_ast.specs.declared.kinds.TokenKind.TheVariants as kinds
@@ -11,9 +11,7 @@ use Rattle.st_ast.specs.Tokens as tokens
 use Rattle.st_ast.specs.Tree.{Expr, Stm, Stms, stms_of, Program}
 use Rattle.st_ast.specs.View.{branches_of, other_of}
 use Rattle.st_ast.specs.Checks.{stm_count, stms_count, branches_count, other_count}
-use Rattle.st_ast.specs.Interface.{numbers_of}
-use Rattle.st_ast.specs.Scan.{is_input}
-use Rattle.st_ast.specs.Grammar.{code, sort, second, word, identifier, natural, Level, at_or, at_and, at_equal, at_order, at_sum, at_unary, prim, unary, summed, ordered, equated, conjunction, disjunction, level, max_depth, below, expression, without_word, assignment, guarded, conditional, repetition, statement, signed, first_value, type_use, declaration, block_of, block, whole}
+use Rattle.st_ast.specs.Grammar.{code, sort, second, word, word_of, identifier, natural, products, sums, orders, equalities, Level, at_or, at_xor, at_and, at_equal, at_order, at_sum, at_product, at_unary, one_argument, two_arguments, three_arguments, prim, unary, operands, multiplied, summed, ordered, equated, conjunction, exclusion, disjunction, level, max_depth, below, expression, without_word, assignment, guarded, conditional, repetition, statement, signed, first_value, type_use, declaration, block_of, block, whole}
 use Rattle.st_lex.proofs.CuttingLaws.{piece_cuts}
 use Rattle.st_read.specs.Derives.{Derives}
 use Rattle.st_ast.specs.declared.tree.StVar.{StVar}
@@ -37,17 +35,19 @@ Fits {A = A} size p = (a : A) (x : List Token) → p a x → (size a ≤ length 
 abbrev free : {A : Type 0} → A → ℕ
 free a = 0
 
-not_outside : (kind : TokenKind) (t : Token) → (code kind == code kinds.Outside) ≡ false → (code kind == sort t || false) ≡ true → t.kind ≡ kinds.Outside → ⊥
-not_outside kind t e h is =
-    let g : (code kind == code kinds.Outside || false) ≡ true = ap (λ (k : TokenKind). code kind == code k || false) (sym is) ∙ h in
-    let f : (code kind == code kinds.Outside || false) ≡ false = ap (λ (b : Bool). b || false) e in
-    let wrong : true ≡ false = sym g ∙ f in
+not_outside : (ks : List TokenKind) (t : Token) → has (map code ks) (code kinds.Outside) ≡ false → has (map code ks) (sort t) ≡ true → t.kind ≡ kinds.Outside → ⊥
+not_outside ks t e h is =
+    let g : has (map code ks) (code kinds.Outside) ≡ true = ap (λ (k : TokenKind). has (map code ks) (code k)) (sym is) ∙ h in
+    let wrong : true ≡ false = sym g ∙ e in
     cc
 
-word_fits : (kind : TokenKind) → (code kind == code kinds.Outside) ≡ false → Fits (λ t. 1) (word kind)
-word_fits kind e t x d =
+word_of_fits : (ks : List TokenKind) → has (map code ks) (code kinds.Outside) ≡ false → Fits (λ t. 1) (word_of ks)
+word_of_fits ks e t x d =
     let one : length x ≡ 1 = ap (λ (ts : List Token). length ts) d.1 in
-    (omega arith, subst (λ (ts : List Token). Inside ts) (sym d.1) (not_outside kind t e d.0, tt))
+    (omega arith, subst (λ (ts : List Token). Inside ts) (sym d.1) (not_outside ks t e d.0, tt))
+
+word_fits : (kind : TokenKind) → has (code kind ∷ []) (code kinds.Outside) ≡ false → Fits (λ t. 1) (word kind)
+word_fits kind e = word_of_fits (kind ∷ []) e
 
 both_fits : {A B : Type 0} {f : A → ℕ} {g : B → ℕ} {p : Lang Token A} {q : Lang Token B} → Fits f p → Fits g q → Fits (λ v. f v.0 + g v.1) (p & q)
 both_fits h k v x d =
@@ -108,35 +108,58 @@ natural_fits : Fits free natural
 natural_fits = plain_fits (word_fits kinds.Literal refl)
 
 module _ (inner : Level → Lang Token Expr) (h : (l : Level) → Fits free (inner l)) where
+  one_fits : Fits free (one_argument inner)
+  one_fits = plain_fits (both_fits (word_fits kinds.Open refl) (both_fits (h at_or) (word_fits kinds.Close refl)))
+
+  two_fits : Fits free (two_arguments inner)
+  two_fits = plain_fits (both_fits (word_fits kinds.Open refl) (both_fits (h at_or) (both_fits (word_fits kinds.Comma refl) (both_fits (h at_or) (word_fits kinds.Close refl)))))
+
+  three_fits : Fits free (three_arguments inner)
+  three_fits = plain_fits (both_fits (word_fits kinds.Open refl) (both_fits (h at_or) (both_fits (word_fits kinds.Comma refl)
+      (both_fits (h at_or) (both_fits (word_fits kinds.Comma refl) (both_fits (h at_or) (word_fits kinds.Close refl)))))))
+
   prim_fits : Fits free (prim inner)
   prim_fits = either_fits (plain_fits (word_fits kinds.True refl)) (either_fits (plain_fits (word_fits kinds.False refl))
-      (either_fits (plain_fits natural_fits) (either_fits (plain_fits identifier_fits)
-      (plain_fits (both_fits (word_fits kinds.Open refl) (both_fits (h at_or) (word_fits kinds.Close refl)))))))
+      (either_fits (plain_fits natural_fits) (either_fits (plain_fits identifier_fits) (either_fits (plain_fits one_fits)
+      (either_fits (plain_fits (both_fits (word_fits kinds.Abs refl) one_fits)) (either_fits (plain_fits (both_fits (word_fits kinds.Min refl) two_fits))
+      (either_fits (plain_fits (both_fits (word_fits kinds.Max refl) two_fits)) (plain_fits (both_fits (word_fits kinds.Sel refl) three_fits)))))))))
 
   unary_fits : Fits free (unary inner)
-  unary_fits = either_fits (plain_fits (both_fits (word_fits kinds.Not refl) (h at_unary))) prim_fits
+  unary_fits = either_fits (plain_fits (both_fits (word_fits kinds.Dash refl) (h at_unary)))
+      (either_fits (plain_fits (both_fits (word_fits kinds.Not refl) (h at_unary))) prim_fits)
+
+  operands_fits : (l : Level) (ks : List TokenKind) → has (map code ks) (code kinds.Outside) ≡ false → Fits {A = Expr × List (Token × Expr)} (λ v. 0 + total (λ w. 1 + 0) v.1) (operands inner l ks)
+  operands_fits l ks e = both_fits (h l) (some_fits (both_fits (word_of_fits ks e) (h l)))
+
+  multiplied_fits : Fits free (multiplied inner)
+  multiplied_fits = either_fits unary_fits (plain_fits (operands_fits at_unary products refl))
 
   summed_fits : Fits free (summed inner)
-  summed_fits = either_fits unary_fits (plain_fits (both_fits (h at_unary) (some_fits (both_fits (word_fits kinds.Plus refl) (h at_unary)))))
+  summed_fits = either_fits multiplied_fits (plain_fits (operands_fits at_product sums refl))
 
   ordered_fits : Fits free (ordered inner)
-  ordered_fits = either_fits summed_fits (plain_fits (both_fits (h at_sum) (both_fits (word_fits kinds.Less refl) (h at_sum))))
+  ordered_fits = either_fits summed_fits (plain_fits (both_fits (h at_sum) (both_fits (word_of_fits orders refl) (h at_sum))))
 
   equated_fits : Fits free (equated inner)
-  equated_fits = either_fits ordered_fits (plain_fits (both_fits (h at_order) (both_fits (word_fits kinds.Equals refl) (h at_order))))
+  equated_fits = either_fits ordered_fits (plain_fits (both_fits (h at_order) (both_fits (word_of_fits equalities refl) (h at_order))))
 
   conjunction_fits : Fits free (conjunction inner)
-  conjunction_fits = either_fits equated_fits (plain_fits (both_fits (h at_equal) (some_fits (both_fits (word_fits kinds.And refl) (h at_equal)))))
+  conjunction_fits = either_fits equated_fits (plain_fits (operands_fits at_equal (kinds.And ∷ []) refl))
+
+  exclusion_fits : Fits free (exclusion inner)
+  exclusion_fits = either_fits conjunction_fits (plain_fits (operands_fits at_and (kinds.Xor ∷ []) refl))
 
   disjunction_fits : Fits free (disjunction inner)
-  disjunction_fits = either_fits conjunction_fits (plain_fits (both_fits (h at_and) (some_fits (both_fits (word_fits kinds.Or refl) (h at_and)))))
+  disjunction_fits = either_fits exclusion_fits (plain_fits (operands_fits at_xor (kinds.Or ∷ []) refl))
 
   level_fits : (l : Level) → Fits free (level inner l)
   level_fits at_or = disjunction_fits
+  level_fits at_xor = exclusion_fits
   level_fits at_and = conjunction_fits
   level_fits at_equal = equated_fits
   level_fits at_order = ordered_fits
   level_fits at_sum = summed_fits
+  level_fits at_product = multiplied_fits
   level_fits at_unary = unary_fits
 
 below_fits : (n : ℕ) (l : Level) → Fits free (below n l)
@@ -169,7 +192,7 @@ other_small None = omega arith
 other_small (Some w) = let e = stms_total w.1 in omega (arith, e)
 
 module _ (body : Lang Token (List Stm)) (b : Fits (total stm_count) body) where
-  guarded_fits : (kind : TokenKind) → (code kind == code kinds.Outside) ≡ false → Fits guarded_size (guarded body kind)
+  guarded_fits : (kind : TokenKind) → has (code kind ∷ []) (code kinds.Outside) ≡ false → Fits guarded_size (guarded body kind)
   guarded_fits kind e = map_fits (both_fits expression_fits (both_fits (word_fits kind e) b)) guarded_size _ (λ v. let m = stms_total v.1.1 in omega (arith, m))
 
   conditional_fits : Fits stm_count (conditional body)
@@ -210,12 +233,14 @@ length_total : (vs : List StVar) → length vs ≡ total one_each vs
 length_total [] = refl
 length_total (v ∷ vs) = let m = length_total vs in omega (arith, m)
 
-block_of_fits : (kind : TokenKind) (k : StClass) → (code kind == code kinds.Outside) ≡ false → Fits (λ vs. length vs) (block_of kind k)
+block_of_fits : (kind : TokenKind) (k : StClass) → has (code kind ∷ []) (code kinds.Outside) ≡ false → Fits (λ vs. length vs) (block_of kind k)
 block_of_fits kind k e = map_fits (both_fits (word_fits kind e) (both_fits (many_fits (declaration_fits k)) (word_fits kinds.EndVar refl))) (λ vs. length vs) _
     (λ v. let m = length_total v.1.0 in omega (arith, m))
 
 block_fits : Fits (λ (vs : List StVar). length vs) block
-block_fits = either_fits (block_of_fits kinds.Var class.Plain refl) (block_of_fits kinds.VarOutput class.Output refl)
+block_fits = either_fits (block_of_fits kinds.Var class.Plain refl)
+    (either_fits (map_fits (both_fits (word_fits kinds.Var refl) (block_of_fits kinds.Constant class.Constant refl)) (λ vs. length vs) _ (λ v. omega arith))
+    (either_fits (block_of_fits kinds.VarInput class.Input refl) (block_of_fits kinds.VarOutput class.Output refl)))
 
 flat_total : (vss : List (List StVar)) → length (flat vss) ≡ total (λ vs. length vs) vss
 flat_total [] = refl
@@ -230,41 +255,6 @@ pub whole_fits : (p : Program) (ts : List Token) → whole p ts → (length p.va
 unfolding whole
 whole_fits = map_fits (both_fits (word_fits kinds.Program refl) (both_fits identifier_fits (both_fits (many_fits block_fits) (both_fits (many_fits (statement_fits max_depth)) (word_fits kinds.EndProgram refl))))) program_size _
     (λ v. let m = flat_total v.1.1.0 in let n = stms_total v.1.1.1.0 in omega (arith, m, n))
-
--- ---- no inputs
-
-abbrev NoInputs : List StVar → Type 0
-NoInputs [] = Unit {0}
-NoInputs (v ∷ vs) = (is_input v.class ≡ false) × NoInputs vs
-
-no_inputs_both : (us vs : List StVar) → NoInputs us → NoInputs vs → NoInputs (us ++ vs)
-no_inputs_both [] vs h k = k
-no_inputs_both (u ∷ us) vs h k = (h.0, no_inputs_both us vs h.1 k)
-
-declarations_no_inputs : (k : StClass) → is_input k ≡ false → (vs : List StVar) (x : List Token) → many (declaration k) vs x → NoInputs vs
-declarations_no_inputs k e [] x d = tt
-declarations_no_inputs k e (v ∷ vs) x d = (ap (λ (u : StVar). is_input u.class) d.2.2 ∙ e, declarations_no_inputs k e vs d.1 d.3)
-
-block_of_no_inputs : (kind : TokenKind) (k : StClass) → is_input k ≡ false → (vs : List StVar) (x : List Token) → block_of kind k vs x → NoInputs vs
-block_of_no_inputs kind k e vs x d = subst (λ us. NoInputs us) (sym d.2) (declarations_no_inputs k e d.0.1.0 d.1.3.0 d.1.3.2)
-
-block_no_inputs : (vs : List StVar) (x : List Token) → block vs x → NoInputs vs
-block_no_inputs vs x (inl d) = block_of_no_inputs kinds.Var class.Plain refl vs x d
-block_no_inputs vs x (inr d) = block_of_no_inputs kinds.VarOutput class.Output refl vs x d
-
-blocks_no_inputs : (vss : List (List StVar)) (x : List Token) → many block vss x → NoInputs (flat vss)
-blocks_no_inputs [] x d = tt
-blocks_no_inputs (vs ∷ vss) x d = no_inputs_both vs (flat vss) (block_no_inputs vs d.0 d.2) (blocks_no_inputs vss d.1 d.3)
-
-no_numbers : (k : ℕ) (vs : List StVar) → NoInputs vs → numbers_of is_input k vs ≡ []
-no_numbers k [] h = refl
-no_numbers k (v ∷ vs) h = let e = h.0 in rw e (no_numbers (suc k) vs h.1)
-
-pub whole_no_inputs : (p : Program) (ts : List Token) → whole p ts → numbers_of is_input 0 p.vars ≡ []
-unfolding whole
-whole_no_inputs p ts ((v0, (v1, (v2, (v3, v4)))), (a, b, d, (a1, b1, d1, (a2, b2, d2, rest, e2), e1), e), is) =
-    let none = no_numbers 0 (flat v2) (blocks_no_inputs v2 a2 d2) in
-    ap (λ (q : Program). numbers_of is_input 0 q.vars) is ∙ none
 
 -- ---- the programs of a text
 
@@ -294,6 +284,3 @@ program_small text p d =
     let few = tokens_small d.are_tokens.pieces in
     let short = pieces_small d.are_tokens.pieces text d.are_tokens.cut in
     (omega arith, omega arith)
-
-pub program_no_inputs : (text : Text) (p : Program) → Derives text p → numbers_of is_input 0 p.vars ≡ []
-program_no_inputs text p d = whole_no_inputs p d.tokens d.derived

@@ -1,4 +1,5 @@
 pub mod Reading
+pub mod Operands
 pub mod Gives
 pub mod ReadsUnary
 pub mod ReadsStatement

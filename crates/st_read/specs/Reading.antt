@@ -1,15 +1,14 @@
 -- Helper of the code: reading Structured Text with one token of sight: a reader for each production of the grammar.
-use Rattle.std.specs.Prelude.{ℕ, zero, suc, ◌+◌, ℤ, pos, neg_ℤ, Bool, true, false, List, [], ◌∷◌, map, Option, Some, None}
+use Rattle.std.specs.Prelude.{ℕ, zero, suc, ◌+◌, nat_eq, ℤ, pos, neg_ℤ, Bool, true, false, ◌||◌, List, [], ◌∷◌, length, map, Option, Some, None, if◌then◌else◌}
 use Rattle.grammar.specs.Pieces.{Text}
-use Rattle.grammar.specs.Reader.{Read, Reader, Deep, one_at, none_at, both_at, map_at, either_at, optional_at, many_at, list_at, flat_at, deep_both, deep_map, inside, chain_at, suffix_at}
+use Rattle.grammar.specs.Reader.{Read, Reader, Deep, and_then, one_at, none_at, both_at, map_at, either_at, optional_at, many_at, list_at, flat_at, deep_both, deep_map, deep_from, inside, chained}
 use Rattle.st_ast.specs.Tokens.{Token, number_of}
 use Rattle.st_ast.specs.declared.kinds.TokenKind.{TokenKind}
 use Rattle.st_ast.specs.declared.kinds.TokenKind.TheVariants as kinds
-use Rattle.st_ast.specs.Tree.{Expr, truth, number, named, paren, negation, sum, order, equal, all_of, any_of, exprs_of, Stm, Stms, assign, choice, loop, stms_of, Program}
-use Rattle.st_ast.specs.View.{terms_of, branches_of, other_of}
-use Rattle.st_ast.specs.Grammar.{code, sort, second, middle, text_of, max_depth, without_word, subrange_of, value_of_init}
+use Rattle.st_ast.specs.Tree.{Expr, truth, number, named, paren, negation, complement, absolute, least, greatest, selection, order, equal, Stm, Stms, assign, choice, loop, stms_of, Program}
+use Rattle.st_ast.specs.View.{branches_of, other_of}
+use Rattle.st_ast.specs.Grammar.{code, sort, second, middle, text_of, products, sums, orders, equalities, order_of, is_equality, Others, product_of, sum_of, all_from, odd_from, any_from, after_kind, max_depth, without_word, subrange_of, value_of_init}
 use Rattle.grammar.specs.Loops.{flat_after}
-use Rattle.st_ast.specs.declared.tree.StOrder.TheVariants as cmp
 use Rattle.st_ast.specs.declared.tree.StVar.{StVar}
 use Rattle.st_ast.specs.declared.tree.StTy.{StTy}
 use Rattle.st_ast.specs.declared.tree.StTy.TheVariants as ty
@@ -44,99 +43,130 @@ natural_at = map_at natural_of (word_at kinds.Literal)
 abbrev pub truth_of : Bool → Token → Expr
 truth_of b t = truth b
 
-abbrev pub paren_of : Token × (Expr × Token) → Expr
-paren_of v = paren (middle v)
-
 abbrev pub negation_of : Token × Expr → Expr
 negation_of (w, e) = negation e
 
-abbrev pub term_of : Token × Expr → Bool × Expr
-term_of (s, e) = (false, e)
+abbrev pub complement_of : Token × Expr → Expr
+complement_of (w, e) = complement e
 
-abbrev pub sum_of : Expr → List (Bool × Expr) → Expr
-sum_of e more = sum e (terms_of more)
+abbrev pub absolute_of : Token × Expr → Expr
+absolute_of (w, e) = absolute e
 
-abbrev pub order_of : Expr → Expr → Expr
-order_of a b = order a cmp.Lt b
+abbrev pub least_of : Token × (Expr × Expr) → Expr
+least_of (w, (a, b)) = least a b
 
-abbrev pub equal_of : Expr → Expr → Expr
-equal_of a b = equal a true b
+abbrev pub greatest_of : Token × (Expr × Expr) → Expr
+greatest_of (w, (a, b)) = greatest a b
 
-abbrev pub all_from : Expr → List Expr → Expr
-all_from e more = all_of (exprs_of (e ∷ more))
+abbrev pub selection_of : Token × (Expr × (Expr × Expr)) → Expr
+selection_of (w, (g, (a, b))) = selection g a b
 
-abbrev pub any_from : Expr → List Expr → Expr
-any_from e more = any_of (exprs_of (e ∷ more))
+abbrev pub two_of : Token × (Expr × (Token × (Expr × Token))) → Expr × Expr
+two_of (opening, (a, (s, (b, closing)))) = (a, b)
+
+abbrev pub three_of : Token × (Expr × (Token × (Expr × (Token × (Expr × Token))))) → Expr × (Expr × Expr)
+three_of (opening, (a, (s, (b, (t, (c, closing)))))) = (a, (b, c))
+
+-- the operand before an order or an equality and the last one after it
+abbrev pub ordered_of : Expr → Others → Expr
+ordered_of a [] = a
+ordered_of a (o ∷ []) = order a (order_of o.0) o.1
+ordered_of a (o ∷ p ∷ more) = ordered_of a (p ∷ more)
+
+abbrev pub equated_of : Expr → Others → Expr
+equated_of a [] = a
+equated_of a (o ∷ []) = equal a (is_equality o.0) o.1
+equated_of a (o ∷ p ∷ more) = equated_of a (p ∷ more)
 
 -- ---- expressions, with their depth
 
 -- The reader of whole expressions as they stand inside a form.
 module _ (within : Deep Token Expr) where
-  unfoldable pub paren_at : Deep Token Expr
-  paren_at = deep_map paren_of (deep_both (flat_word kinds.Open) (deep_both within (flat_word kinds.Close)))
+  unfoldable pub one_argument_at : Deep Token Expr
+  one_argument_at = deep_map middle (deep_both (flat_word kinds.Open) (deep_both within (flat_word kinds.Close)))
+
+  unfoldable pub two_arguments_at : Deep Token (Expr × Expr)
+  two_arguments_at = deep_map two_of (deep_both (flat_word kinds.Open) (deep_both within (deep_both (flat_word kinds.Comma) (deep_both within (flat_word kinds.Close)))))
+
+  unfoldable pub three_arguments_at : Deep Token (Expr × (Expr × Expr))
+  three_arguments_at = deep_map three_of (deep_both (flat_word kinds.Open) (deep_both within (deep_both (flat_word kinds.Comma)
+      (deep_both within (deep_both (flat_word kinds.Comma) (deep_both within (flat_word kinds.Close)))))))
+
+  unfoldable pub function_at : Deep Token Expr
+  function_at = either_at sort (first kinds.Abs) (deep_map absolute_of (deep_both (flat_word kinds.Abs) one_argument_at))
+      (either_at sort (first kinds.Min) (deep_map least_of (deep_both (flat_word kinds.Min) two_arguments_at))
+      (either_at sort (first kinds.Max) (deep_map greatest_of (deep_both (flat_word kinds.Max) two_arguments_at))
+      (deep_map selection_of (deep_both (flat_word kinds.Sel) three_arguments_at))))
 
   unfoldable pub prim_at : Deep Token Expr
   prim_at = either_at sort (first kinds.True) (deep_map (truth_of true) (flat_word kinds.True))
       (either_at sort (first kinds.False) (deep_map (truth_of false) (flat_word kinds.False))
       (either_at sort (first kinds.Literal) (deep_map number (flat_at natural_at))
       (either_at sort (first kinds.Name) (deep_map named (flat_at identifier_at))
-      paren_at)))
+      (either_at sort (first kinds.Open) (deep_map paren one_argument_at)
+      function_at))))
 
-  -- the operand after NOT
+  -- over the reader of the operand after `-` or NOT
   unfoldable pub unary_from : Deep Token Expr → Deep Token Expr
-  unary_from operand = either_at sort (first kinds.Not) (deep_map negation_of (deep_both (flat_word kinds.Not) operand)) prim_at
+  unary_from operand = either_at sort (first kinds.Dash) (deep_map negation_of (deep_both (flat_word kinds.Dash) operand))
+      (either_at sort (first kinds.Not) (deep_map complement_of (deep_both (flat_word kinds.Not) operand)) prim_at)
 
--- The levels over the reader of operands.
-module _ (unary : Deep Token Expr) where
-  unfoldable pub term_at : Deep Token (Bool × Expr)
-  term_at = deep_map term_of (deep_both (flat_word kinds.Plus) (inside max_depth unary))
+-- The levels of operators are numbered from that which binds most.
+abbrev pub operators : ℕ → List TokenKind
+operators zero = products
+operators (suc zero) = sums
+operators (suc (suc zero)) = orders
+operators (suc (suc (suc zero))) = equalities
+operators (suc (suc (suc (suc zero)))) = kinds.And ∷ []
+operators (suc (suc (suc (suc (suc zero))))) = kinds.Xor ∷ []
+operators (suc (suc (suc (suc (suc (suc n)))))) = kinds.Or ∷ []
 
-  unfoldable pub sum_from : Deep Token Expr
-  sum_from = chain_at sort (first kinds.Plus) max_depth sum_of unary term_at
+-- the most operands after the first, of so many tokens
+abbrev pub most_others : ℕ → ℕ → ℕ
+most_others l n = if nat_eq l 2 || nat_eq l 3 then 1 else n
 
-  -- after `<`
-  unfoldable pub ordered_at : Deep Token Expr
-  ordered_at = deep_map second (deep_both (flat_word kinds.Less) (inside max_depth sum_from))
+abbrev pub made_at : ℕ → Expr → Others → Expr
+made_at zero = product_of
+made_at (suc zero) = sum_of
+made_at (suc (suc zero)) = ordered_of
+made_at (suc (suc (suc zero))) = equated_of
+made_at (suc (suc (suc (suc zero)))) = all_from
+made_at (suc (suc (suc (suc (suc zero))))) = odd_from
+made_at (suc (suc (suc (suc (suc (suc n)))))) = any_from
 
-  unfoldable pub order_from : Deep Token Expr
-  order_from = suffix_at sort (first kinds.Less) max_depth order_of sum_from ordered_at
+-- an operator of the level, and an operand by the reader of the level below
+unfoldable pub other_at : ℕ → Deep Token Expr → Deep Token (TokenKind × Expr)
+other_at l r = deep_map after_kind (deep_both (flat_at (one_at sort (codes_of (operators l)))) (inside max_depth r))
 
-  -- after `=`
-  unfoldable pub equated_at : Deep Token Expr
-  equated_at = deep_map second (deep_both (flat_word kinds.Equals) (inside max_depth order_from))
+unfoldable pub others_at : ℕ → Deep Token Expr → Deep Token Others
+others_at l r ts = deep_from sort (codes_of (operators l)) (other_at l r) (most_others l (length ts)) ts
 
-  unfoldable pub equal_from : Deep Token Expr
-  equal_from = suffix_at sort (first kinds.Equals) max_depth equal_of order_from equated_at
+unfoldable pub joined_at : ℕ → Deep Token Expr → Deep Token Expr
+joined_at l r ts = and_then (r ts) (λ first us. and_then (others_at l r us) (λ more vs. chained max_depth (made_at l) first more vs))
 
-  -- after AND
-  unfoldable pub and_next_at : Deep Token Expr
-  and_next_at = deep_map second (deep_both (flat_word kinds.And) (inside max_depth equal_from))
+-- so many levels over the reader of operands
+unfoldable pub level_at : ℕ → Deep Token Expr → Deep Token Expr
+level_at zero unary = unary
+level_at (suc l) unary = joined_at l (level_at l unary)
 
-  unfoldable pub and_from : Deep Token Expr
-  and_from = chain_at sort (first kinds.And) max_depth all_from equal_from and_next_at
-
-  -- after OR
-  unfoldable pub or_next_at : Deep Token Expr
-  or_next_at = deep_map second (deep_both (flat_word kinds.Or) (inside max_depth and_from))
-
-  unfoldable pub or_from : Deep Token Expr
-  or_from = chain_at sort (first kinds.Or) max_depth any_from and_from or_next_at
+abbrev pub levels : ℕ
+levels = 7
 
 -- The number bounds how deep the calls go.
 unfoldable pub unary_at : ℕ → Deep Token Expr
 unary_at zero = none_at
-unary_at (suc n) = unary_from (inside max_depth (or_from (unary_at n))) (inside max_depth (unary_at n))
+unary_at (suc n) = unary_from (inside max_depth (level_at levels (unary_at n))) (inside max_depth (unary_at n))
 
 -- a whole expression inside a form
 abbrev pub within_at : ℕ → Deep Token Expr
-within_at n = inside max_depth (or_from (unary_at n))
+within_at n = inside max_depth (level_at levels (unary_at n))
 
 -- one more than the deepest expression
 abbrev pub max_calls : ℕ
 max_calls = max_depth + 1
 
 unfoldable pub expression_at : Reader Token Expr
-expression_at = map_at (λ (e, depth). e) (or_from (unary_at max_calls))
+expression_at = map_at (λ (e, depth). e) (level_at levels (unary_at max_calls))
 
 -- ---- statements
 
@@ -232,18 +262,27 @@ init_at = map_at value_of_init (optional_at sort (first kinds.Assigns) (both_at 
 unfoldable pub declaration_at : StClass → Reader Token StVar
 declaration_at k = map_at (variable_of k) (both_at identifier_at (both_at (word_at kinds.Colon) (both_at type_at (both_at init_at (word_at kinds.Semicolon)))))
 
-abbrev pub variables_of : Token × (List StVar × Token) → List StVar
-variables_of v = middle v
+abbrev pub ended_variables : List StVar × Token → List StVar
+ended_variables (vars, end) = vars
+
+-- a block after its first word
+unfoldable pub rest_at : StClass → Reader Token (List StVar)
+rest_at k = map_at ended_variables (both_at (many_at sort (first kinds.Name) (declaration_at k)) (word_at kinds.EndVar))
 
 unfoldable pub block_of_at : TokenKind → StClass → Reader Token (List StVar)
-block_of_at kind k = map_at variables_of (both_at (word_at kind) (both_at (many_at sort (first kinds.Name) (declaration_at k)) (word_at kinds.EndVar)))
+block_of_at kind k = map_at second (both_at (word_at kind) (rest_at k))
+
+-- what stands after VAR
+unfoldable pub plain_at : Reader Token (List StVar)
+plain_at = either_at sort (first kinds.Constant) (block_of_at kinds.Constant class.Constant) (rest_at class.Plain)
 
 unfoldable pub block_at : Reader Token (List StVar)
-block_at = either_at sort (first kinds.Var) (block_of_at kinds.Var class.Plain) (block_of_at kinds.VarOutput class.Output)
+block_at = either_at sort (first kinds.Var) (map_at second (both_at (word_at kinds.Var) plain_at))
+    (either_at sort (first kinds.VarInput) (block_of_at kinds.VarInput class.Input) (block_of_at kinds.VarOutput class.Output))
 
 -- what begins a block of declarations
 abbrev pub block_first : List ℕ
-block_first = codes_of (kinds.Var ∷ kinds.VarOutput ∷ [])
+block_first = codes_of (kinds.Var ∷ kinds.VarInput ∷ kinds.VarOutput ∷ [])
 
 -- ---- programs
 

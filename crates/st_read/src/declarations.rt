@@ -127,8 +127,18 @@ fn declarations(
     Ok((found, rest))
 }
 
+/// A block after its first word, and its class.
+#[tactic(auto, using(grammar::proofs::Loops::after_none), unfolding(crate::specs::Reading::rest_at))]
+fn rest_of(alloc: Global, tokens: Tokens<'_>, class: StClass) -> Read<'_, Items<StVar>>
+    ensures { Gives (λ x. (x.0, x.1)) result (reading.rest_at class tokens.entry) }
+{
+    let (found, rest) = declarations(alloc, tokens, class, Items::new(alloc))?;
+    let (_end, rest) = word(rest, TokenKind::EndVar)?;
+    Ok((found, rest))
+}
+
 /// A block that begins with that word, and its class.
-#[tactic(auto, using(grammar::proofs::Loops::after_none), unfolding(crate::specs::Reading::block_of_at))]
+#[tactic(auto, unfolding(crate::specs::Reading::block_of_at))]
 fn block_of(
     alloc: Global,
     tokens: Tokens<'_>,
@@ -138,9 +148,19 @@ fn block_of(
     ensures { Gives (λ x. (x.0, x.1)) result (reading.block_of_at opening class tokens.entry) }
 {
     let (_opening, rest) = word(tokens, opening)?;
-    let (found, rest) = declarations(alloc, rest, class, Items::new(alloc))?;
-    let (_end, rest) = word(rest, TokenKind::EndVar)?;
-    Ok((found, rest))
+    rest_of(alloc, rest, class)
+}
+
+/// What stands after `VAR`: `CONSTANT` and constants, or variables.
+#[tactic(auto, unfolding(crate::specs::Reading::plain_at))]
+fn plain(alloc: Global, tokens: Tokens<'_>) -> Read<'_, Items<StVar>>
+    ensures { Gives (λ x. (x.0, x.1)) result (reading.plain_at tokens.entry) }
+{
+    if starts(&tokens, &[TokenKind::Constant]) {
+        block_of(alloc, tokens, TokenKind::Constant, StClass::Constant)
+    } else {
+        rest_of(alloc, tokens, StClass::Plain)
+    }
 }
 
 #[tactic(auto, unfolding(crate::specs::Reading::block_at))]
@@ -148,7 +168,10 @@ fn block(alloc: Global, tokens: Tokens<'_>) -> Read<'_, Items<StVar>>
     ensures { Gives (λ x. (x.0, x.1)) result (reading.block_at tokens.entry) }
 {
     if starts(&tokens, &[TokenKind::Var]) {
-        block_of(alloc, tokens, TokenKind::Var, StClass::Plain)
+        let (_var, rest) = word(tokens, TokenKind::Var)?;
+        plain(alloc, rest)
+    } else if starts(&tokens, &[TokenKind::VarInput]) {
+        block_of(alloc, tokens, TokenKind::VarInput, StClass::Input)
     } else {
         block_of(alloc, tokens, TokenKind::VarOutput, StClass::Output)
     }
@@ -163,7 +186,10 @@ pub fn variables(alloc: Global, tokens: Tokens<'_>) -> Read<'_, Items<StVar>>
     let most = tokens.len();
     let mut rest = tokens;
     for _turn in 0..most {
-        if !starts(&rest, &[TokenKind::Var, TokenKind::VarOutput]) {
+        if !starts(
+            &rest,
+            &[TokenKind::Var, TokenKind::VarInput, TokenKind::VarOutput],
+        ) {
             return Ok((found, rest));
         }
         let (more, left) = block(alloc, rest)?;

@@ -1,11 +1,9 @@
 //! Laws of the texts that are read.
 
-ghost use Rattle.std.specs.Prelude.{◌≡◌, ◌≤◌, [], length};
+ghost use Rattle.std.specs.Prelude.{◌≡◌, ◌≤◌, length};
 ghost use Rattle.grammar.specs.Pieces.{Text};
 ghost use Rattle.st_ast.specs.Checks.{stms_count};
-ghost use Rattle.st_ast.specs.Interface.{numbers_of};
 ghost use Rattle.st_ast.specs.ReadsAs.{ReadsAsProgram};
-ghost use Rattle.st_ast.specs.Scan.{is_input};
 ghost use Rattle.st_ast.specs.Tree as tree;
 ghost use Rattle.st_read.specs.Derives.{Derives};
 ghost use Rattle.st_read.specs.Refusals.{RefusalDue};
@@ -33,9 +31,4 @@ pub fn no_program_where_refused()
 pub fn programs_are_small()
     ensures { (text : Text) (p : tree.Program) → Derives text p
         → (length p.vars ≤ length text) × (stms_count p.body ≤ length text) }
-{}
-
-/// No program that is read has an input.
-pub fn programs_have_no_inputs()
-    ensures { (text : Text) (p : tree.Program) → Derives text p → numbers_of is_input 0 p.vars ≡ [] }
 {}

@@ -1,18 +1,20 @@
-//! Expressions, level by level. The reader of operands is a parameter, so that each rule is proved by itself.
+//! Expressions, level by level of operators. The reader of operands is a parameter, so that the levels are proved by
+//! themselves.
 
-ghost use Rattle.std.specs.Prelude.{◌≡◌, [], ◌∷◌, map, IfOk};
-ghost use Rattle.st_ast.specs.Grammar as grammar;
-ghost use Rattle.st_ast.specs.View.{view_expr, view_term};
+ghost use Rattle.std.specs.Prelude.{◌≡◌, [], ◌∷◌, map};
 ghost use Rattle.grammar.specs.Reader as reader;
 ghost use Rattle.st_ast.specs.Grammar.{max_depth};
+ghost use Rattle.st_ast.specs.View.{view_expr};
 ghost use Rattle.st_read.specs.Gives.{Gives};
+ghost use Rattle.st_read.specs.Operands.{operand_view};
 ghost use Rattle.st_read.specs.Reading as reading;
 ghost use Rattle.st_read.specs.ReadsUnary.{ReadsUnary};
 
 use crate::error::Stop;
-use crate::tokens::{Read, Tokens, starts, word};
-use cif_base::{Boxed, Items, Memory};
-use st_ast::{StExpr, StOrder, StTerm, TokenKind};
+use crate::making::{Operand, made};
+use crate::tokens::{Read, Tokens, one_of, starts};
+use cif_base::{Boxed, Items};
+use st_ast::{StExpr, TokenKind};
 use std::alloc::Global;
 
 /// The deepest expression and the deepest statement that are read.
@@ -20,6 +22,12 @@ pub const MAX_DEPTH: u16 = 400;
 
 /// The most operands that may stand inside one another: one more than forms do.
 pub const MAX_CALLS: u16 = MAX_DEPTH + 1;
+
+/// The levels of operators: products, sums, orders, equalities, `AND`, `XOR` and `OR`, which binds least.
+pub const LEVELS: u8 = 7;
+
+/// An expression with its depth, in a box, in which it is quick to check.
+pub type Deep = (Boxed<StExpr>, u16);
 
 /// A reader of expressions over one of operands.
 #[derive(Clone, Copy)]
@@ -30,9 +38,36 @@ pub struct Levels<F> {
     pub unary: F,
 }
 
-/// One more level.
+/// The operators of a level, which are numbered from that which binds most.
+fn operators(level: u8) -> &'static [TokenKind]
+    ensures { result.now ≡ reading.operators level }
+{
+    match level {
+        0 => &[TokenKind::Times, TokenKind::Slash, TokenKind::Mod],
+        1 => &[TokenKind::Plus, TokenKind::Dash],
+        2 => &[
+            TokenKind::Less,
+            TokenKind::Greater,
+            TokenKind::AtMost,
+            TokenKind::AtLeast,
+        ],
+        3 => &[TokenKind::Equals, TokenKind::Differs],
+        4 => &[TokenKind::And],
+        5 => &[TokenKind::Xor],
+        _ => &[TokenKind::Or],
+    }
+}
+
+/// The most operands after the first: one for an order and an equality.
+fn most_others(level: u8, tokens: usize) -> usize
+    ensures { result ≡ reading.most_others level tokens }
+{
+    if level == 2 || level == 3 { 1 } else { tokens }
+}
+
+/// One more level of depth.
 #[tactic(auto, unfolding(grammar::specs::Reader::level))]
-fn level(e: StExpr, depth: u16, rest: Tokens<'_>) -> Read<'_, (StExpr, u16)>
+fn deeper(e: Boxed<StExpr>, depth: u16, rest: Tokens<'_>) -> Read<'_, Deep>
     ensures { Gives (λ x. ((view_expr x.0.0, x.0.1), x.1)) result (reader.level max_depth (view_expr e) depth rest.entry) }
 {
     if depth < MAX_DEPTH {
@@ -42,272 +77,93 @@ fn level(e: StExpr, depth: u16, rest: Tokens<'_>) -> Read<'_, (StExpr, u16)>
     }
 }
 
-fn sum_of(alloc: Global, first: StExpr, rest: Items<StTerm>) -> Result<StExpr, Memory>
-    ensures { IfOk result (λ e. view_expr e ≡ reading.sum_of (view_expr first) (map view_term rest)) }
-{
-    let first = Boxed::new(alloc, first)?;
-    Ok(StExpr::Sum { first, rest })
-}
-
-fn order_of(alloc: Global, left: StExpr, right: StExpr) -> Result<StExpr, Memory>
-    ensures { IfOk result (λ e. view_expr e ≡ reading.order_of (view_expr left) (view_expr right)) }
-{
-    let left = Boxed::new(alloc, left)?;
-    let right = Boxed::new(alloc, right)?;
-    let op = StOrder::Lt;
-    Ok(StExpr::Order { left, op, right })
-}
-
-fn equal_of(alloc: Global, left: StExpr, right: StExpr) -> Result<StExpr, Memory>
-    ensures { IfOk result (λ e. view_expr e ≡ reading.equal_of (view_expr left) (view_expr right)) }
-{
-    let left = Boxed::new(alloc, left)?;
-    let right = Boxed::new(alloc, right)?;
-    let equal = true;
-    Ok(StExpr::Equal { left, equal, right })
-}
-
-fn joined(alloc: Global, first: StExpr, rest: Items<StExpr>) -> Result<Items<StExpr>, Memory>
-    ensures { IfOk result (λ all. all ≡ first ∷ rest) }
-{
-    let mut all = Items::new(alloc);
-    all.push(first)?;
-    all.append(rest)?;
-    Ok(all)
-}
-
-fn all_of(alloc: Global, first: StExpr, rest: Items<StExpr>) -> Result<StExpr, Memory>
-    ensures { IfOk result (λ e. view_expr e ≡ reading.all_from (view_expr first) (map view_expr rest)) }
-{
-    Ok(StExpr::And(joined(alloc, first, rest)?))
-}
-
-fn any_of(alloc: Global, first: StExpr, rest: Items<StExpr>) -> Result<StExpr, Memory>
-    ensures { IfOk result (λ e. view_expr e ≡ reading.any_from (view_expr first) (map view_expr rest)) }
-{
-    Ok(StExpr::Or(joined(alloc, first, rest)?))
-}
-
-impl<F: Fn(Global, Tokens<'_>, u16) -> Result<((StExpr, u16), Tokens<'_>), Stop>> Levels<F> {
-    fn operand<'a>(&self, tokens: Tokens<'a>) -> Read<'a, (StExpr, u16)>
+impl<F: Fn(Global, Tokens<'_>, u16) -> Result<(Deep, Tokens<'_>), Stop>> Levels<F> {
+    fn operand<'a>(&self, tokens: Tokens<'a>) -> Read<'a, Deep>
         requires { ReadsUnary self.now.fuel (F.pre self.now.unary) (F.post self.now.unary) }
         ensures { Gives (λ x. ((view_expr x.0.0, x.0.1), x.1)) result (reading.unary_at self.now.fuel tokens.entry) }
     {
         (self.unary)(self.alloc, tokens, self.fuel)
     }
 
-    pub fn inner_operand<'a>(&self, tokens: Tokens<'a>) -> Read<'a, (StExpr, u16)>
+    /// An operand inside a form.
+    pub fn inner_operand<'a>(&self, tokens: Tokens<'a>) -> Read<'a, Deep>
         requires { ReadsUnary self.now.fuel (F.pre self.now.unary) (F.post self.now.unary) }
         ensures { Gives (λ x. ((view_expr x.0.0, x.0.1), x.1)) result (reader.inside max_depth (reading.unary_at self.now.fuel) tokens.entry) }
     {
         let ((e, depth), rest) = self.operand(tokens)?;
-        level(e, depth, rest)
+        deeper(e, depth, rest)
     }
 
-    #[tactic(auto, unfolding(crate::specs::Reading::term_at))]
-    fn term<'a>(&self, tokens: Tokens<'a>) -> Read<'a, (StTerm, u16)>
+    /// An operator of a level, and its operand.
+    #[cycle(levels)]
+    #[tactic(auto, unfolding(crate::specs::Reading::other_at))]
+    fn other<'a>(
+        &self,
+        level: u8,
+        tokens: Tokens<'a>,
+    ) -> Read<'a, ((TokenKind, Boxed<StExpr>), u16)>
         requires { ReadsUnary self.now.fuel (F.pre self.now.unary) (F.post self.now.unary) }
-        ensures { Gives (λ x. ((view_term x.0.0, x.0.1), x.1)) result (reading.term_at (reading.unary_at self.now.fuel) tokens.entry) }
+        ensures { Gives (λ x. (((x.0.0.0, view_expr x.0.0.1), x.0.1), x.1)) result (reading.other_at level (reading.level_at level (reading.unary_at self.now.fuel)) tokens.entry) }
     {
-        let (_plus, rest) = word(tokens, TokenKind::Plus)?;
-        let ((value, depth), rest) = self.inner_operand(rest)?;
-        let minus = false;
-        Ok(((StTerm { minus, value }, depth), rest))
+        let (token, rest) = one_of(tokens, operators(level))?;
+        let kind = token.kind();
+        let ((value, depth), rest) = self.at(level, rest)?;
+        let ((value, depth), rest) = deeper(value, depth, rest)?;
+        Ok((((kind, value), depth), rest))
     }
 
-    #[tactic(auto, using(crate::proofs::SeenLoops::seen_deep_step, grammar::proofs::Loops::deep_stop, grammar::proofs::Loops::deep_fail, grammar::proofs::Loops::deep_end, grammar::proofs::Loops::deep_after_none))]
-    fn terms<'a>(&self, tokens: Tokens<'a>) -> Read<'a, (Items<StTerm>, u16)>
+    /// The operands of a level after the first, with their operators.
+    #[cycle(levels)]
+    #[tactic(auto, using(crate::proofs::SeenLoops::seen_deep_step, grammar::proofs::Loops::deep_stop, grammar::proofs::Loops::deep_fail, grammar::proofs::Loops::deep_end, grammar::proofs::Loops::deep_after_none), unfolding(crate::specs::Reading::others_at))]
+    fn others<'a>(&self, level: u8, tokens: Tokens<'a>) -> Read<'a, (Items<Operand>, u16)>
         requires { ReadsUnary self.now.fuel (F.pre self.now.unary) (F.post self.now.unary) }
-        ensures { Gives (λ x. ((map view_term x.0.0, x.0.1), x.1)) result (reader.deep_many grammar.sort (reading.first TokenKind.Plus) (reading.term_at (reading.unary_at self.now.fuel)) tokens.entry) }
+        ensures { Gives (λ x. ((map operand_view x.0.0, x.0.1), x.1)) result (reading.others_at level (reading.level_at level (reading.unary_at self.now.fuel)) tokens.entry) }
     {
+        let signs = operators(level);
+        let most = most_others(level, tokens.len());
         let mut found = Items::new(self.alloc);
         let mut deep = 0;
-        let most = tokens.len();
         let mut rest = tokens;
         for _turn in 0..most {
-            if !starts(&rest, &[TokenKind::Plus]) {
+            if !starts(&rest, signs) {
                 return Ok(((found, deep), rest));
             }
-            let ((item, depth), left) = self.term(rest)?;
-            found.push(item)?;
+            let (((kind, value), depth), left) = self.other(level, rest)?;
+            let value = value.into_inner();
+            found.push(Operand { kind, value })?;
             deep = deep.max(depth);
             rest = left;
         }
         Ok(((found, deep), rest))
     }
 
-    #[tactic(auto, using(crate::proofs::SeenLoops::seen_chained), unfolding(crate::specs::Reading::sum_from))]
-    fn sum<'a>(&self, tokens: Tokens<'a>) -> Read<'a, (StExpr, u16)>
+    /// An expression of so many levels of operators.
+    #[cycle(levels)]
+    #[tactic(auto, using(crate::proofs::SeenLoops::seen_chained), unfolding(crate::specs::Reading::level_at, crate::specs::Reading::joined_at))]
+    pub fn at<'a>(&self, levels: u8, tokens: Tokens<'a>) -> Read<'a, Deep>
         requires { ReadsUnary self.now.fuel (F.pre self.now.unary) (F.post self.now.unary) }
-        ensures { Gives (λ x. ((view_expr x.0.0, x.0.1), x.1)) result (reading.sum_from (reading.unary_at self.now.fuel) tokens.entry) }
+        ensures { Gives (λ x. ((view_expr x.0.0, x.0.1), x.1)) result (reading.level_at levels (reading.unary_at self.now.fuel) tokens.entry) }
     {
-        let ((first, depth), rest) = self.operand(tokens)?;
-        let ((more, deep), rest) = self.terms(rest)?;
+        if levels == 0 {
+            return self.operand(tokens);
+        }
+        let level = levels - 1;
+        let ((first, depth), rest) = self.at(level, tokens)?;
+        let ((more, deep), rest) = self.others(level, rest)?;
         if more.is_empty() {
             return Ok(((first, depth), rest));
         }
-        let ((first, depth), rest) = level(first, depth, rest)?;
-        Ok(((sum_of(self.alloc, first, more)?, depth.max(deep)), rest))
-    }
-
-    fn inner_sum<'a>(&self, tokens: Tokens<'a>) -> Read<'a, (StExpr, u16)>
-        requires { ReadsUnary self.now.fuel (F.pre self.now.unary) (F.post self.now.unary) }
-        ensures { Gives (λ x. ((view_expr x.0.0, x.0.1), x.1)) result (reader.inside max_depth (reading.sum_from (reading.unary_at self.now.fuel)) tokens.entry) }
-    {
-        let ((e, depth), rest) = self.sum(tokens)?;
-        level(e, depth, rest)
-    }
-
-    #[tactic(auto, unfolding(crate::specs::Reading::order_from, crate::specs::Reading::ordered_at))]
-    fn order<'a>(&self, tokens: Tokens<'a>) -> Read<'a, (StExpr, u16)>
-        requires { ReadsUnary self.now.fuel (F.pre self.now.unary) (F.post self.now.unary) }
-        ensures { Gives (λ x. ((view_expr x.0.0, x.0.1), x.1)) result (reading.order_from (reading.unary_at self.now.fuel) tokens.entry) }
-    {
-        let ((left, depth), rest) = self.sum(tokens)?;
-        if !starts(&rest, &[TokenKind::Less]) {
-            return Ok(((left, depth), rest));
-        }
-        let (_less, rest) = word(rest, TokenKind::Less)?;
-        let ((right, deep), rest) = self.inner_sum(rest)?;
-        let ((left, depth), rest) = level(left, depth, rest)?;
-        Ok(((order_of(self.alloc, left, right)?, depth.max(deep)), rest))
-    }
-
-    fn inner_order<'a>(&self, tokens: Tokens<'a>) -> Read<'a, (StExpr, u16)>
-        requires { ReadsUnary self.now.fuel (F.pre self.now.unary) (F.post self.now.unary) }
-        ensures { Gives (λ x. ((view_expr x.0.0, x.0.1), x.1)) result (reader.inside max_depth (reading.order_from (reading.unary_at self.now.fuel)) tokens.entry) }
-    {
-        let ((e, depth), rest) = self.order(tokens)?;
-        level(e, depth, rest)
-    }
-
-    #[tactic(auto, unfolding(crate::specs::Reading::equal_from, crate::specs::Reading::equated_at))]
-    fn equal<'a>(&self, tokens: Tokens<'a>) -> Read<'a, (StExpr, u16)>
-        requires { ReadsUnary self.now.fuel (F.pre self.now.unary) (F.post self.now.unary) }
-        ensures { Gives (λ x. ((view_expr x.0.0, x.0.1), x.1)) result (reading.equal_from (reading.unary_at self.now.fuel) tokens.entry) }
-    {
-        let ((left, depth), rest) = self.order(tokens)?;
-        if !starts(&rest, &[TokenKind::Equals]) {
-            return Ok(((left, depth), rest));
-        }
-        let (_equals, rest) = word(rest, TokenKind::Equals)?;
-        let ((right, deep), rest) = self.inner_order(rest)?;
-        let ((left, depth), rest) = level(left, depth, rest)?;
-        Ok(((equal_of(self.alloc, left, right)?, depth.max(deep)), rest))
-    }
-
-    fn inner_equal<'a>(&self, tokens: Tokens<'a>) -> Read<'a, (StExpr, u16)>
-        requires { ReadsUnary self.now.fuel (F.pre self.now.unary) (F.post self.now.unary) }
-        ensures { Gives (λ x. ((view_expr x.0.0, x.0.1), x.1)) result (reader.inside max_depth (reading.equal_from (reading.unary_at self.now.fuel)) tokens.entry) }
-    {
-        let ((e, depth), rest) = self.equal(tokens)?;
-        level(e, depth, rest)
-    }
-
-    /// An operand after the word.
-    #[tactic(auto, unfolding(crate::specs::Reading::and_next_at))]
-    fn and_next<'a>(&self, tokens: Tokens<'a>) -> Read<'a, (StExpr, u16)>
-        requires { ReadsUnary self.now.fuel (F.pre self.now.unary) (F.post self.now.unary) }
-        ensures { Gives (λ x. ((view_expr x.0.0, x.0.1), x.1)) result (reading.and_next_at (reading.unary_at self.now.fuel) tokens.entry) }
-    {
-        let (_word, rest) = word(tokens, TokenKind::And)?;
-        self.inner_equal(rest)
-    }
-
-    #[tactic(auto, using(crate::proofs::SeenLoops::seen_deep_step, grammar::proofs::Loops::deep_stop, grammar::proofs::Loops::deep_fail, grammar::proofs::Loops::deep_end, grammar::proofs::Loops::deep_after_none))]
-    fn and_more<'a>(&self, tokens: Tokens<'a>) -> Read<'a, (Items<StExpr>, u16)>
-        requires { ReadsUnary self.now.fuel (F.pre self.now.unary) (F.post self.now.unary) }
-        ensures { Gives (λ x. ((map view_expr x.0.0, x.0.1), x.1)) result (reader.deep_many grammar.sort (reading.first TokenKind.And) (reading.and_next_at (reading.unary_at self.now.fuel)) tokens.entry) }
-    {
-        let mut found = Items::new(self.alloc);
-        let mut deep = 0;
-        let most = tokens.len();
-        let mut rest = tokens;
-        for _turn in 0..most {
-            if !starts(&rest, &[TokenKind::And]) {
-                return Ok(((found, deep), rest));
-            }
-            let ((item, depth), left) = self.and_next(rest)?;
-            found.push(item)?;
-            deep = deep.max(depth);
-            rest = left;
-        }
-        Ok(((found, deep), rest))
-    }
-
-    #[tactic(auto, using(crate::proofs::SeenLoops::seen_chained), unfolding(crate::specs::Reading::and_from))]
-    fn and<'a>(&self, tokens: Tokens<'a>) -> Read<'a, (StExpr, u16)>
-        requires { ReadsUnary self.now.fuel (F.pre self.now.unary) (F.post self.now.unary) }
-        ensures { Gives (λ x. ((view_expr x.0.0, x.0.1), x.1)) result (reading.and_from (reading.unary_at self.now.fuel) tokens.entry) }
-    {
-        let ((first, depth), rest) = self.equal(tokens)?;
-        let ((more, deep), rest) = self.and_more(rest)?;
-        if more.is_empty() {
-            return Ok(((first, depth), rest));
-        }
-        let ((first, depth), rest) = level(first, depth, rest)?;
-        Ok(((all_of(self.alloc, first, more)?, depth.max(deep)), rest))
-    }
-
-    fn inner_and<'a>(&self, tokens: Tokens<'a>) -> Read<'a, (StExpr, u16)>
-        requires { ReadsUnary self.now.fuel (F.pre self.now.unary) (F.post self.now.unary) }
-        ensures { Gives (λ x. ((view_expr x.0.0, x.0.1), x.1)) result (reader.inside max_depth (reading.and_from (reading.unary_at self.now.fuel)) tokens.entry) }
-    {
-        let ((e, depth), rest) = self.and(tokens)?;
-        level(e, depth, rest)
-    }
-
-    /// An operand after the word.
-    #[tactic(auto, unfolding(crate::specs::Reading::or_next_at))]
-    fn or_next<'a>(&self, tokens: Tokens<'a>) -> Read<'a, (StExpr, u16)>
-        requires { ReadsUnary self.now.fuel (F.pre self.now.unary) (F.post self.now.unary) }
-        ensures { Gives (λ x. ((view_expr x.0.0, x.0.1), x.1)) result (reading.or_next_at (reading.unary_at self.now.fuel) tokens.entry) }
-    {
-        let (_word, rest) = word(tokens, TokenKind::Or)?;
-        self.inner_and(rest)
-    }
-
-    #[tactic(auto, using(crate::proofs::SeenLoops::seen_deep_step, grammar::proofs::Loops::deep_stop, grammar::proofs::Loops::deep_fail, grammar::proofs::Loops::deep_end, grammar::proofs::Loops::deep_after_none))]
-    fn or_more<'a>(&self, tokens: Tokens<'a>) -> Read<'a, (Items<StExpr>, u16)>
-        requires { ReadsUnary self.now.fuel (F.pre self.now.unary) (F.post self.now.unary) }
-        ensures { Gives (λ x. ((map view_expr x.0.0, x.0.1), x.1)) result (reader.deep_many grammar.sort (reading.first TokenKind.Or) (reading.or_next_at (reading.unary_at self.now.fuel)) tokens.entry) }
-    {
-        let mut found = Items::new(self.alloc);
-        let mut deep = 0;
-        let most = tokens.len();
-        let mut rest = tokens;
-        for _turn in 0..most {
-            if !starts(&rest, &[TokenKind::Or]) {
-                return Ok(((found, deep), rest));
-            }
-            let ((item, depth), left) = self.or_next(rest)?;
-            found.push(item)?;
-            deep = deep.max(depth);
-            rest = left;
-        }
-        Ok(((found, deep), rest))
-    }
-
-    #[tactic(auto, using(crate::proofs::SeenLoops::seen_chained), unfolding(crate::specs::Reading::or_from))]
-    pub fn or<'a>(&self, tokens: Tokens<'a>) -> Read<'a, (StExpr, u16)>
-        requires { ReadsUnary self.now.fuel (F.pre self.now.unary) (F.post self.now.unary) }
-        ensures { Gives (λ x. ((view_expr x.0.0, x.0.1), x.1)) result (reading.or_from (reading.unary_at self.now.fuel) tokens.entry) }
-    {
-        let ((first, depth), rest) = self.and(tokens)?;
-        let ((more, deep), rest) = self.or_more(rest)?;
-        if more.is_empty() {
-            return Ok(((first, depth), rest));
-        }
-        let ((first, depth), rest) = level(first, depth, rest)?;
-        Ok(((any_of(self.alloc, first, more)?, depth.max(deep)), rest))
+        let ((first, depth), rest) = deeper(first, depth, rest)?;
+        let e = made(self.alloc, level, first, more)?;
+        Ok(((e, depth.max(deep)), rest))
     }
 
     /// A whole expression inside a form.
-    pub fn within<'a>(&self, tokens: Tokens<'a>) -> Read<'a, (StExpr, u16)>
+    pub fn within<'a>(&self, tokens: Tokens<'a>) -> Read<'a, Deep>
         requires { ReadsUnary self.now.fuel (F.pre self.now.unary) (F.post self.now.unary) }
         ensures { Gives (λ x. ((view_expr x.0.0, x.0.1), x.1)) result (reading.within_at self.now.fuel tokens.entry) }
     {
-        let ((e, depth), rest) = self.or(tokens)?;
-        level(e, depth, rest)
+        let ((e, depth), rest) = self.at(LEVELS, tokens)?;
+        deeper(e, depth, rest)
     }
 }

@@ -19,9 +19,9 @@ use st_ast::TokenKind;
 static SIGNS: [(&[u8], TokenKind); 18] = [
     (b":=", TokenKind::Assigns),
     (b"..", TokenKind::Dots),
-    (b"<>", TokenKind::Outside),
-    (b"<=", TokenKind::Outside),
-    (b">=", TokenKind::Outside),
+    (b"<>", TokenKind::Differs),
+    (b"<=", TokenKind::AtMost),
+    (b">=", TokenKind::AtLeast),
     (b";", TokenKind::Semicolon),
     (b":", TokenKind::Colon),
     (b"(", TokenKind::Open),
@@ -29,12 +29,12 @@ static SIGNS: [(&[u8], TokenKind); 18] = [
     (b",", TokenKind::Comma),
     (b"+", TokenKind::Plus),
     (b"-", TokenKind::Dash),
-    (b"*", TokenKind::Outside),
-    (b"/", TokenKind::Outside),
+    (b"*", TokenKind::Times),
+    (b"/", TokenKind::Slash),
     (b"=", TokenKind::Equals),
     (b"<", TokenKind::Less),
-    (b">", TokenKind::Outside),
-    (b"&", TokenKind::Outside),
+    (b">", TokenKind::Greater),
+    (b"&", TokenKind::And),
 ];
 
 /// The place of the first byte that no word has.

@@ -7,6 +7,7 @@ mod found;
 mod laws;
 mod levels;
 mod lexing;
+mod making;
 mod names;
 mod operands;
 mod program;
@@ -16,8 +17,5 @@ mod tokens;
 mod words;
 
 pub use error::StErr;
-pub use laws::{
-    no_program_where_refused, one_program, programs_are_small, programs_have_no_inputs,
-    reads_derive,
-};
+pub use laws::{no_program_where_refused, one_program, programs_are_small, reads_derive};
 pub use texts::read;

@@ -15,7 +15,7 @@ use crate::levels::MAX_DEPTH;
 use crate::names::identifier;
 use crate::operands::expression;
 use crate::tokens::{Read, Tokens, starts, word};
-use cif_base::Items;
+use cif_base::{Boxed, Items};
 use st_ast::{StBranch, Stmt, TokenKind};
 use std::alloc::Global;
 
@@ -29,18 +29,19 @@ pub struct Bodies<F> {
 }
 
 #[tactic(auto, unfolding(crate::specs::Reading::assignment_at))]
-pub fn assignment(alloc: Global, tokens: Tokens<'_>) -> Read<'_, Stmt>
+pub fn assignment(alloc: Global, tokens: Tokens<'_>) -> Read<'_, Boxed<Stmt>>
     ensures { Gives (λ x. (view_stmt x.0, x.1)) result (reading.assignment_at tokens.entry) }
 {
     let (target, rest) = identifier(alloc, tokens)?;
     let (_assigns, rest) = word(rest, TokenKind::Assigns)?;
     let (value, rest) = expression(alloc, rest)?;
     let (_semicolon, rest) = word(rest, TokenKind::Semicolon)?;
-    Ok((Stmt::Assign { target, value }, rest))
+    let value = value.into_inner();
+    Ok((Boxed::new(alloc, Stmt::Assign { target, value })?, rest))
 }
 
-impl<F: Fn(Global, Tokens<'_>, u16) -> Result<(Stmt, Tokens<'_>), Stop>> Bodies<F> {
-    fn one<'a>(&self, tokens: Tokens<'a>) -> Read<'a, Stmt>
+impl<F: Fn(Global, Tokens<'_>, u16) -> Result<(Boxed<Stmt>, Tokens<'_>), Stop>> Bodies<F> {
+    fn one<'a>(&self, tokens: Tokens<'a>) -> Read<'a, Boxed<Stmt>>
         requires { ReadsStatement self.now.depth (F.pre self.now.statement) (F.post self.now.statement) }
         ensures { Gives (λ x. (view_stmt x.0, x.1)) result (reading.statement_at self.now.depth tokens.entry) }
     {
@@ -60,7 +61,7 @@ impl<F: Fn(Global, Tokens<'_>, u16) -> Result<(Stmt, Tokens<'_>), Stop>> Bodies<
                 return Ok((found, rest));
             }
             let (item, left) = self.one(rest)?;
-            found.push(item)?;
+            found.push(item.into_inner())?;
             rest = left;
         }
         Ok((found, rest))
@@ -68,18 +69,19 @@ impl<F: Fn(Global, Tokens<'_>, u16) -> Result<(Stmt, Tokens<'_>), Stop>> Bodies<
 
     /// A condition, the word after it and its statements.
     #[tactic(auto, unfolding(crate::specs::Reading::guarded_at))]
-    fn guarded<'a>(&self, tokens: Tokens<'a>, closing: TokenKind) -> Read<'a, StBranch>
+    fn guarded<'a>(&self, tokens: Tokens<'a>, closing: TokenKind) -> Read<'a, Boxed<StBranch>>
         requires { ReadsStatement self.now.depth (F.pre self.now.statement) (F.post self.now.statement) }
         ensures { Gives (λ x. (view_branch x.0, x.1)) result (reading.guarded_at (reading.statements_at self.now.depth) closing tokens.entry) }
     {
         let (cond, rest) = expression(self.alloc, tokens)?;
         let (_closing, rest) = word(rest, closing)?;
         let (body, rest) = self.all(rest)?;
-        Ok((StBranch { cond, body }, rest))
+        let cond = cond.into_inner();
+        Ok((Boxed::new(self.alloc, StBranch { cond, body })?, rest))
     }
 
     #[tactic(auto, unfolding(crate::specs::Reading::elsif_at))]
-    fn elsif<'a>(&self, tokens: Tokens<'a>) -> Read<'a, StBranch>
+    fn elsif<'a>(&self, tokens: Tokens<'a>) -> Read<'a, Boxed<StBranch>>
         requires { ReadsStatement self.now.depth (F.pre self.now.statement) (F.post self.now.statement) }
         ensures { Gives (λ x. (view_branch x.0, x.1)) result (reading.elsif_at (reading.statements_at self.now.depth) tokens.entry) }
     {
@@ -103,7 +105,7 @@ impl<F: Fn(Global, Tokens<'_>, u16) -> Result<(Stmt, Tokens<'_>), Stop>> Bodies<
                 return Ok((found, rest));
             }
             let (item, left) = self.elsif(rest)?;
-            found.push(item)?;
+            found.push(item.into_inner())?;
             rest = left;
         }
         Ok((found, rest))
@@ -117,7 +119,7 @@ impl<F: Fn(Global, Tokens<'_>, u16) -> Result<(Stmt, Tokens<'_>), Stop>> Bodies<
     {
         let (first, rest) = self.guarded(tokens, TokenKind::Then)?;
         let mut found = Items::new(self.alloc);
-        found.push(first)?;
+        found.push(first.into_inner())?;
         self.elsifs(rest, found)
     }
 
@@ -136,7 +138,7 @@ impl<F: Fn(Global, Tokens<'_>, u16) -> Result<(Stmt, Tokens<'_>), Stop>> Bodies<
     }
 
     #[tactic(auto, unfolding(crate::specs::Reading::conditional_at))]
-    fn conditional<'a>(&self, tokens: Tokens<'a>) -> Read<'a, Stmt>
+    fn conditional<'a>(&self, tokens: Tokens<'a>) -> Read<'a, Boxed<Stmt>>
         requires { ReadsStatement self.now.depth (F.pre self.now.statement) (F.post self.now.statement) }
         ensures { Gives (λ x. (view_stmt x.0, x.1)) result (reading.conditional_at (reading.statements_at self.now.depth) tokens.entry) }
     {
@@ -145,22 +147,23 @@ impl<F: Fn(Global, Tokens<'_>, u16) -> Result<(Stmt, Tokens<'_>), Stop>> Bodies<
         let (other, rest) = self.otherwise(rest)?;
         let (_end, rest) = word(rest, TokenKind::EndIf)?;
         let (_semicolon, rest) = word(rest, TokenKind::Semicolon)?;
-        Ok((Stmt::If { branches, other }, rest))
+        Ok((Boxed::new(self.alloc, Stmt::If { branches, other })?, rest))
     }
 
     #[tactic(auto, unfolding(crate::specs::Reading::repetition_at))]
-    fn repetition<'a>(&self, tokens: Tokens<'a>) -> Read<'a, Stmt>
+    fn repetition<'a>(&self, tokens: Tokens<'a>) -> Read<'a, Boxed<Stmt>>
         requires { ReadsStatement self.now.depth (F.pre self.now.statement) (F.post self.now.statement) }
         ensures { Gives (λ x. (view_stmt x.0, x.1)) result (reading.repetition_at (reading.statements_at self.now.depth) tokens.entry) }
     {
         let (_while, rest) = word(tokens, TokenKind::While)?;
-        let (StBranch { cond, body }, rest) = self.guarded(rest, TokenKind::Do)?;
+        let (branch, rest) = self.guarded(rest, TokenKind::Do)?;
         let (_end, rest) = word(rest, TokenKind::EndWhile)?;
         let (_semicolon, rest) = word(rest, TokenKind::Semicolon)?;
-        Ok((Stmt::While { cond, body }, rest))
+        let StBranch { cond, body } = branch.into_inner();
+        Ok((Boxed::new(self.alloc, Stmt::While { cond, body })?, rest))
     }
 
-    fn step<'a>(&self, tokens: Tokens<'a>) -> Read<'a, Stmt>
+    fn step<'a>(&self, tokens: Tokens<'a>) -> Read<'a, Boxed<Stmt>>
         requires { ReadsStatement self.now.depth (F.pre self.now.statement) (F.post self.now.statement) }
         ensures { Gives (λ x. (view_stmt x.0, x.1)) result (reading.statement_from (reading.statements_at self.now.depth) tokens.entry) }
     {
@@ -176,7 +179,11 @@ impl<F: Fn(Global, Tokens<'_>, u16) -> Result<(Stmt, Tokens<'_>), Stop>> Bodies<
 
 /// A statement, in which so many may nest.
 #[tactic(auto, unfolding(crate::specs::Reading::statement_at))]
-fn statement(alloc: Global, tokens: Tokens<'_>, depth: u16) -> Result<(Stmt, Tokens<'_>), Stop>
+fn statement(
+    alloc: Global,
+    tokens: Tokens<'_>,
+    depth: u16,
+) -> Result<(Boxed<Stmt>, Tokens<'_>), Stop>
     ensures { Gives (λ x. (view_stmt x.0, x.1)) result (reading.statement_at depth tokens.entry) }
 {
     if depth == 0 {

@@ -112,15 +112,22 @@ pub fn starts(tokens: &Tokens<'_>, among: &[TokenKind]) -> bool
     }
 }
 
-/// A token of this kind.
+/// A token of one of these kinds.
 #[tactic(auto, unfolding(grammar::specs::Reader::one_at))]
-pub fn word(tokens: Tokens<'_>, kind: TokenKind) -> Read<'_, Token<'_>>
-    ensures { Gives (λ x. (x.0, x.1)) result (reader.one_at grammar.sort (reading.codes_of (kind ∷ [])) tokens.entry) }
+pub fn one_of<'a>(tokens: Tokens<'a>, among: &[TokenKind]) -> Read<'a, Token<'a>>
+    ensures { Gives (λ x. (x.0, x.1)) result (reader.one_at grammar.sort (reading.codes_of among.now) tokens.entry) }
 {
     let left = tokens.left();
     let Tokens { next, later, rest } = tokens;
     match next {
-        Some(token) if code(token.kind()) == code(kind) => Ok((token, Tokens::of(rest, later))),
+        Some(token) if has(among, token.kind()) => Ok((token, Tokens::of(rest, later))),
         _ => Err(Stop::NotTaken(left)),
     }
+}
+
+/// A token of this kind.
+pub fn word(tokens: Tokens<'_>, kind: TokenKind) -> Read<'_, Token<'_>>
+    ensures { Gives (λ x. (x.0, x.1)) result (reader.one_at grammar.sort (reading.codes_of (kind ∷ [])) tokens.entry) }
+{
+    one_of(tokens, &[kind])
 }
