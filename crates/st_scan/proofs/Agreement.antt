@@ -1,16 +1,22 @@
 -- What statements do with their names resolved is what they do by name.
-use Rattle.std.proofs.Common.{◌≡◌, ℕ, zero, suc, ℤ, Bool, true, false, List, refl, ap, ◌∙◌, not}
+use Rattle.std.proofs.Common.{◌≡◌, ℕ, zero, suc, ℤ, Bool, true, false, ◌&&◌, ◌||◌, List, refl, ap, ◌∙◌}
 use Rattle.std.specs.Prelude.{Result, Ok, Err, if◌then◌else◌}
+use Rattle.st_ast.specs.declared.tree.StMul.{StMul}
+use Rattle.st_ast.specs.declared.tree.StMul.TheVariants as mul
+use Rattle.st_ast.specs.declared.tree.StOrder.{StOrder}
+use Rattle.st_ast.specs.declared.tree.StOrder.TheVariants as cmp
 use Rattle.st_ast.specs.declared.tree.StVar.{StVar}
-use Rattle.st_ast.specs.Tree.{Expr, Exprs, Terms, truth, number, named, paren, negation, sum, order, equal, all_of, any_of, no_exprs, exprs, no_terms, terms, Stm, Stms, Branches, Other, assign, choice, loop, no_stms, stms, no_branches, branches, no_other, other}
-use Rattle.st_ast.specs.Values.{Fault, Memory, of_bool, is_true, checked, with_value, both, holds, added, are_equal, value_of, sum_on, joined}
+use Rattle.st_ast.specs.Tree.{Expr, Exprs, Factors, Terms, truth, number, named, paren, negation, complement, product, sum, order, equal, all_of, odd_of, any_of, absolute, least, greatest, selection, no_exprs, exprs, no_factors, factors, no_terms, terms, Stm, Stms, Branches, Other, assign, choice, loop, no_stms, stms, no_branches, branches, no_other, other}
+use Rattle.st_ast.specs.Values.{Fault, Memory, of_bool, is_true, checked, with_value, both, holds, added, are_equal, multiplied, differ, value_of, product_on, sum_on, joined}
 use Rattle.st_ast.specs.Exec.{Outcome, Ended, Faulted, OutOfTurns, Act, and_then, take_turn, repeated, exec, exec_one, exec_other, exec_choice}
 use Rattle.st_ast.specs.Scan.{store_row, turns_of_scan, scan_of}
 use Rattle.st_ast.specs.View.{view_stmts, view}
 use Rattle.st_ast.specs.declared.tree.Program.{Program}
-use Rattle.st_scan.specs.Placing.{placed, placed_exprs, placed_terms, placed_stm, placed_stms, placed_branches, placed_other}
+use Rattle.st_scan.specs.declared.placed.Operator.{Operator}
+use Rattle.st_scan.specs.declared.placed.Operator.TheVariants as op
+use Rattle.st_scan.specs.Placing.{of_factor, of_term, of_order, of_equality, placed, placed_exprs, placed_factors, placed_terms, placed_stm, placed_stms, placed_branches, placed_other}
 use Rattle.st_scan.specs.PlacedTree as to
-use Rattle.st_scan.specs.PlacedValues.{value_at, sum_at, joined_at}
+use Rattle.st_scan.specs.PlacedValues.{value_at, steps_at, applied}
 use Rattle.st_scan.specs.PlacedExec.{exec_at, exec_one_at, exec_other_at, exec_choice_at}
 
 after : {X : Type 0} (r : Result ℤ Fault) (fails : Fault → X) (f g : ℤ → X) → ((v : ℤ) → f v ≡ g v) → with_value r fails f ≡ with_value r fails g
@@ -32,32 +38,89 @@ then-same OutOfTurns f g same = refl
 and_then-same : (o p : Outcome) (f g : Act) → o ≡ p → ((n : ℕ) (m : Memory) → f n m ≡ g n m) → and_then o f ≡ and_then p g
 and_then-same o p f g e same = ap (λ q. and_then q f) e ∙ then-same p f g same
 
+-- to hand a value on changes nothing
+handed_on : (r : Result ℤ Fault) → with_value r (λ e. Err e) (λ x. Ok x) ≡ r
+handed_on (Ok v) = refl
+handed_on (Err e) = refl
+
+factor-same : (f : StMul) (x y : ℤ) → applied (of_factor f) x y ≡ multiplied f x y
+factor-same mul.Times x y = refl
+factor-same mul.Div x y = refl
+factor-same mul.Mod x y = refl
+
+term-same : (minus : Bool) (x y : ℤ) → applied (of_term minus) x y ≡ checked (added minus x y)
+term-same false x y = refl
+term-same true x y = refl
+
+order-same : (f : StOrder) (x y : ℤ) → applied (of_order f) x y ≡ Ok (of_bool (holds f x y))
+order-same cmp.Lt x y = refl
+order-same cmp.Gt x y = refl
+order-same cmp.Le x y = refl
+order-same cmp.Ge x y = refl
+
+equality-same : (same : Bool) (x y : ℤ) → applied (of_equality same) x y ≡ Ok (of_bool (are_equal same x y))
+equality-same true x y = refl
+equality-same false x y = refl
+
+and-same : (b : Bool) (x : ℤ) → applied op.And (of_bool b) x ≡ Ok (of_bool (b && is_true x))
+and-same true x = refl
+and-same false x = refl
+
+xor-same : (b : Bool) (x : ℤ) → applied op.Xor (of_bool b) x ≡ Ok (of_bool (differ b (is_true x)))
+xor-same true x = refl
+xor-same false x = refl
+
+or-same : (b : Bool) (x : ℤ) → applied op.Or (of_bool b) x ≡ Ok (of_bool (b || is_true x))
+or-same true x = refl
+or-same false x = refl
+
+both-same : (f g : ℤ → ℤ → Result ℤ Fault) (q r s t : Result ℤ Fault) → q ≡ s → r ≡ t → ((x y : ℤ) → f x y ≡ g x y) → both f q r ≡ both g s t
+both-same f g q r s t p h same = with_value-same q s (λ e. Err e) _ _ p (λ x. with_value-same r t (λ e. Err e) _ _ h (λ y. same x y))
+
+-- a chain of two operands
+pair-same : (f : Operator) (g : ℤ → ℤ → Result ℤ Fault) (q r s t : Result ℤ Fault) → q ≡ s → r ≡ t → ((x y : ℤ) → applied f x y ≡ g x y)
+    → both (λ x y. with_value (applied f x y) (λ e. Err e) (λ z. Ok z)) q r ≡ both g s t
+pair-same f g q r s t p h same = both-same _ g q r s t p h (λ x y. handed_on (applied f x y) ∙ same x y)
+
 mutual
   pub value-same : (vars : List StVar) (e : Expr) (m : Memory) → value_at (placed vars e) m ≡ value_of vars e m
   value-same vars (truth b) m = refl
   value-same vars (number z) m = refl
   value-same vars (named x) m = refl
   value-same vars (paren e) m = value-same vars e m
-  value-same vars (negation e) m = ap (λ r. with_value r (λ f. Err f) (λ x. Ok (of_bool (not (is_true x))))) (value-same vars e m)
-  value-same vars (sum e rest) m = with_value-same _ _ (λ f. Err f) _ _ (value-same vars e m) (λ x. sum-same vars x rest m)
-  value-same vars (order a op b) m =
-      ap (λ r. both (λ x y. Ok (of_bool (holds op x y))) r (value_at (placed vars b) m)) (value-same vars a m)
-      ∙ ap (λ r. both (λ x y. Ok (of_bool (holds op x y))) (value_of vars a m) r) (value-same vars b m)
-  value-same vars (equal a same b) m =
-      ap (λ r. both (λ x y. Ok (of_bool (are_equal same x y))) r (value_at (placed vars b) m)) (value-same vars a m)
-      ∙ ap (λ r. both (λ x y. Ok (of_bool (are_equal same x y))) (value_of vars a m) r) (value-same vars b m)
-  value-same vars (all_of es) m = joined-same vars _ true es m
-  value-same vars (any_of es) m = joined-same vars _ false es m
+  value-same vars (negation e) m = with_value-same _ _ (λ e. Err e) _ _ (value-same vars e m) (λ x. refl)
+  value-same vars (complement e) m = with_value-same _ _ (λ e. Err e) _ _ (value-same vars e m) (λ x. refl)
+  value-same vars (product e rest) m = with_value-same _ _ (λ e. Err e) _ _ (value-same vars e m) (λ x. product-same vars x rest m)
+  value-same vars (sum e rest) m = with_value-same _ _ (λ e. Err e) _ _ (value-same vars e m) (λ x. sum-same vars x rest m)
+  value-same vars (order a f b) m = pair-same (of_order f) _ _ _ _ _ (value-same vars a m) (value-same vars b m) (order-same f)
+  value-same vars (equal a same b) m = pair-same (of_equality same) _ _ _ _ _ (value-same vars a m) (value-same vars b m) (equality-same same)
+  value-same vars (all_of es) m = joined-same vars op.And _ and-same true es m
+  value-same vars (odd_of es) m = joined-same vars op.Xor _ xor-same false es m
+  value-same vars (any_of es) m = joined-same vars op.Or _ or-same false es m
+  value-same vars (absolute e) m = with_value-same _ _ (λ e. Err e) _ _ (value-same vars e m) (λ x. refl)
+  value-same vars (least a b) m = pair-same op.Smaller _ _ _ _ _ (value-same vars a m) (value-same vars b m) (λ x y. refl)
+  value-same vars (greatest a b) m = pair-same op.Larger _ _ _ _ _ (value-same vars a m) (value-same vars b m) (λ x y. refl)
+  value-same vars (selection g a b) m =
+      with_value-same _ _ (λ e. Err e) _ _ (value-same vars g m) (λ z. both-same _ _ _ _ _ _ (value-same vars a m) (value-same vars b m) (λ x y. refl))
 
-  sum-same : (vars : List StVar) (z : ℤ) (ts : Terms) (m : Memory) → sum_at z (placed_terms vars ts) m ≡ sum_on vars z ts m
+  product-same : (vars : List StVar) (z : ℤ) (fs : Factors) (m : Memory) → steps_at z (placed_factors vars fs) m ≡ product_on vars z fs m
+  product-same vars z no_factors m = refl
+  product-same vars z (factors f e fs) m =
+      with_value-same _ _ (λ e. Err e) _ _ (value-same vars e m)
+      (λ x. with_value-same _ _ (λ e. Err e) _ _ (factor-same f z x) (λ y. product-same vars y fs m))
+
+  sum-same : (vars : List StVar) (z : ℤ) (ts : Terms) (m : Memory) → steps_at z (placed_terms vars ts) m ≡ sum_on vars z ts m
   sum-same vars z no_terms m = refl
   sum-same vars z (terms minus e ts) m =
-      with_value-same _ _ (λ f. Err f) _ _ (value-same vars e m)
-      (λ x. after (checked (added minus z x)) (λ f. Err f) _ _ (λ y. sum-same vars y ts m))
+      with_value-same _ _ (λ e. Err e) _ _ (value-same vars e m)
+      (λ x. with_value-same _ _ (λ e. Err e) _ _ (term-same minus z x) (λ y. sum-same vars y ts m))
 
-  joined-same : (vars : List StVar) (op : Bool → Bool → Bool) (so_far : Bool) (es : Exprs) (m : Memory) → joined_at op so_far (placed_exprs vars es) m ≡ joined vars op so_far es m
-  joined-same vars op so_far no_exprs m = refl
-  joined-same vars op so_far (exprs e es) m = with_value-same _ _ (λ f. Err f) _ _ (value-same vars e m) (λ x. joined-same vars op (op so_far (is_true x)) es m)
+  joined-same : (vars : List StVar) (f : Operator) (g : Bool → Bool → Bool) → ((b : Bool) (x : ℤ) → applied f (of_bool b) x ≡ Ok (of_bool (g b (is_true x))))
+      → (so_far : Bool) (es : Exprs) (m : Memory) → steps_at (of_bool so_far) (placed_exprs vars f es) m ≡ joined vars g so_far es m
+  joined-same vars f g same so_far no_exprs m = refl
+  joined-same vars f g same so_far (exprs e es) m =
+      with_value-same _ _ (λ e. Err e) _ _ (value-same vars e m)
+      (λ x. ap (λ r. with_value r (λ e. Err e) (λ y. steps_at y (placed_exprs vars f es) m)) (same so_far x) ∙ joined-same vars f g same (g so_far (is_true x)) es m)
 
 take_turn-same : (a b c d : Act) → ((n : ℕ) (m : Memory) → a n m ≡ b n m) → ((n : ℕ) (m : Memory) → c n m ≡ d n m) → (n : ℕ) (m : Memory) → take_turn a c n m ≡ take_turn b d n m
 take_turn-same a b c d p q zero m = refl

@@ -1,21 +1,26 @@
 -- A list of resolved expressions or statements, one after another, is the resolved list.
-use Rattle.std.proofs.Common.{◌≡◌, ℕ, ◌≤◌, Bool, List, [], ◌∷◌, ◌++◌, map, length, drop, append-nil, refl, ap, sym, ◌∙◌}
+use Rattle.std.proofs.Common.{◌≡◌, ℕ, ◌≤◌, List, [], ◌∷◌, ◌++◌, map, length, drop, append-nil, refl, ap, sym, ◌∙◌}
 use Rattle.std.proofs.lemmas.List.{drop_all}
 use Rattle.st_ast.specs.declared.tree.StVar.{StVar}
 use Rattle.st_ast.specs.declared.tree.StExpr.{StExpr}
+use Rattle.st_ast.specs.declared.tree.StFactor.{StFactor}
 use Rattle.st_ast.specs.declared.tree.StTerm.{StTerm}
 use Rattle.st_ast.specs.declared.tree.Stmt.{Stmt}
 use Rattle.st_ast.specs.declared.tree.StBranch.{StBranch}
-use Rattle.st_ast.specs.View.{view_expr, view_exprs, view_term, view_terms, view_stmt, view_stmts, view_branch, view_branches}
+use Rattle.st_ast.specs.View.{view_expr, view_exprs, view_factor, view_factors, view_term, view_terms, view_stmt, view_stmts, view_branch, view_branches}
 use Rattle.st_scan.specs.PlacedTree as to
-use Rattle.st_scan.specs.PlacedView.{terms_of, branches_of}
-use Rattle.st_scan.specs.Placing.{placed, placed_exprs, placed_terms, placed_stm, placed_stms, placed_branches}
+use Rattle.st_scan.specs.PlacedView.{branches_of}
+use Rattle.st_scan.specs.declared.placed.Operator.{Operator}
+use Rattle.st_scan.specs.Placing.{of_factor, of_term, placed, placed_exprs, placed_factors, placed_terms, placed_stm, placed_stms, placed_branches}
 
-abbrev pub expr_placed : List StVar → StExpr → to.Expr
-expr_placed vars e = placed vars (view_expr e)
+abbrev pub operand_placed : List StVar → Operator → StExpr → Operator × to.Expr
+operand_placed vars op e = (op, placed vars (view_expr e))
 
-abbrev pub term_placed : List StVar → StTerm → Bool × to.Expr
-term_placed vars t = ((view_term t).0, placed vars (view_term t).1)
+abbrev pub factor_placed : List StVar → StFactor → Operator × to.Expr
+factor_placed vars f = (of_factor (view_factor f).0, placed vars (view_factor f).1)
+
+abbrev pub term_placed : List StVar → StTerm → Operator × to.Expr
+term_placed vars t = (of_term (view_term t).0, placed vars (view_term t).1)
 
 abbrev pub stmt_placed : List StVar → Stmt → to.Stm
 stmt_placed vars s = placed_stm vars (view_stmt s)
@@ -28,19 +33,26 @@ pub finished : {A B C : Type 0} (f : A → B) (g : C → B) (found : List A) (al
 finished f g found all i h is =
     sym (append-nil (map f found)) ∙ sym (ap (λ r. map f found ++ map g r) (drop_all i all h)) ∙ is
 
-each-expr : (vars : List StVar) (es : List StExpr) → to.exprs_of (map (expr_placed vars) es) ≡ placed_exprs vars (view_exprs es)
-each-expr vars [] = refl
-each-expr vars (e ∷ es) = ap (to.exprs (expr_placed vars e)) (each-expr vars es)
+each-operand : (vars : List StVar) (op : Operator) (es : List StExpr) → to.steps_of (map (operand_placed vars op) es) ≡ placed_exprs vars op (view_exprs es)
+each-operand vars op [] = refl
+each-operand vars op (e ∷ es) = ap (to.steps op (placed vars (view_expr e))) (each-operand vars op es)
 
-pub exprs-placed : (vars : List StVar) (es : List StExpr) (found : List to.Expr) → found ≡ map (expr_placed vars) es → to.exprs_of found ≡ placed_exprs vars (view_exprs es)
-exprs-placed vars es found is = ap to.exprs_of is ∙ each-expr vars es
+pub operands-placed : (vars : List StVar) (op : Operator) (es : List StExpr) (found : List (Operator × to.Expr)) → found ≡ map (operand_placed vars op) es → to.steps_of found ≡ placed_exprs vars op (view_exprs es)
+operands-placed vars op es found is = ap to.steps_of is ∙ each-operand vars op es
 
-each-term : (vars : List StVar) (ts : List StTerm) → terms_of (map (term_placed vars) ts) ≡ placed_terms vars (view_terms ts)
+each-factor : (vars : List StVar) (fs : List StFactor) → to.steps_of (map (factor_placed vars) fs) ≡ placed_factors vars (view_factors fs)
+each-factor vars [] = refl
+each-factor vars (f ∷ fs) = ap (to.steps (of_factor (view_factor f).0) (placed vars (view_factor f).1)) (each-factor vars fs)
+
+pub factors-placed : (vars : List StVar) (fs : List StFactor) (found : List (Operator × to.Expr)) → found ≡ map (factor_placed vars) fs → to.steps_of found ≡ placed_factors vars (view_factors fs)
+factors-placed vars fs found is = ap to.steps_of is ∙ each-factor vars fs
+
+each-term : (vars : List StVar) (ts : List StTerm) → to.steps_of (map (term_placed vars) ts) ≡ placed_terms vars (view_terms ts)
 each-term vars [] = refl
-each-term vars (t ∷ ts) = ap (to.terms (view_term t).0 (placed vars (view_term t).1)) (each-term vars ts)
+each-term vars (t ∷ ts) = ap (to.steps (of_term (view_term t).0) (placed vars (view_term t).1)) (each-term vars ts)
 
-pub terms-placed : (vars : List StVar) (ts : List StTerm) (found : List (Bool × to.Expr)) → found ≡ map (term_placed vars) ts → terms_of found ≡ placed_terms vars (view_terms ts)
-terms-placed vars ts found is = ap terms_of is ∙ each-term vars ts
+pub terms-placed : (vars : List StVar) (ts : List StTerm) (found : List (Operator × to.Expr)) → found ≡ map (term_placed vars) ts → to.steps_of found ≡ placed_terms vars (view_terms ts)
+terms-placed vars ts found is = ap to.steps_of is ∙ each-term vars ts
 
 each-stmt : (vars : List StVar) (ss : List Stmt) → to.stms_of (map (stmt_placed vars) ss) ≡ placed_stms vars (view_stmts ss)
 each-stmt vars [] = refl

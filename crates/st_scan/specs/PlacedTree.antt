@@ -1,28 +1,22 @@
 -- Helper of the code: statements whose names are resolved, as plain data. `PlacedView` ties it to the types of `src/`.
-use Rattle.std.specs.Prelude.{ℕ, ℤ, Bool, List, [], ◌∷◌}
-use Rattle.st_ast.specs.declared.tree.StOrder.{StOrder}
+use Rattle.std.specs.Prelude.{ℕ, ℤ, List, [], ◌∷◌}
 use Rattle.st_ast.specs.declared.tree.StTy.{StTy}
+use Rattle.st_scan.specs.declared.placed.Operator.{Operator}
+use Rattle.st_scan.specs.declared.placed.Single.{Single}
 
 mutual
   pub data Expr : Type 0 where
-    truth : Bool → Expr
     number : ℤ → Expr
     placed : ℕ → Expr
-    negation : Expr → Expr
-    sum : Expr → Terms → Expr
-    order : Expr → StOrder → Expr → Expr
-    equal : Expr → Bool → Expr → Expr
-    all_of : Exprs → Expr
-    any_of : Exprs → Expr
+    single : Single → Expr → Expr
+    -- operations one after the other, from left to right
+    chain : Expr → Steps → Expr
+    -- a condition, the value where it is FALSE, and the one where it is TRUE
+    selected : Expr → Expr → Expr → Expr
 
-  pub data Exprs : Type 0 where
-    no_exprs : Exprs
-    exprs : Expr → Exprs → Exprs
-
-  -- true: subtracted
-  pub data Terms : Type 0 where
-    no_terms : Terms
-    terms : Bool → Expr → Terms → Terms
+  pub data Steps : Type 0 where
+    no_steps : Steps
+    steps : Operator → Expr → Steps → Steps
 
 mutual
   -- an assignment has the place and the type of its variable
@@ -44,9 +38,9 @@ mutual
     no_other : Other
     other : Stms → Other
 
-abbrev pub exprs_of : List Expr → Exprs
-exprs_of [] = no_exprs
-exprs_of (e ∷ es) = exprs e (exprs_of es)
+abbrev pub steps_of : List (Operator × Expr) → Steps
+steps_of [] = no_steps
+steps_of (s ∷ ss) = steps s.0 s.1 (steps_of ss)
 
 abbrev pub stms_of : List Stm → Stms
 stms_of [] = no_stms

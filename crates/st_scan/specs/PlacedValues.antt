@@ -1,28 +1,49 @@
--- Helper of the code: the values of expressions whose names are resolved, as those of `st_ast`. A place beyond the memory
--- has the value 0.
-use Rattle.std.specs.Prelude.{ℤ, pos, Bool, true, false, not, ◌&&◌, ◌||◌, Result, Ok, Err, slice_index_or}
-use Rattle.st_ast.specs.Values.{Fault, Memory, of_bool, is_true, checked, with_value, both, holds, added, are_equal}
-use Rattle.st_scan.specs.PlacedTree.{Expr, Exprs, Terms, truth, number, placed, negation, sum, order, equal, all_of, any_of, no_exprs, exprs, no_terms, terms}
+-- Helper of the code: the values of expressions whose names are resolved, by the words of `st_ast`. A place beyond the
+-- memory has the value 0.
+use Rattle.std.specs.Prelude.{ℤ, pos, neg_ℤ, nat_abs, true, false, not, ◌&&◌, ◌||◌, Result, Ok, Err, slice_index_or, if◌then◌else◌}
+use Rattle.st_ast.specs.Values.{Fault, Memory, of_bool, is_true, checked, with_value, both, holds, added, are_equal, multiplied, smaller, larger, differ}
+use Rattle.st_ast.specs.declared.tree.StMul.TheVariants as mul
+use Rattle.st_ast.specs.declared.tree.StOrder.TheVariants as cmp
+use Rattle.st_scan.specs.PlacedTree.{Expr, Steps, number, placed, single, chain, selected, no_steps, steps}
+use Rattle.st_scan.specs.declared.placed.Operator.{Operator}
+use Rattle.st_scan.specs.declared.placed.Operator.TheVariants as op
+use Rattle.st_scan.specs.declared.placed.Single.{Single}
+use Rattle.st_scan.specs.declared.placed.Single.TheVariants as one
+
+abbrev pub applied_to : Single → ℤ → Result ℤ Fault
+applied_to one.Minus x = checked (neg_ℤ x)
+applied_to one.Not x = Ok (of_bool (not (is_true x)))
+applied_to one.Absolute x = checked (pos (nat_abs x))
+
+abbrev pub applied : Operator → ℤ → ℤ → Result ℤ Fault
+applied op.Add x y = checked (added false x y)
+applied op.Subtract x y = checked (added true x y)
+applied op.Multiply x y = multiplied mul.Times x y
+applied op.Divide x y = multiplied mul.Div x y
+applied op.Remainder x y = multiplied mul.Mod x y
+applied op.Less x y = Ok (of_bool (holds cmp.Lt x y))
+applied op.Greater x y = Ok (of_bool (holds cmp.Gt x y))
+applied op.AtMost x y = Ok (of_bool (holds cmp.Le x y))
+applied op.AtLeast x y = Ok (of_bool (holds cmp.Ge x y))
+applied op.Equal x y = Ok (of_bool (are_equal true x y))
+applied op.Differ x y = Ok (of_bool (are_equal false x y))
+applied op.And x y = Ok (of_bool (is_true x && is_true y))
+applied op.Xor x y = Ok (of_bool (differ (is_true x) (is_true y)))
+applied op.Or x y = Ok (of_bool (is_true x || is_true y))
+applied op.Smaller x y = Ok (smaller x y)
+applied op.Larger x y = Ok (larger x y)
 
 abbrev mutual
   pub value_at : Expr → Memory → Result ℤ Fault
-  value_at (truth b) m = Ok (of_bool b)
   value_at (number z) m = Ok z
   value_at (placed k) m = Ok (slice_index_or m k (pos 0))
-  value_at (negation e) m = with_value (value_at e m) (λ f. Err f) (λ x. Ok (of_bool (not (is_true x))))
-  value_at (sum e rest) m = with_value (value_at e m) (λ f. Err f) (λ x. sum_at x rest m)
-  value_at (order a op b) m = both (λ x y. Ok (of_bool (holds op x y))) (value_at a m) (value_at b m)
-  value_at (equal a same b) m = both (λ x y. Ok (of_bool (are_equal same x y))) (value_at a m) (value_at b m)
-  value_at (all_of es) m = joined_at (λ a b. a && b) true es m
-  value_at (any_of es) m = joined_at (λ a b. a || b) false es m
+  value_at (single f e) m = with_value (value_at e m) (λ e. Err e) (λ x. applied_to f x)
+  value_at (chain e rest) m = with_value (value_at e m) (λ e. Err e) (λ x. steps_at x rest m)
+  value_at (selected c a b) m = with_value (value_at c m) (λ e. Err e)
+      (λ z. both (λ x y. Ok (if is_true z then y else x)) (value_at a m) (value_at b m))
 
-  -- the sum so far and what is added to it
-  pub sum_at : ℤ → Terms → Memory → Result ℤ Fault
-  sum_at z no_terms m = Ok z
-  sum_at z (terms minus e ts) m =
-      with_value (value_at e m) (λ f. Err f) (λ x. with_value (checked (added minus z x)) (λ f. Err f) (λ y. sum_at y ts m))
-
-  -- what the operands so far come to, and the others
-  pub joined_at : (Bool → Bool → Bool) → Bool → Exprs → Memory → Result ℤ Fault
-  joined_at op so_far no_exprs m = Ok (of_bool so_far)
-  joined_at op so_far (exprs e es) m = with_value (value_at e m) (λ f. Err f) (λ x. joined_at op (op so_far (is_true x)) es m)
+  -- what the chain comes to so far, and its further steps
+  pub steps_at : ℤ → Steps → Memory → Result ℤ Fault
+  steps_at z no_steps m = Ok z
+  steps_at z (steps f e ss) m =
+      with_value (value_at e m) (λ e. Err e) (λ x. with_value (applied f z x) (λ e. Err e) (λ y. steps_at y ss m))

@@ -1,47 +1,37 @@
 -- Helper of the code: what tree of plain data a value of the types of `src/placed.rt` stands for. Each step sees one
 -- level, with its parts seen.
-use Rattle.std.specs.Prelude.{Bool, List, [], ◌∷◌, map, Option, Some, None}
-use Rattle.st_scan.specs.PlacedTree.{Expr, Exprs, Terms, truth, number, placed, negation, sum, order, equal, all_of, any_of, exprs_of, no_terms, terms, Stm, Stms, Branches, Other, assign, choice, loop, stms_of, no_branches, branches, no_other, other}
+use Rattle.std.specs.Prelude.{List, [], ◌∷◌, map, Option, Some, None}
+use Rattle.st_scan.specs.PlacedTree.{Expr, Steps, number, placed, single, chain, selected, steps_of, Stm, Stms, Branches, Other, assign, choice, loop, stms_of, no_branches, branches, no_other, other}
+use Rattle.st_scan.specs.declared.placed.Operator.{Operator}
 use Rattle.st_scan.specs.declared.placed.PlacedExpr.{PlacedExpr}
-use Rattle.st_scan.specs.declared.placed.PlacedExpr.TheOpen.{PlacedExpr-F, PlacedTerm-F}
+use Rattle.st_scan.specs.declared.placed.PlacedExpr.TheOpen.{PlacedExpr-F, PlacedStep-F}
 use Rattle.st_scan.specs.declared.placed.PlacedExpr.TheOpen as E
-use Rattle.st_scan.specs.declared.placed.PlacedExpr.TheFolds.{fold-PlacedExpr, fold-PlacedTerm}
-use Rattle.st_scan.specs.declared.placed.PlacedTerm.{PlacedTerm}
+use Rattle.st_scan.specs.declared.placed.PlacedExpr.TheFolds.{fold-PlacedExpr, fold-PlacedStep}
+use Rattle.st_scan.specs.declared.placed.PlacedStep.{PlacedStep}
 use Rattle.st_scan.specs.declared.placed.PlacedStmt.{PlacedStmt}
 use Rattle.st_scan.specs.declared.placed.PlacedStmt.TheOpen.{PlacedStmt-F, PlacedBranch-F}
 use Rattle.st_scan.specs.declared.placed.PlacedStmt.TheOpen as S
 use Rattle.st_scan.specs.declared.placed.PlacedStmt.TheFolds.{fold-PlacedStmt, fold-PlacedBranch}
 use Rattle.st_scan.specs.declared.placed.PlacedBranch.{PlacedBranch}
 
-abbrev pub terms_of : List (Bool × Expr) → Terms
-terms_of [] = no_terms
-terms_of (t ∷ ts) = terms t.0 t.1 (terms_of ts)
-
-abbrev pub expr_step : PlacedExpr-F Expr (Bool × Expr) → Expr
-expr_step (E.Bool b) = truth b
-expr_step (E.Int z) = number z
+abbrev pub expr_step : PlacedExpr-F Expr (Operator × Expr) → Expr
+expr_step (E.Number z) = number z
 expr_step (E.Place k) = placed k
-expr_step (E.Not e) = negation e
-expr_step (E.Sum e rest) = sum e (terms_of rest)
-expr_step (E.Order a op b) = order a op b
-expr_step (E.Equal a same b) = equal a same b
-expr_step (E.And es) = all_of (exprs_of es)
-expr_step (E.Or es) = any_of (exprs_of es)
+expr_step (E.Single op e) = single op e
+expr_step (E.Chain e rest) = chain e (steps_of rest)
+expr_step (E.Select c a b) = selected c a b
 
-abbrev pub term_step : PlacedTerm-F Expr (Bool × Expr) → Bool × Expr
-term_step t = (t.minus, t.value)
+abbrev pub step_step : PlacedStep-F Expr (Operator × Expr) → Operator × Expr
+step_step s = (s.op, s.value)
 
 abbrev pub expr_view : PlacedExpr → Expr
-expr_view = fold-PlacedExpr _ _ expr_step term_step
+expr_view = fold-PlacedExpr _ _ expr_step step_step
 
-abbrev pub term_view : PlacedTerm → Bool × Expr
-term_view = fold-PlacedTerm _ _ expr_step term_step
+abbrev pub step_view : PlacedStep → Operator × Expr
+step_view = fold-PlacedStep _ _ expr_step step_step
 
-abbrev pub terms_view : List PlacedTerm → Terms
-terms_view ts = terms_of (map term_view ts)
-
-abbrev pub exprs_view : List PlacedExpr → Exprs
-exprs_view es = exprs_of (map expr_view es)
+abbrev pub steps_view : List PlacedStep → Steps
+steps_view ss = steps_of (map step_view ss)
 
 abbrev pub branches_of : List (Expr × Stms) → Branches
 branches_of [] = no_branches

@@ -1,32 +1,75 @@
 -- Helper of the code: the expressions and statements of a program with its names resolved. Where no variable has a name,
--- its place is the number of the variables. Parentheses mean what they hold.
-use Rattle.std.specs.Prelude.{List}
+-- its place is the number of the variables. Parentheses mean what they hold, and operands of one level are a chain.
+use Rattle.std.specs.Prelude.{pos, Bool, true, false, List}
 use Rattle.st_ast.specs.Names.{place_of}
-use Rattle.st_ast.specs.Tree.{Expr, Exprs, Terms, truth, number, named, paren, negation, sum, order, equal, all_of, any_of, no_exprs, exprs, no_terms, terms, Stm, Stms, Branches, Other, assign, choice, loop, no_stms, stms, no_branches, branches, no_other, other}
+use Rattle.st_ast.specs.Tree.{Expr, Exprs, Factors, Terms, truth, number, named, paren, negation, complement, product, sum, order, equal, all_of, odd_of, any_of, absolute, least, greatest, selection, no_exprs, exprs, no_factors, factors, no_terms, terms, Stm, Stms, Branches, Other, assign, choice, loop, no_stms, stms, no_branches, branches, no_other, other}
+use Rattle.st_ast.specs.Values.{of_bool}
 use Rattle.st_ast.specs.Exec.{type_at}
+use Rattle.st_ast.specs.declared.tree.StMul.{StMul}
+use Rattle.st_ast.specs.declared.tree.StMul.TheVariants as mul
+use Rattle.st_ast.specs.declared.tree.StOrder.{StOrder}
+use Rattle.st_ast.specs.declared.tree.StOrder.TheVariants as cmp
 use Rattle.st_ast.specs.declared.tree.StVar.{StVar}
 use Rattle.st_scan.specs.PlacedTree as to
+use Rattle.st_scan.specs.declared.placed.Operator.{Operator}
+use Rattle.st_scan.specs.declared.placed.Operator.TheVariants as op
+use Rattle.st_scan.specs.declared.placed.Single.TheVariants as one
+
+abbrev pub of_factor : StMul → Operator
+of_factor mul.Times = op.Multiply
+of_factor mul.Div = op.Divide
+of_factor mul.Mod = op.Remainder
+
+abbrev pub of_term : Bool → Operator
+of_term false = op.Add
+of_term true = op.Subtract
+
+abbrev pub of_order : StOrder → Operator
+of_order cmp.Lt = op.Less
+of_order cmp.Gt = op.Greater
+of_order cmp.Le = op.AtMost
+of_order cmp.Ge = op.AtLeast
+
+abbrev pub of_equality : Bool → Operator
+of_equality true = op.Equal
+of_equality false = op.Differ
+
+-- a chain of two operands
+abbrev pub pair : to.Expr → Operator → to.Expr → to.Expr
+pair a f b = to.chain a (to.steps f b to.no_steps)
 
 abbrev mutual
   pub placed : List StVar → Expr → to.Expr
-  placed vars (truth b) = to.truth b
+  placed vars (truth b) = to.number (of_bool b)
   placed vars (number z) = to.number z
   placed vars (named x) = to.placed (place_of vars x)
   placed vars (paren e) = placed vars e
-  placed vars (negation e) = to.negation (placed vars e)
-  placed vars (sum e rest) = to.sum (placed vars e) (placed_terms vars rest)
-  placed vars (order a op b) = to.order (placed vars a) op (placed vars b)
-  placed vars (equal a same b) = to.equal (placed vars a) same (placed vars b)
-  placed vars (all_of es) = to.all_of (placed_exprs vars es)
-  placed vars (any_of es) = to.any_of (placed_exprs vars es)
+  placed vars (negation e) = to.single one.Minus (placed vars e)
+  placed vars (complement e) = to.single one.Not (placed vars e)
+  placed vars (product e rest) = to.chain (placed vars e) (placed_factors vars rest)
+  placed vars (sum e rest) = to.chain (placed vars e) (placed_terms vars rest)
+  placed vars (order a f b) = pair (placed vars a) (of_order f) (placed vars b)
+  placed vars (equal a same b) = pair (placed vars a) (of_equality same) (placed vars b)
+  placed vars (all_of es) = to.chain (to.number (pos 1)) (placed_exprs vars op.And es)
+  placed vars (odd_of es) = to.chain (to.number (pos 0)) (placed_exprs vars op.Xor es)
+  placed vars (any_of es) = to.chain (to.number (pos 0)) (placed_exprs vars op.Or es)
+  placed vars (absolute e) = to.single one.Absolute (placed vars e)
+  placed vars (least a b) = pair (placed vars a) op.Smaller (placed vars b)
+  placed vars (greatest a b) = pair (placed vars a) op.Larger (placed vars b)
+  placed vars (selection g a b) = to.selected (placed vars g) (placed vars a) (placed vars b)
 
-  pub placed_exprs : List StVar → Exprs → to.Exprs
-  placed_exprs vars no_exprs = to.no_exprs
-  placed_exprs vars (exprs e es) = to.exprs (placed vars e) (placed_exprs vars es)
+  -- each operand with the same operator before it
+  pub placed_exprs : List StVar → Operator → Exprs → to.Steps
+  placed_exprs vars f no_exprs = to.no_steps
+  placed_exprs vars f (exprs e es) = to.steps f (placed vars e) (placed_exprs vars f es)
 
-  pub placed_terms : List StVar → Terms → to.Terms
-  placed_terms vars no_terms = to.no_terms
-  placed_terms vars (terms minus e ts) = to.terms minus (placed vars e) (placed_terms vars ts)
+  pub placed_factors : List StVar → Factors → to.Steps
+  placed_factors vars no_factors = to.no_steps
+  placed_factors vars (factors f e fs) = to.steps (of_factor f) (placed vars e) (placed_factors vars fs)
+
+  pub placed_terms : List StVar → Terms → to.Steps
+  placed_terms vars no_terms = to.no_steps
+  placed_terms vars (terms minus e ts) = to.steps (of_term minus) (placed vars e) (placed_terms vars ts)
 
 abbrev mutual
   pub placed_stm : List StVar → Stm → to.Stm

@@ -1,6 +1,6 @@
 //! Why a scan ends early.
 
-use crate::values::Overflow;
+use crate::values::ValueFault;
 
 /// What ended a scan before its last statement: a result outside 64 bits, a divisor 0, a value outside the subrange of the
 /// variable with that number, or a loop that wants one turn more than a scan has.
@@ -12,14 +12,18 @@ pub enum ScanErr {
     Budget,
 }
 
-impl From<Overflow> for ScanErr {
+impl From<ValueFault> for ScanErr {
     ghost use Rattle.std.specs.Prelude.{◌≡◌};
-    ghost use Rattle.st_scan.specs.declared.error.ScanErr.{ScanErr};
-    ghost use Rattle.st_scan.specs.declared.error.ScanErr.TheVariants.{Overflow};
+    ghost use Rattle.st_ast.specs.Exec.{Faulted};
+    ghost use Rattle.st_scan.specs.Endings.{stopped};
+    ghost use Rattle.st_scan.specs.Told.{fault_of};
 
-    ghost from_gives = { λ e s. s ≡ Overflow };
+    ghost from_gives = { λ e s. stopped s ≡ Faulted (fault_of e) };
 
-    fn from(_overflow: Overflow) -> ScanErr {
-        ScanErr::Overflow
+    fn from(fault: ValueFault) -> ScanErr {
+        match fault {
+            ValueFault::Overflow => ScanErr::Overflow,
+            ValueFault::ZeroDivide => ScanErr::ZeroDivide,
+        }
     }
 }

@@ -1,39 +1,64 @@
 //! Expressions and statements whose names are resolved: a variable stands as its place among the declared ones.
 
 use cif_base::{Boxed, Items};
-use st_ast::{StOrder, StTy};
+use st_ast::StTy;
 
-/// An expression. Parentheses are gone.
+/// An operation on one operand.
+#[derive(Clone, Copy, Debug, PartialEq, Eq)]
+pub enum Single {
+    Minus,
+    Not,
+    Absolute,
+}
+
+/// An operation on two operands.
+#[derive(Clone, Copy, Debug, PartialEq, Eq)]
+pub enum Operator {
+    Add,
+    Subtract,
+    Multiply,
+    Divide,
+    Remainder,
+    Less,
+    Greater,
+    AtMost,
+    AtLeast,
+    Equal,
+    Differ,
+    And,
+    Xor,
+    Or,
+    Smaller,
+    Larger,
+}
+
+/// An expression. A literal is its number, and parentheses are gone. The operands of one level are a chain, which is worked
+/// out from left to right.
 #[cycle(placed_expressions)]
 #[derive(Debug, Drop)]
 pub enum PlacedExpr {
-    Bool(bool),
-    Int(i64),
+    Number(i64),
     Place(u32),
-    Not(Boxed<PlacedExpr>),
-    Sum {
+    Single {
+        op: Single,
+        operand: Boxed<PlacedExpr>,
+    },
+    Chain {
         first: Boxed<PlacedExpr>,
-        rest: Items<PlacedTerm>,
+        rest: Items<PlacedStep>,
     },
-    Order {
-        left: Boxed<PlacedExpr>,
-        op: StOrder,
-        right: Boxed<PlacedExpr>,
+    Select {
+        condition: Boxed<PlacedExpr>,
+        otherwise: Boxed<PlacedExpr>,
+        then: Boxed<PlacedExpr>,
     },
-    Equal {
-        left: Boxed<PlacedExpr>,
-        equal: bool,
-        right: Boxed<PlacedExpr>,
-    },
-    And(Items<PlacedExpr>),
-    Or(Items<PlacedExpr>),
 }
 
-/// A further operand of a sum, added or, where `minus` is set, subtracted.
+/// A further operand of a chain, with the operation that takes it.
 #[cycle(placed_expressions)]
 #[derive(Debug, Drop)]
-pub struct PlacedTerm {
-    pub minus: bool,
+pub struct PlacedStep {
+    pub op: Operator,
     pub value: PlacedExpr,
 }
 

@@ -1,19 +1,22 @@
 //! The values of expressions (IEC 61131-3, "Expressions"), where a BOOL is 0 or 1.
 
-ghost use Rattle.std.specs.Prelude.{◌≡◌, ◌&&◌, ◌||◌, true, false, slice_index_or, pos, IsTrue};
-ghost use Rattle.st_ast.specs.Values.{of_bool, is_true, checked, added, same_number, are_equal, holds};
-ghost use Rattle.st_scan.specs.PlacedValues.{value_at, sum_at, joined_at};
-ghost use Rattle.st_scan.specs.PlacedView.{expr_view, exprs_view, terms_view};
+ghost use Rattle.std.specs.Prelude.{◌≡◌, slice_index_or, pos};
+ghost use Rattle.st_ast.specs.Values.{of_bool, is_true, same_number, divided, remainder, smaller, larger};
+ghost use Rattle.st_scan.specs.PlacedValues.{value_at, steps_at, applied_to, applied};
+ghost use Rattle.st_scan.specs.PlacedView.{expr_view, steps_view};
 ghost use Rattle.st_scan.specs.Told.{told};
 
-use crate::placed::{PlacedExpr, PlacedTerm};
-use st_ast::StOrder;
+use crate::placed::{Operator, PlacedExpr, PlacedStep, Single};
 
-/// A result outside 64 bits.
+/// Why an expression has no value: a result outside 64 bits, or a divisor 0.
 #[derive(Clone, Copy, Debug, PartialEq, Eq)]
-pub struct Overflow;
+pub enum ValueFault {
+    Overflow,
+    ZeroDivide,
+}
 
-fn number(truth: bool) -> i64
+/// The number of a BOOL.
+pub fn number(truth: bool) -> i64
     ensures { result ≡ of_bool truth }
 {
     if truth { 1 } else { 0 }
@@ -26,40 +29,75 @@ pub fn is_set(value: i64) -> bool
     value != 0
 }
 
-/// The sum, or the difference where `minus` is set.
-#[tactic(auto, using(crate::proofs::Checked::checks))]
-fn add(minus: bool, x: i64, y: i64) -> Result<i64, Overflow>
-    ensures { told result ≡ checked (added minus x y) }
-{
-    let sum = if minus {
-        x.checked_sub(y)
-    } else {
-        x.checked_add(y)
-    };
-    sum.ok_or(Overflow)
-}
-
-fn compare(x: i64, op: StOrder, y: i64) -> bool
-    ensures { result ≡ holds op x y }
-{
-    match op {
-        StOrder::Lt => x < y,
-        StOrder::Gt => x > y,
-        StOrder::Le => x <= y,
-        StOrder::Ge => x >= y,
-    }
-}
-
 fn is_same(x: i64, y: i64) -> bool
     ensures { result ≡ same_number x y }
 {
     x == y
 }
 
-fn is_equal(equal: bool, x: i64, y: i64) -> bool
-    ensures { result ≡ are_equal equal x y }
+fn smaller_of(x: i64, y: i64) -> i64
+    ensures { result ≡ smaller x y }
 {
-    if equal { is_same(x, y) } else { !is_same(x, y) }
+    if x <= y { x } else { y }
+}
+
+fn larger_of(x: i64, y: i64) -> i64
+    ensures { result ≡ larger x y }
+{
+    if x <= y { y } else { x }
+}
+
+/// The quotient, rounded towards zero.
+#[tactic(auto, using(crate::proofs::Checked::checks))]
+fn divide(x: i64, y: i64) -> Result<i64, ValueFault>
+    ensures { told result ≡ divided x y }
+{
+    if is_same(y, 0) {
+        return Err(ValueFault::ZeroDivide);
+    }
+    x.checked_div(y).ok_or(ValueFault::Overflow)
+}
+
+/// What is left by a division, with the sign of the dividend, and 0 where the divisor is 0.
+fn remainder_of(x: i64, y: i64) -> i64
+    ensures { result ≡ remainder x y }
+{
+    if is_same(y, 0) { 0 } else { x.wrapping_rem(y) }
+}
+
+#[tactic(auto, using(crate::proofs::Checked::checks))]
+fn apply_to(op: Single, x: i64) -> Result<i64, ValueFault>
+    ensures { told result ≡ applied_to op x }
+{
+    match op {
+        Single::Minus => x.checked_neg().ok_or(ValueFault::Overflow),
+        Single::Not => Ok(number(!is_set(x))),
+        Single::Absolute => x.checked_abs().ok_or(ValueFault::Overflow),
+    }
+}
+
+#[tactic(auto, using(crate::proofs::Checked::checks))]
+fn apply(op: Operator, x: i64, y: i64) -> Result<i64, ValueFault>
+    ensures { told result ≡ applied op x y }
+{
+    match op {
+        Operator::Add => x.checked_add(y).ok_or(ValueFault::Overflow),
+        Operator::Subtract => x.checked_sub(y).ok_or(ValueFault::Overflow),
+        Operator::Multiply => x.checked_mul(y).ok_or(ValueFault::Overflow),
+        Operator::Divide => divide(x, y),
+        Operator::Remainder => Ok(remainder_of(x, y)),
+        Operator::Less => Ok(number(x < y)),
+        Operator::Greater => Ok(number(x > y)),
+        Operator::AtMost => Ok(number(x <= y)),
+        Operator::AtLeast => Ok(number(x >= y)),
+        Operator::Equal => Ok(number(is_same(x, y))),
+        Operator::Differ => Ok(number(!is_same(x, y))),
+        Operator::And => Ok(number(is_set(x) & is_set(y))),
+        Operator::Xor => Ok(number(is_set(x) ^ is_set(y))),
+        Operator::Or => Ok(number(is_set(x) | is_set(y))),
+        Operator::Smaller => Ok(smaller_of(x, y)),
+        Operator::Larger => Ok(larger_of(x, y)),
+    }
 }
 
 /// The number at a place, and 0 beyond the memory.
@@ -74,69 +112,42 @@ fn read(memory: &[i64], place: u32) -> i64
 
 /// The value of an expression. Every operand is evaluated, from left to right.
 #[cycle(values)]
-pub fn value(expr: &PlacedExpr, memory: &[i64]) -> Result<i64, Overflow>
+pub fn value(expr: &PlacedExpr, memory: &[i64]) -> Result<i64, ValueFault>
     ensures { told result ≡ value_at (expr_view expr.now) memory.now }
 {
     match expr {
-        PlacedExpr::Bool(truth) => Ok(number(*truth)),
-        PlacedExpr::Int(number) => Ok(*number),
+        PlacedExpr::Number(number) => Ok(*number),
         PlacedExpr::Place(place) => Ok(read(memory, *place)),
-        PlacedExpr::Not(operand) => {
+        PlacedExpr::Single { op, operand } => {
             let x = value(operand.get(), memory)?;
-            Ok(number(!is_set(x)))
+            apply_to(*op, x)
         }
-        PlacedExpr::Sum { first, rest } => {
+        PlacedExpr::Chain { first, rest } => {
             let x = value(first.get(), memory)?;
-            sum(rest.as_slice(), x, memory)
+            apply_steps(rest.as_slice(), x, memory)
         }
-        PlacedExpr::Order { left, op, right } => {
-            let x = value(left.get(), memory)?;
-            let y = value(right.get(), memory)?;
-            Ok(number(compare(x, *op, y)))
+        PlacedExpr::Select {
+            condition,
+            otherwise,
+            then,
+        } => {
+            let chosen = is_set(value(condition.get(), memory)?);
+            let x = value(otherwise.get(), memory)?;
+            let y = value(then.get(), memory)?;
+            Ok(if chosen { y } else { x })
         }
-        PlacedExpr::Equal { left, equal, right } => {
-            let x = value(left.get(), memory)?;
-            let y = value(right.get(), memory)?;
-            Ok(number(is_equal(*equal, x, y)))
-        }
-        PlacedExpr::And(operands) => all(operands.as_slice(), memory),
-        PlacedExpr::Or(operands) => any(operands.as_slice(), memory),
     }
 }
 
-/// The further operands of a sum, added to the first.
+/// The value of a chain, from that of its first operand.
 #[cycle(values)]
-fn sum(terms: &[PlacedTerm], first: i64, memory: &[i64]) -> Result<i64, Overflow>
-    ensures { told result ≡ sum_at first (terms_view terms.now) memory.now }
+fn apply_steps(steps: &[PlacedStep], first: i64, memory: &[i64]) -> Result<i64, ValueFault>
+    ensures { told result ≡ steps_at first (steps_view steps.now) memory.now }
 {
     let mut so_far = first;
-    for term in terms {
-        let x = value(&term.value, memory)?;
-        so_far = add(term.minus, so_far, x)?;
+    for step in steps {
+        let x = value(&step.value, memory)?;
+        so_far = apply(step.op, so_far, x)?;
     }
     Ok(so_far)
-}
-
-#[cycle(values)]
-fn all(operands: &[PlacedExpr], memory: &[i64]) -> Result<i64, Overflow>
-    ensures { told result ≡ joined_at (λ a b. a && b) true (exprs_view operands.now) memory.now }
-{
-    let mut so_far = true;
-    for operand in operands {
-        let x = value(operand, memory)?;
-        so_far = so_far & is_set(x);
-    }
-    Ok(number(so_far))
-}
-
-#[cycle(values)]
-fn any(operands: &[PlacedExpr], memory: &[i64]) -> Result<i64, Overflow>
-    ensures { told result ≡ joined_at (λ a b. a || b) false (exprs_view operands.now) memory.now }
-{
-    let mut so_far = false;
-    for operand in operands {
-        let x = value(operand, memory)?;
-        so_far = so_far | is_set(x);
-    }
-    Ok(number(so_far))
 }
