@@ -1,5 +1,5 @@
 -- The tokens of the printed program of a plant derive the program.
-use Rattle.std.proofs.Common.{◌≡◌, ℕ, ◌-◌, ◌≤◌, ℤ, pos, Bool, true, false, cond, List, [], ◌∷◌, Option, Some, filter, refl, sym, subst, ◌∙◌, inl, inr, append-nil, arith}
+use Rattle.std.proofs.Common.{◌≡◌, ℕ, ◌-◌, ◌≤◌, ℤ, pos, Bool, true, false, List, [], ◌∷◌, Option, Some, refl, sym, subst, ◌∙◌, inl, inr, append-nil, arith}
 use Rattle.std.specs.Prelude.{codes}
 use Rattle.grammar.specs.Lang.{many, flat}
 use Rattle.grammar.specs.Pieces.{Text}
@@ -153,10 +153,10 @@ variables_derive n U C h =
     (more_derive (declaration_derives class.Plain fired ty.Bool (lit.Bool false) refl fired_word bool_derives first_false)
     (more_derive (declaration_derives class.Plain rounds_made ty.Lint (lit.Int (pos 0)) refl rounds_word lint_derives (first_number 0 (omega arith))) none_derives)))
     (line_derives 0 (word_derives kinds.EndVar (codes "END_VAR") refl refl)))))))
-    (more_derive (right_derives (map_derives (λ (v : Token × (List StVar × Token)). middle v)
+    (more_derive (right_derives (right_derives (right_derives (map_derives (λ (v : Token × (List StVar × Token)). middle v)
     (line_derives 0 (both_derive (word_derives kinds.VarOutput (codes "VAR_OUTPUT") refl refl)
     (both_derive (more_derive (declaration_derives class.Output (output_name n) (ty.Range (pos 0) (pos (n.places - 1))) (lit.Int (pos n.first)) (output_is_name n.name h.name) (output_is_word n.name h.name) (range_derives (n.places - 1) last) (first_number n.first first)) none_derives)
-    (line_derives 0 (word_derives kinds.EndVar (codes "END_VAR") refl refl))))))) none_derives)
+    (line_derives 0 (word_derives kinds.EndVar (codes "END_VAR") refl refl))))))))) none_derives)
 
 -- ---- the program
 

@@ -11,7 +11,7 @@ use Rattle.st_ast.specs.Tokens.{Piece, piece, is_sign, opens_comment, token_of, 
 use Rattle.st_lex.specs.Cutting.{piece_cut}
 use Rattle.st_lex.proofs.CuttingLaws.{piece_cuts}
 use Rattle.grammar.proofs.Decimals.{decimal_digits, decimal_nonempty}
-use Rattle.st_print.specs.Layout.{Mark, line, word, digits, sign, dash, gap, closes, opens, fresh_after, text_of}
+use Rattle.st_print.specs.Layout.{Mark, line, word, digits, sign, dash, times, call, gap, closes, opens, fresh_after, text_of}
 use Rattle.st_print.specs.Marks.{tokens_of, is_word_text, mark_signs, AreMarks}
 
 -- ---- tests
@@ -30,9 +30,9 @@ of_each P (t ∷ ss) s h e = go (same s t) refl e (λ w. of_each P ss s h.1 w)
     go true is w ih = subst P (sym (same_equal s t is)) h.0
     go false is w ih = ih w
 
--- what may stand after a word, digits and most signs: nothing, a blank, a line break, or `;` `,` `:` `)`
+-- what may stand after a word, digits and most signs: nothing, a blank, a line break, or `;` `,` `:` `)` `(`
 abbrev ends : ℕ → Bool
-ends b = b == 32 || b == 10 || b == 59 || b == 44 || b == 58 || b == 41
+ends b = b == 32 || b == 10 || b == 59 || b == 44 || b == 58 || b == 41 || b == 40
 
 abbrev is_stop : Text → Bool
 is_stop [] = true
@@ -101,7 +101,7 @@ signs_cut = (
                 open_cut,
                 (
                   λ rest e. refl,
-                  (λ rest e. refl, (λ rest e. refl, (λ rest e. refl, (λ rest e. refl, (less_cut, (more_cut, tt)))))),
+                  (λ rest e. refl, (λ rest e. refl, (λ rest e. refl, (λ rest e. refl, (λ rest e. refl, (less_cut, (more_cut, tt))))))),
                 ),
               ),
             ),
@@ -170,6 +170,10 @@ dash_cut : (rest : Text) → piece_cut (45 ∷ rest) ≡ Some (record { piece = 
 unfolding piece_cut
 dash_cut rest = refl
 
+times_cut : (rest : Text) → piece_cut (42 ∷ rest) ≡ Some (record { piece = tk.sign (codes "*"); bytes = codes "*"; rest = rest })
+unfolding piece_cut
+times_cut rest = refl
+
 -- ---- what stands after a mark
 
 no_star : (s rest : Text) → begins_other s ≡ true → head_is is_star (s ++ rest) ≡ false
@@ -200,6 +204,8 @@ after_stop (line n ∷ ms) a = refl
 after_stop (word w ∷ ms) a = refl
 after_stop (digits n ∷ ms) a = refl
 after_stop (dash ∷ ms) a = refl
+after_stop (times ∷ ms) a = refl
+after_stop (call ∷ ms) a = refl
 after_stop (sign s ∷ ms) a = go (closes s) refl
   where
     go : (b : Bool) → closes s ≡ b → is_stop ((gap b ++ s) ++ text_of (opens s) ms) ≡ true
@@ -226,6 +232,8 @@ after_open (line n ∷ ms) a = refl
 after_open (word w ∷ ms) a = wordy_not_star w (text_of false ms) a.0
 after_open (digits n ∷ ms) a = digits_not_star (decimal n) (text_of false ms) (decimal_nonempty n) (decimal_digits n)
 after_open (dash ∷ ms) a = refl
+after_open (times ∷ ms) a = refl
+after_open (call ∷ ms) a = refl
 after_open (sign s ∷ ms) a = starts_no_star s a.0 (text_of (opens s) ms)
 
 after_sign : (s : Text) (ms : List Mark) → AreMarks ms → may_follow s (text_of (opens s) ms) ≡ true
@@ -247,6 +255,8 @@ mark_pieces fresh (word w) = gap_pieces fresh ++ (tk.word w ∷ [])
 mark_pieces fresh (digits n) = gap_pieces fresh ++ (tk.number (decimal n) ∷ [])
 mark_pieces fresh (sign s) = gap_pieces (fresh || closes s) ++ (tk.sign s ∷ [])
 mark_pieces fresh dash = gap_pieces fresh ++ (tk.sign (codes "-") ∷ [])
+mark_pieces fresh times = tk.blank ∷ tk.sign (codes "*") ∷ []
+mark_pieces fresh call = tk.sign (codes "(") ∷ []
 
 abbrev pieces_of : Bool → List Mark → List Piece
 pieces_of fresh [] = []
@@ -281,40 +291,55 @@ pieces_of-cut fresh (sign s ∷ ms) a =
     (of_each IsCutSign mark_signs s signs_cut a.0 (text_of (opens s) ms) (after_sign s ms a.1)) (pieces_of-cut (opens s) ms a.1)
 pieces_of-cut fresh (dash ∷ ms) a =
     gap_and_piece fresh (tk.sign (codes "-")) (codes "-") (text_of true ms) (pieces_of true ms) (dash_cut (text_of true ms)) (pieces_of-cut true ms a.1)
+pieces_of-cut fresh (times ∷ ms) a =
+    gap_and_piece false (tk.sign (codes "*")) (codes "*") (text_of false ms) (pieces_of false ms) (times_cut (text_of false ms)) (pieces_of-cut false ms a.1)
+pieces_of-cut fresh (call ∷ ms) a =
+    one_piece (tk.sign (codes "(")) (codes "(") (text_of true ms) (pieces_of true ms) (open_cut (text_of true ms) (after_sign (codes "(") ms a.1)) (pieces_of-cut true ms a.1)
 
 -- ---- no two signs that would be a comment
 
-abbrev NoStars : List Piece → Type 0
-NoStars [] = Unit {0}
-NoStars (p ∷ ps) = (is_sign (codes "*") p ≡ false) × NoStars ps
+abbrev begins_star : List Piece → Bool
+begins_star [] = false
+begins_star (p ∷ ps) = is_sign (codes "*") p
 
-opens_none : (ps : List Piece) → NoStars ps → opens_comment ps ≡ false
-opens_none [] h = refl
-opens_none (p ∷ []) h = refl
-opens_none (p ∷ q ∷ ps) h = go (is_sign (codes "(") p) (opens_none (q ∷ ps) h.1)
+-- no comment in it, and none with a `(` before it
+abbrev IsClear : List Piece → Type 0
+IsClear ps = (opens_comment ps ≡ false) × (begins_star ps ≡ false)
+
+opens_none : (p : Piece) (ps : List Piece) → IsClear ps → opens_comment (p ∷ ps) ≡ false
+opens_none p [] h = refl
+opens_none p (q ∷ ps) h = go (is_sign (codes "(") p)
   where
-    go : (b : Bool) → opens_comment (q ∷ ps) ≡ false → (b && is_sign (codes "*") q || opens_comment (q ∷ ps)) ≡ false
-    go true e = rw (h.1.0, e) refl
-    go false e = e
+    go : (b : Bool) → (b && is_sign (codes "*") q || opens_comment (q ∷ ps)) ≡ false
+    go true = rw (h.1, h.0) refl
+    go false = h.0
 
-no_stars-blanks : (k : ℕ) (ps : List Piece) → NoStars ps → NoStars (replicate k tk.blank ++ ps)
-no_stars-blanks zero ps h = h
-no_stars-blanks (suc k) ps h = (refl, no_stars-blanks k ps h)
+clear-other : (p : Piece) (ps : List Piece) → is_sign (codes "*") p ≡ false → IsClear ps → IsClear (p ∷ ps)
+clear-other p ps e h = (opens_none p ps h, e)
 
-no_stars-gap : (fresh : Bool) (p : Piece) (ps : List Piece) → is_sign (codes "*") p ≡ false → NoStars ps → NoStars ((gap_pieces fresh ++ (p ∷ [])) ++ ps)
-no_stars-gap true p ps e h = (e, h)
-no_stars-gap false p ps e h = (refl, (e, h))
+clear-blanks : (k : ℕ) (ps : List Piece) → IsClear ps → IsClear (replicate k tk.blank ++ ps)
+clear-blanks zero ps h = h
+clear-blanks (suc k) ps h = clear-other tk.blank (replicate k tk.blank ++ ps) refl (clear-blanks k ps h)
+
+clear-gap : (fresh : Bool) (p : Piece) (ps : List Piece) → is_sign (codes "*") p ≡ false → IsClear ps → IsClear ((gap_pieces fresh ++ (p ∷ [])) ++ ps)
+clear-gap true p ps e h = clear-other p ps e h
+clear-gap false p ps e h = clear-other tk.blank (p ∷ ps) refl (clear-other p ps e h)
+
+clear-times : (ps : List Piece) → IsClear ps → IsClear (tk.blank ∷ tk.sign (codes "*") ∷ ps)
+clear-times ps h = (opens_none (tk.sign (codes "*")) ps h, refl)
 
 sign_no_star : (s : Text) → list_any (λ t. same s t) mark_signs ≡ true → same (codes "*") s ≡ false
-sign_no_star s e = of_each (λ s. same (codes "*") s ≡ false) mark_signs s (refl, (refl, (refl, (refl, (refl, (refl, (refl, (refl, (refl, (refl, (refl, (refl, (refl, (refl, (refl, tt))))))))))))))) e
+sign_no_star s e = of_each (λ s. same (codes "*") s ≡ false) mark_signs s (refl, (refl, (refl, (refl, (refl, (refl, (refl, (refl, (refl, (refl, (refl, (refl, (refl, (refl, (refl, (refl, tt)))))))))))))))) e
 
-pieces_of-no_stars : (fresh : Bool) (ms : List Mark) → AreMarks ms → NoStars (pieces_of fresh ms)
-pieces_of-no_stars fresh [] a = tt
-pieces_of-no_stars fresh (line n ∷ ms) a = (refl, no_stars-blanks (2 * n) (pieces_of true ms) (pieces_of-no_stars true ms a.1))
-pieces_of-no_stars fresh (word w ∷ ms) a = no_stars-gap fresh (tk.word w) (pieces_of false ms) refl (pieces_of-no_stars false ms a.1)
-pieces_of-no_stars fresh (digits n ∷ ms) a = no_stars-gap fresh (tk.number (decimal n)) (pieces_of false ms) refl (pieces_of-no_stars false ms a.1)
-pieces_of-no_stars fresh (sign s ∷ ms) a = no_stars-gap (fresh || closes s) (tk.sign s) (pieces_of (opens s) ms) (sign_no_star s a.0) (pieces_of-no_stars (opens s) ms a.1)
-pieces_of-no_stars fresh (dash ∷ ms) a = no_stars-gap fresh (tk.sign (codes "-")) (pieces_of true ms) refl (pieces_of-no_stars true ms a.1)
+pieces_of-clear : (fresh : Bool) (ms : List Mark) → AreMarks ms → IsClear (pieces_of fresh ms)
+pieces_of-clear fresh [] a = (refl, refl)
+pieces_of-clear fresh (line n ∷ ms) a = clear-blanks (suc (2 * n)) (pieces_of true ms) (pieces_of-clear true ms a.1)
+pieces_of-clear fresh (word w ∷ ms) a = clear-gap fresh (tk.word w) (pieces_of false ms) refl (pieces_of-clear false ms a.1)
+pieces_of-clear fresh (digits n ∷ ms) a = clear-gap fresh (tk.number (decimal n)) (pieces_of false ms) refl (pieces_of-clear false ms a.1)
+pieces_of-clear fresh (sign s ∷ ms) a = clear-gap (fresh || closes s) (tk.sign s) (pieces_of (opens s) ms) (sign_no_star s a.0) (pieces_of-clear (opens s) ms a.1)
+pieces_of-clear fresh (dash ∷ ms) a = clear-gap fresh (tk.sign (codes "-")) (pieces_of true ms) refl (pieces_of-clear true ms a.1)
+pieces_of-clear fresh (times ∷ ms) a = clear-times (pieces_of false ms) (pieces_of-clear false ms a.1)
+pieces_of-clear fresh (call ∷ ms) a = clear-other (tk.sign (codes "(")) (pieces_of true ms) refl (pieces_of-clear true ms a.1)
 
 -- ---- the tokens of the pieces
 
@@ -333,13 +358,15 @@ pieces_of-tokens fresh (word w ∷ ms) = ap (λ ts. record { kind = tk.kind_of_w
 pieces_of-tokens fresh (digits n ∷ ms) = ap (λ ts. record { kind = tk.kind_of_number (decimal n); text = decimal n } ∷ ts) (pieces_of-tokens false ms) ∙ sym (gap-no_token fresh (tk.number (decimal n)) (pieces_of false ms))
 pieces_of-tokens fresh (sign s ∷ ms) = ap (λ ts. record { kind = tk.kind_of_sign s; text = s } ∷ ts) (pieces_of-tokens (opens s) ms) ∙ sym (gap-no_token (fresh || closes s) (tk.sign s) (pieces_of (opens s) ms))
 pieces_of-tokens fresh (dash ∷ ms) = ap (λ ts. record { kind = tk.kind_of_sign (codes "-"); text = codes "-" } ∷ ts) (pieces_of-tokens true ms) ∙ sym (gap-no_token fresh (tk.sign (codes "-")) (pieces_of true ms))
+pieces_of-tokens fresh (times ∷ ms) = ap (λ ts. record { kind = tk.kind_of_sign (codes "*"); text = codes "*" } ∷ ts) (pieces_of-tokens false ms)
+pieces_of-tokens fresh (call ∷ ms) = ap (λ ts. record { kind = tk.kind_of_sign (codes "("); text = codes "(" } ∷ ts) (pieces_of-tokens true ms)
 
 -- the same, whether or not a blank is due before the first mark
 pub marks-tokens_from : (fresh : Bool) (ms : List Mark) → AreMarks ms → Tokens (text_of fresh ms) (tokens_of ms)
 marks-tokens_from fresh ms a = record {
   pieces = pieces_of fresh ms;
   cut = pieces_of-cut fresh ms a;
-  closed = opens_none (pieces_of fresh ms) (pieces_of-no_stars fresh ms a);
+  closed = (pieces_of-clear fresh ms a).0;
   are = pieces_of-tokens fresh ms;
 }
 

@@ -1,9 +1,11 @@
 -- How a program is printed. Keywords are in capitals. Each declaration, statement head, ELSIF, ELSE and closing word has a
 -- line of its own, indented by two blanks for each nesting. Tokens are separated by one blank, with none before `;` `,` `:`
--- `)`, none after `(` and none after a sign before a number.
+-- `)`, none after `(`, none after a unary minus, and none between a function's name and its `(`.
 use Rattle.std.specs.Prelude.{ℕ, ◌+◌, ◌*◌, ℤ, pos, negsuc, Bool, true, false, ◌||◌, List, [], ◌∷◌, ◌++◌, codes, decimal, replicate, Option, Some, None, if◌then◌else◌}
 use Rattle.grammar.specs.Pieces.{Text, same}
-use Rattle.st_ast.specs.Tree.{Expr, Exprs, Terms, truth, number, named, paren, negation, sum, order, equal, all_of, any_of, no_exprs, exprs, no_terms, terms, Stm, Stms, Branches, Other, assign, choice, loop, no_stms, stms, no_branches, branches, no_other, other, Program}
+use Rattle.st_ast.specs.Tree.{Expr, Exprs, Factors, Terms, truth, number, named, paren, negation, complement, product, sum, order, equal, all_of, odd_of, any_of, absolute, least, greatest, selection, no_exprs, exprs, no_factors, factors, no_terms, terms, Stm, Stms, Branches, Other, assign, choice, loop, no_stms, stms, no_branches, branches, no_other, other, Program}
+use Rattle.st_ast.specs.declared.tree.StMul.{StMul}
+use Rattle.st_ast.specs.declared.tree.StMul.TheVariants as mul
 use Rattle.st_ast.specs.declared.tree.StOrder.{StOrder}
 use Rattle.st_ast.specs.declared.tree.StOrder.TheVariants as cmp
 use Rattle.st_ast.specs.declared.tree.StVar.{StVar}
@@ -14,13 +16,16 @@ use Rattle.st_ast.specs.declared.tree.StLit.TheVariants as lit
 use Rattle.st_ast.specs.declared.tree.StClass.{StClass}
 use Rattle.st_ast.specs.declared.tree.StClass.TheVariants as class
 
--- what is printed: a line break before a line with that indentation, a word, digits, a sign, a sign before a number
+-- what is printed: a line break before a line with that indentation, a word, digits, a sign, a minus joined to its operand,
+-- a `*`, a `(` joined to the function's name before it
 pub data Mark : Type 0 where
   line : ℕ → Mark
   word : Text → Mark
   digits : ℕ → Mark
   sign : Text → Mark
   dash : Mark
+  times : Mark
+  call : Mark
 
 -- a blank, where one is due
 abbrev pub gap : Bool → Text
@@ -35,13 +40,15 @@ closes s = same s (codes ";") || same s (codes ",") || same s (codes ":") || sam
 abbrev pub opens : Text → Bool
 opens s = same s (codes "(")
 
--- the bytes of a mark; true: no blank is due before it
+-- The bytes of a mark; true: no blank is due before it. A `*` always has one, since after `(` it would begin a comment.
 abbrev pub spelled : Bool → Mark → Text
 spelled fresh (line n) = 10 ∷ replicate (2 * n) 32
 spelled fresh (word w) = gap fresh ++ w
 spelled fresh (digits n) = gap fresh ++ decimal n
 spelled fresh (sign s) = gap (fresh || closes s) ++ s
 spelled fresh dash = gap fresh ++ (45 ∷ [])
+spelled fresh times = 32 ∷ 42 ∷ []
+spelled fresh call = 40 ∷ []
 
 -- whether no blank is due after a mark
 abbrev pub fresh_after : Mark → Bool
@@ -50,6 +57,8 @@ fresh_after (word w) = false
 fresh_after (digits n) = false
 fresh_after (sign s) = opens s
 fresh_after dash = true
+fresh_after times = false
+fresh_after call = true
 
 -- the text of marks
 abbrev pub text_of : Bool → List Mark → Text
@@ -80,18 +89,35 @@ abbrev pub plus_text : Bool → Text
 plus_text false = codes "+"
 plus_text true = codes "-"
 
+abbrev pub mul_mark : StMul → Mark
+mul_mark mul.Times = times
+mul_mark mul.Div = sign (codes "/")
+mul_mark mul.Mod = word (codes "MOD")
+
 abbrev mutual
   pub expr_marks : Expr → List Mark → List Mark
   expr_marks (truth b) ms = truth_marks b ms
   expr_marks (number z) ms = number_marks z ms
   expr_marks (named x) ms = word x ∷ ms
   expr_marks (paren e) ms = sign (codes "(") ∷ expr_marks e (sign (codes ")") ∷ ms)
-  expr_marks (negation e) ms = word (codes "NOT") ∷ expr_marks e ms
+  expr_marks (negation e) ms = dash ∷ expr_marks e ms
+  expr_marks (complement e) ms = word (codes "NOT") ∷ expr_marks e ms
+  expr_marks (product e rest) ms = expr_marks e (factors_marks rest ms)
   expr_marks (sum e rest) ms = expr_marks e (terms_marks rest ms)
   expr_marks (order a op b) ms = expr_marks a (sign (order_text op) ∷ expr_marks b ms)
   expr_marks (equal a same b) ms = expr_marks a (sign (equal_text same) ∷ expr_marks b ms)
   expr_marks (all_of es) ms = operands_marks (codes "AND") es ms
+  expr_marks (odd_of es) ms = operands_marks (codes "XOR") es ms
   expr_marks (any_of es) ms = operands_marks (codes "OR") es ms
+  expr_marks (absolute e) ms = word (codes "ABS") ∷ call ∷ expr_marks e (sign (codes ")") ∷ ms)
+  expr_marks (least a b) ms = word (codes "MIN") ∷ call ∷ expr_marks a (sign (codes ",") ∷ expr_marks b (sign (codes ")") ∷ ms))
+  expr_marks (greatest a b) ms = word (codes "MAX") ∷ call ∷ expr_marks a (sign (codes ",") ∷ expr_marks b (sign (codes ")") ∷ ms))
+  expr_marks (selection g a b) ms =
+      word (codes "SEL") ∷ call ∷ expr_marks g (sign (codes ",") ∷ expr_marks a (sign (codes ",") ∷ expr_marks b (sign (codes ")") ∷ ms)))
+
+  pub factors_marks : Factors → List Mark → List Mark
+  factors_marks no_factors ms = ms
+  factors_marks (factors op e fs) ms = mul_mark op ∷ expr_marks e (factors_marks fs ms)
 
   pub terms_marks : Terms → List Mark → List Mark
   terms_marks no_terms ms = ms

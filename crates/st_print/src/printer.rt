@@ -3,7 +3,7 @@
 ghost use Rattle.std.specs.Prelude.{◌≡◌, true, ◌++◌, ◌||◌, [], ◌∷◌, List, codes, OnOk};
 ghost use Rattle.std.specs.Fmt.{signed_decimal};
 ghost use Rattle.grammar.specs.Pieces.{same};
-ghost use Rattle.st_print.specs.Layout.{Mark, line, word, sign, gap, closes, opens, number_marks, text_of};
+ghost use Rattle.st_print.specs.Layout.{Mark, line, word, sign, dash, times, call, gap, closes, opens, number_marks, text_of};
 
 use cif_base::{Memory, put_int};
 use std::alloc::Global;
@@ -68,6 +68,36 @@ impl Printer {
     {
         self.put(text, self.fresh || is_closing(text))?;
         self.fresh = is_opening(text);
+        Ok(())
+    }
+
+    /// Prints a unary minus, to which its operand is joined.
+    pub fn dash(&mut self) -> Result<(), Memory>
+        ensures { OnOk result ((ms : List Mark) →
+            so_far self.old (dash ∷ ms) ≡ so_far self.new ms) }
+    {
+        self.put(b"-", self.fresh)?;
+        self.fresh = true;
+        Ok(())
+    }
+
+    /// Prints `*` with a blank before it: after `(` it would begin a comment.
+    pub fn times(&mut self) -> Result<(), Memory>
+        ensures { OnOk result ((ms : List Mark) →
+            so_far self.old (times ∷ ms) ≡ so_far self.new ms) }
+    {
+        self.put(b"*", false)?;
+        self.fresh = false;
+        Ok(())
+    }
+
+    /// Prints the parenthesis that is joined to a function's name.
+    pub fn call(&mut self) -> Result<(), Memory>
+        ensures { OnOk result ((ms : List Mark) →
+            so_far self.old (call ∷ ms) ≡ so_far self.new ms) }
+    {
+        self.put(b"(", true)?;
+        self.fresh = true;
         Ok(())
     }
 

@@ -1,0 +1,7 @@
+use Rattle.std.proofs.Common.{refl}
+use Rattle.st_print.specs.Layout.{times}
+use Rattle.st_print.proofs.MarkLemmas.{so_far-mark}
+use Rattle.st_print.proofs.printer.Printer.times.Goals as goal
+
+pub returns : goal.returns
+returns c = so_far-mark _ _ times c.in_ok-put.ensures.bytes refl
