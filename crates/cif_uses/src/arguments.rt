@@ -43,7 +43,11 @@ fn add_stray<'a>(arg: &'a Expr, found: &mut Vec<Use<'a>>) -> Result<(), Memory>
 
 /// Adds the names of the arguments of an instance beside the parameters of its definition. Where the definition isn't
 /// found, there are none.
-pub fn add_arg_uses<'a>(args: &'a [Expr], params: &[Param], found: &mut Vec<Use<'a>>) -> Result<(), Memory>
+pub fn add_arg_uses<'a>(
+    args: &'a [Expr],
+    params: &[Param],
+    found: &mut Vec<Use<'a>>,
+) -> Result<(), Memory>
     ensures { OnOk result (map use_of found.new.items
         ≡ map use_of found.old.items ++ args_uses (map view args.now) (map param_tree params.now)) }
 {

@@ -55,7 +55,11 @@ fn add_form<'a>(form: &'a Form, asks: Asked, found: &mut Vec<Use<'a>>) -> Result
 
 /// Adds the names that expressions write.
 #[cycle(expressions)]
-pub fn add_all_names<'a>(all: &'a [Expr], asks: Asked, found: &mut Vec<Use<'a>>) -> Result<(), Memory>
+pub fn add_all_names<'a>(
+    all: &'a [Expr],
+    asks: Asked,
+    found: &mut Vec<Use<'a>>,
+) -> Result<(), Memory>
     ensures { OnOk result (map use_of found.new.items
         ≡ map use_of found.old.items ++ asking (sort_of asks) (names_in_all (view_exprs all.now))) }
 {
