@@ -2,7 +2,8 @@
 
 use cif_ast::Name;
 
-/// What the position of a name asks for. A value is also asked of a variable that can be read; `Any` asks for no sort.
+/// What the position of a name asks for: `Variable` where it is assigned, `Value` where it is read. `Any` is no sort: that of
+/// an argument that is a bare name and has no parameter.
 #[derive(Clone, Copy, Debug, PartialEq, Eq)]
 pub enum Asked {
     Event,
