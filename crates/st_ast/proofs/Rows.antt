@@ -1,5 +1,5 @@
 -- Worked examples of the definitions, by computation.
-use Rattle.std.proofs.Common.{◌≡◌, pos, negsuc, true, false, List, [], ◌∷◌, Some, None, Ok, Err, refl}
+use Rattle.std.proofs.Common.{◌≡◌, ℕ, pos, negsuc, true, false, List, [], ◌∷◌, Some, None, Ok, Err, refl}
 use Rattle.std.specs.Prelude.{ℤ, Bool, Result, codes, map}
 use Rattle.grammar.specs.Pieces.{Text}
 use Rattle.st_ast.specs.declared.tree.StVar.{StVar}
@@ -13,13 +13,14 @@ use Rattle.st_ast.specs.declared.tree.StMul.{StMul}
 use Rattle.st_ast.specs.declared.tree.StMul.TheVariants as mul
 use Rattle.st_ast.specs.declared.tree.StOrder.{StOrder}
 use Rattle.st_ast.specs.declared.tree.StOrder.TheVariants as cmp
-use Rattle.st_ast.specs.Tree.{Expr, truth, number, named, negation, complement, product, sum, order, equal, all_of, odd_of, any_of, absolute, least, greatest, selection, Exprs, exprs, no_exprs, factors, no_factors, terms, no_terms, Stm, assign, loop, stms_of, Program}
+use Rattle.st_ast.specs.Tree.{Expr, truth, number, named, negation, complement, product, sum, order, equal, all_of, odd_of, any_of, absolute, least, greatest, selection, Exprs, exprs, no_exprs, factors, no_factors, terms, no_terms, Stm, Stms, assign, choice, loop, stms_of, branches, no_branches, other, Program}
 use Rattle.st_ast.specs.Tokens.{sign, blank, opens_comment, kind_of_word, kind_of_number, kind_of_sign}
 use Rattle.st_ast.specs.declared.kinds.TokenKind.TheVariants as kinds
-use Rattle.st_ast.specs.Checks.{unknown, duplicate, mismatch, not_assignable, init_range, check_faults, sort_of}
+use Rattle.st_ast.specs.Grammar.{products, sums, orders, equalities, mul_of, is_minus, order_of, is_equality}
+use Rattle.st_ast.specs.Checks.{unknown, duplicate, mismatch, not_assignable, init_range, boolean, integer, check_faults, sort_of, knows}
 use Rattle.st_ast.specs.Interface.{output_values}
 use Rattle.st_ast.specs.Values.{Fault, overflow, zero_divide, subrange_left, value_of}
-use Rattle.st_ast.specs.Exec.{Ended, Faulted, OutOfTurns, repeated, exec}
+use Rattle.st_ast.specs.Exec.{Outcome, Ended, Faulted, OutOfTurns, repeated, exec}
 use Rattle.st_ast.specs.Scan.{start_memory, scan_of, store_row}
 
 abbrev variable : Text → StClass → StTy → StVar
@@ -228,6 +229,138 @@ sorts_for_a_number = product (truth true) (factors mul.Mod (number (pos 2)) no_f
 
 wrong_sorts : map (λ e. sort_of [] e) sorts_for_a_number ≡ None ∷ None ∷ None ∷ None ∷ None ∷ None ∷ None ∷ []
 wrong_sorts = refl
+
+-- ---- truths and comparisons of values
+
+abbrev both_ways : (Expr → Expr → Expr) → List (Result ℤ Fault)
+both_ways make = value_of [] (make (number (negsuc 1)) (number (negsuc 1))) [] ∷ value_of [] (make (number (negsuc 0)) (number (negsuc 1))) [] ∷ value_of [] (make (number (pos 1)) (number (negsuc 1))) [] ∷ []
+
+-- -2, -1 and 1 beside -2
+equal_to_minus_two : both_ways (λ a b. equal a true b) ≡ Ok (pos 1) ∷ Ok (pos 0) ∷ Ok (pos 0) ∷ []
+equal_to_minus_two = refl
+
+at_most_minus_two : both_ways (λ a b. order a cmp.Le b) ≡ Ok (pos 1) ∷ Ok (pos 0) ∷ Ok (pos 0) ∷ []
+at_most_minus_two = refl
+
+all_truths : value_of [] (all_of (three true true true)) [] ∷ value_of [] (all_of (three true true false)) [] ∷ value_of [] (all_of (three false true true)) [] ∷ [] ≡ Ok (pos 1) ∷ Ok (pos 0) ∷ Ok (pos 0) ∷ []
+all_truths = refl
+
+two_truths_of_three : value_of [] (any_of (three true true false)) [] ≡ Ok (pos 1)
+two_truths_of_three = refl
+
+least_and_greatest_turned : value_of [] (least (number (pos 3)) (number (negsuc 3))) [] ∷ value_of [] (greatest (number (pos 3)) (number (negsuc 3))) [] ∷ [] ≡ Ok (negsuc 3) ∷ Ok (pos 3) ∷ []
+least_and_greatest_turned = refl
+
+minus_minus_three : value_of [] (negation (negation (number (pos 3)))) [] ≡ Ok (pos 3)
+minus_minus_three = refl
+
+-- ---- every operand is evaluated, from left to right: of two faults the first is told
+
+-- 9223372036854775807 + 1
+abbrev too_great : Expr
+too_great = sum (number (pos 9223372036854775807)) (terms false (number (pos 1)) no_terms)
+
+-- 1 / 0 = 1
+abbrev by_zero_is_one : Expr
+by_zero_is_one = equal by_zero true (number (pos 1))
+
+-- ... = 0
+abbrev too_great_is_zero : Expr
+too_great_is_zero = equal too_great true (number (pos 0))
+
+first_of_two_faults : map (λ e. value_of [] e []) (order too_great cmp.Lt by_zero ∷ equal by_zero true too_great ∷ least by_zero too_great ∷ greatest too_great by_zero ∷ all_of (exprs by_zero_is_one (exprs too_great_is_zero no_exprs)) ∷ [])
+    ≡ Err overflow ∷ Err zero_divide ∷ Err zero_divide ∷ Err overflow ∷ Err zero_divide ∷ []
+first_of_two_faults = refl
+
+no_operand_decides_alone : map (λ e. value_of [] e []) (any_of (exprs (truth true) (exprs by_zero_is_one no_exprs)) ∷ odd_of (exprs (truth true) (exprs by_zero_is_one no_exprs)) ∷ [])
+    ≡ Err zero_divide ∷ Err zero_divide ∷ []
+no_operand_decides_alone = refl
+
+selection_from_the_left : map (λ e. value_of [] e []) (selection (truth true) too_great by_zero ∷ selection by_zero_is_one too_great (number (pos 0)) ∷ []) ≡ Err overflow ∷ Err zero_divide ∷ []
+selection_from_the_left = refl
+
+-- 9223372036854775807 + 1 - 1 and 9223372036854775807 + 1 + 1 / 0: a sum so far has its fault before the next operand
+first_fault_of_a_sum : map (λ e. value_of [] (sum (number (pos 9223372036854775807)) (terms false (number (pos 1)) e)) []) (terms true (number (pos 1)) no_terms ∷ terms false by_zero no_terms ∷ [])
+    ≡ Err overflow ∷ Err overflow ∷ []
+first_fault_of_a_sum = refl
+
+-- ---- sorts
+
+right_numbers : map (λ e. sort_of [] e) (product (number (pos 2)) (factors mul.Times (number (pos 3)) no_factors) ∷ negation (number (pos 1)) ∷ absolute (number (pos 1)) ∷ least (number (pos 1)) (number (pos 2)) ∷ greatest (number (pos 1)) (number (pos 2)) ∷ selection (truth true) (number (pos 1)) (number (pos 2)) ∷ [])
+    ≡ Some integer ∷ Some integer ∷ Some integer ∷ Some integer ∷ Some integer ∷ Some integer ∷ []
+right_numbers = refl
+
+right_truths : map (λ e. sort_of [] e) (complement (truth true) ∷ odd_of (three true true true) ∷ order (number (pos 1)) cmp.Ge (number (pos 2)) ∷ []) ≡ Some boolean ∷ Some boolean ∷ Some boolean ∷ []
+right_truths = refl
+
+more_wrong_sorts : map (λ e. sort_of [] e) (complement (number (pos 1)) ∷ sum (truth true) (terms false (number (pos 1)) no_terms) ∷ equal (number (pos 1)) true (truth true) ∷ all_of (exprs (truth true) (exprs (number (pos 1)) no_exprs)) ∷ any_of (exprs (number (pos 1)) (exprs (truth true) no_exprs)) ∷ least (number (pos 1)) (truth true) ∷ greatest (truth true) (number (pos 1)) ∷ [])
+    ≡ None ∷ None ∷ None ∷ None ∷ None ∷ None ∷ None ∷ []
+more_wrong_sorts = refl
+
+-- an undeclared name at each place
+abbrev unnamed : Expr
+unnamed = named (codes "y")
+
+no_name_is_missed : map (λ e. knows [] e) (negation unnamed ∷ complement unnamed ∷ absolute unnamed ∷ product (number (pos 1)) (factors mul.Mod unnamed no_factors) ∷ odd_of (exprs (truth true) (exprs unnamed no_exprs)) ∷ least unnamed (number (pos 1)) ∷ least (number (pos 1)) unnamed ∷ greatest unnamed (number (pos 1)) ∷ greatest (number (pos 1)) unnamed ∷ selection unnamed (number (pos 1)) (number (pos 1)) ∷ selection (truth true) unnamed (number (pos 1)) ∷ selection (truth true) (number (pos 1)) unnamed ∷ [])
+    ≡ false ∷ false ∷ false ∷ false ∷ false ∷ false ∷ false ∷ false ∷ false ∷ false ∷ false ∷ false ∷ []
+no_name_is_missed = refl
+
+number_for_a_truth_that_is_an_input : check_faults (program_with (variable (codes "x") class.Input ty.Bool ∷ []) (assign (codes "x") (number (pos 1)) ∷ [])) ≡ mismatch 0 ∷ not_assignable 0 ∷ []
+number_for_a_truth_that_is_an_input = refl
+
+-- ---- statements
+
+-- x := z
+abbrev sets : ℤ → Stms
+sets z = stms_of (assign (codes "x") (number z) ∷ [])
+
+abbrev with_x : List Stm → ℕ → Outcome
+with_x body turns = exec (x_of ty.Lint (lit.Int (pos 0)) ∷ []) (stms_of body) turns (pos 0 ∷ [])
+
+-- the conditions after a true one are not evaluated
+second_branch_is_taken : with_x (choice (branches (truth false) (sets (pos 1)) (branches (truth true) (sets (pos 2)) (branches by_zero_is_one (sets (pos 3)) no_branches))) (other (sets (pos 4))) ∷ []) 9 ≡ Ended 9 (pos 2 ∷ [])
+second_branch_is_taken = refl
+
+last_part_is_taken : with_x (choice (branches (truth false) (sets (pos 1)) no_branches) (other (sets (pos 4))) ∷ []) 9 ≡ Ended 9 (pos 4 ∷ [])
+last_part_is_taken = refl
+
+fault_of_a_condition : with_x (choice (branches by_zero_is_one (sets (pos 1)) no_branches) (other (sets (pos 4))) ∷ []) 9 ≡ Faulted zero_divide
+fault_of_a_condition = refl
+
+-- the condition is evaluated before a turn is asked for
+condition_before_the_turn : with_x (loop by_zero_is_one (sets (pos 1)) ∷ []) 0 ∷ with_x (loop (truth false) (sets (pos 1)) ∷ []) 0 ∷ with_x (loop (truth true) (sets (pos 1)) ∷ []) 0 ∷ [] ≡ Faulted zero_divide ∷ Ended 0 (pos 0 ∷ []) ∷ OutOfTurns ∷ []
+unfolding repeated
+condition_before_the_turn = refl
+
+-- WHILE x < n DO x := x + 1
+abbrev counts_to : ℤ → Stm
+counts_to n = loop (order (named (codes "x")) cmp.Lt (number n)) (stms_of (assign (codes "x") (sum (named (codes "x")) (terms false (number (pos 1)) no_terms)) ∷ []))
+
+three_turns_are_enough : with_x (counts_to (pos 3) ∷ []) 3 ∷ with_x (counts_to (pos 3) ∷ []) 2 ∷ [] ≡ Ended 0 (pos 3 ∷ []) ∷ OutOfTurns ∷ []
+unfolding repeated
+three_turns_are_enough = refl
+
+loops_share_the_turns : with_x (counts_to (pos 2) ∷ counts_to (pos 4) ∷ []) 3 ∷ with_x (counts_to (pos 2) ∷ counts_to (pos 4) ∷ []) 4 ∷ [] ≡ OutOfTurns ∷ Ended 0 (pos 4 ∷ []) ∷ []
+unfolding repeated
+loops_share_the_turns = refl
+
+first_value_of_a_constant : start_memory (program_with (record { name = codes "x"; class = class.Constant; ty = ty.Lint; init = Some (lit.Int (pos 7)) } ∷ []) []) ≡ pos 7 ∷ []
+first_value_of_a_constant = refl
+
+-- ---- words and signs of the grammar
+
+words_have_kinds : map kind_of_word (codes "CONSTANT" ∷ codes "NOT" ∷ codes "AND" ∷ codes "XOR" ∷ codes "OR" ∷ codes "MOD" ∷ codes "ABS" ∷ codes "MIN" ∷ codes "MAX" ∷ codes "SEL" ∷ codes "_" ∷ [])
+    ≡ kinds.Constant ∷ kinds.Not ∷ kinds.And ∷ kinds.Xor ∷ kinds.Or ∷ kinds.Mod ∷ kinds.Abs ∷ kinds.Min ∷ kinds.Max ∷ kinds.Sel ∷ kinds.Outside ∷ []
+words_have_kinds = refl
+
+orders_of_signs : map order_of orders ≡ cmp.Lt ∷ cmp.Gt ∷ cmp.Le ∷ cmp.Ge ∷ []
+orders_of_signs = refl
+
+products_of_signs : map mul_of products ≡ mul.Times ∷ mul.Div ∷ mul.Mod ∷ []
+products_of_signs = refl
+
+sums_and_equalities_of_signs : map is_minus sums ∷ map is_equality equalities ∷ [] ≡ (false ∷ true ∷ []) ∷ (true ∷ false ∷ []) ∷ []
+sums_and_equalities_of_signs = refl
 
 -- ---- names
 

@@ -212,6 +212,6 @@ abbrev mutual
   other_faults vars k no_other = []
   other_faults vars k (other ss) = stms_faults vars k ss
 
--- what breaks the checks, in order; the first is told
+-- what breaks the checks, in order; the first is told, so that it doesn't matter that an undeclared name has no sort either
 abbrev pub check_faults : Program → List CheckFault
 check_faults p = variables_faults [] 0 p.vars ++ stms_faults p.vars 0 p.body
