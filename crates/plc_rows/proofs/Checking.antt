@@ -1,75 +1,95 @@
--- The header and the rows, by their first fields and how many fields they have.
-use Rattle.std.proofs.Common.{◌≡◌, ◌<◌, ◌≤◌, ℕ, Bool, true, false, not, List, [], ◌∷◌, length, codes, decimal, Some, None, refl, sym, ap, ◌∙◌, arith}
+-- What tests of texts, of conditions and of lists tell.
+use Rattle.std.proofs.Common.{◌≡◌, ◌<◌, ℕ, zero, suc, Bool, true, false, not, ◌||◌, List, [], ◌∷◌, ◌++◌, length, Some, refl, sym, ap, ◌∙◌, arith}
+use Rattle.std.specs.Prelude.{slice_get, slice_set, nat_eq}
+use Rattle.std.specs.List.{list_any}
+use Rattle.std.specs.Cmp.Lexicographic.{pointwise}
+use Rattle.std.proofs.lemmas.Bool.Decides.{nat_tests}
 use Rattle.grammar.specs.Pieces.{Text, same}
-use Rattle.grammar.proofs.Texts.{same_self, same_equal}
-use Rattle.csv.specs.Records.{field_at}
-use Rattle.plc_rows.specs.Rows.{header, cell, row_length, header_fault, row_fault}
-use Rattle.plc_rows.proofs.Remaining.{none_some, one_some}
+use Rattle.grammar.proofs.Texts.{same_is, same_self}
 
-same_text : (x y : Text) → x ≡ y → same x y ≡ true
+pub same_text : (x y : Text) → x ≡ y → same x y ≡ true
 same_text x y e = ap (same x) (sym e) ∙ same_self x
 
-other_text : (x y : Text) → (x ≡ y → ⊥) → same x y ≡ false
-other_text x y n = go (same x y) refl
+pub was_false : (b : Bool) → not b ≡ true → b ≡ false
+was_false true e = absurd cc
+was_false false e = refl
+
+-- the answer of a comparison of a text with a word
+pub told_alike : (b : Bool) (x y w : Text) (a : Bool) → b ≡ pointwise nat_eq x y → y ≡ w → b ≡ a → same x w ≡ a
+told_alike b x y w a e is h = ap (same x) (sym is) ∙ sym (same_is x y) ∙ sym e ∙ h
+
+-- the answer of a test for difference
+pub told_other : (b : Bool) (x y w : Text) (a : Bool) → b ≡ not (pointwise nat_eq x y) → x ≡ w → b ≡ a → same w y ≡ not a
+told_other b x y w a e is h = ap (λ z. same z y) (sym is) ∙ sym (same_is x y) ∙ twice (pointwise nat_eq x y) ∙ ap not (sym e ∙ h)
   where
-    go : (b : Bool) → same x y ≡ b → b ≡ false
-    go true e = absurd (n (same_equal x y e))
+    twice : (c : Bool) → c ≡ not (not c)
+    twice true = refl
+    twice false = refl
+
+pub same_numbers : (n : ℕ) → nat_eq n n ≡ true
+same_numbers n = grind (arith, nat_tests)
+
+pub other_numbers : (m n : ℕ) → (m ≡ n → ⊥) → nat_eq m n ≡ false
+other_numbers m n h = go (nat_eq m n) refl
+  where
+    go : (b : Bool) → nat_eq m n ≡ b → b ≡ false
+    go true e = absurd (h (grind (arith, nat_tests)))
     go false e = refl
 
--- what a test for difference tells
-pub is_other : (b : Bool) → true ≡ not b → false ≡ b
-is_other true e = absurd cc
-is_other false e = refl
+-- ---- lists
 
-pub is_same : (b : Bool) → false ≡ not b → true ≡ b
-is_same true e = refl
-is_same false e = absurd cc
+pub no_front : {A : Type 0} (xs ys : List A) → xs ++ ys ≡ [] → xs ≡ []
+no_front [] ys e = refl
+no_front (x ∷ xs) ys e = absurd cc
 
--- ---- the header
+pub no_back : {A : Type 0} (xs ys : List A) → xs ++ ys ≡ [] → ys ≡ []
+no_back [] ys e = e
+no_back (x ∷ xs) ys e = absurd cc
 
-pub no_header : (fs : List Text) → field_at fs 0 ≡ None → header_fault fs ≡ Some (header 1)
-unfolding field_at
-no_header [] e = refl
-no_header (f ∷ fs) e = none_some (sym e)
+-- a test that an element passes, and one more element
+pub any_more : {A : Type 0} (test : A → Bool) (xs : List A) (x : A) → list_any test (xs ++ x ∷ []) ≡ (list_any test xs || test x)
+any_more test [] x = go (test x)
+  where
+    go : (b : Bool) → (b || false) ≡ (false || b)
+    go true = refl
+    go false = refl
+any_more test (y ∷ xs) x = go (test y) (any_more test xs x)
+  where
+    go : (b : Bool) → list_any test (xs ++ x ∷ []) ≡ (list_any test xs || test x) → (b || list_any test (xs ++ x ∷ [])) ≡ ((b || list_any test xs) || test x)
+    go true e = refl
+    go false e = e
 
-pub other_header : (fs : List Text) (name : Text) → field_at fs 0 ≡ Some name → (name ≡ codes "scan" → ⊥) → header_fault fs ≡ Some (header 1)
-unfolding field_at
-other_header [] name e n = refl
-other_header (f ∷ []) name e n = let other = other_text f (codes "scan") (λ q. n (sym (one_some e) ∙ q)) in rw other refl
-other_header (f ∷ g ∷ fs) name e n = let other = other_text f (codes "scan") (λ q. n (sym (one_some e) ∙ q)) in rw other refl
+pub either_left : (a b : Bool) → a ≡ true → (a || b) ≡ true
+either_left true b e = refl
+either_left false b e = absurd cc
 
-pub long_header : (fs : List Text) (name : Text) → field_at fs 0 ≡ Some name → name ≡ codes "scan" → 1 < length fs → header_fault fs ≡ Some (header 2)
-unfolding field_at
-long_header [] name e n l = absurd (omega (arith, l))
-long_header (f ∷ []) name e n l = absurd (omega (arith, l))
-long_header (f ∷ g ∷ fs) name e n l = let is = same_text f (codes "scan") (one_some e ∙ n) in rw is refl
+pub either_right : (a b : Bool) → b ≡ true → (a || b) ≡ true
+either_right true b e = refl
+either_right false b e = e
 
-pub good_header : (fs : List Text) (name : Text) → field_at fs 0 ≡ Some name → name ≡ codes "scan" → length fs ≤ 1 → header_fault fs ≡ None
-unfolding field_at
-good_header [] name e n l = none_some e
-good_header (f ∷ []) name e n l = let is = same_text f (codes "scan") (one_some e ∙ n) in rw is refl
-good_header (f ∷ g ∷ fs) name e n l = absurd (omega (arith, l))
+pub get_set_same : {A : Type 0} (xs : List A) (i : ℕ) (x : A) → i < length xs → slice_get (slice_set xs i x) i ≡ Some x
+get_set_same [] i x l = absurd (omega (arith, l))
+get_set_same (y ∷ xs) zero x l = refl
+get_set_same (y ∷ xs) (suc i) x l = get_set_same xs i x (omega (arith, l))
 
--- ---- a row
+pub get_set_other : {A : Type 0} (xs : List A) (i j : ℕ) (x : A) → (j ≡ i → ⊥) → slice_get (slice_set xs i x) j ≡ slice_get xs j
+get_set_other [] i j x n = refl
+get_set_other (y ∷ xs) zero zero x n = absurd (n refl)
+get_set_other (y ∷ xs) zero (suc j) x n = refl
+get_set_other (y ∷ xs) (suc i) zero x n = refl
+get_set_other (y ∷ xs) (suc i) (suc j) x n = get_set_other xs i j x (λ e. n (ap suc e))
 
-pub no_row : (k : ℕ) (fs : List Text) → field_at fs 0 ≡ None → row_fault k fs ≡ Some (row_length k)
-unfolding field_at
-no_row k [] e = refl
-no_row k (f ∷ fs) e = none_some (sym e)
+pub length_set : {A : Type 0} (xs : List A) (i : ℕ) (x : A) → length (slice_set xs i x) ≡ length xs
+length_set [] i x = refl
+length_set (y ∷ xs) zero x = refl
+length_set (y ∷ xs) (suc i) x = ap suc (length_set xs i x)
 
-pub long_row : (k : ℕ) (fs : List Text) → 1 < length fs → row_fault k fs ≡ Some (row_length k)
-long_row k [] l = absurd (omega (arith, l))
-long_row k (f ∷ []) l = absurd (omega (arith, l))
-long_row k (f ∷ g ∷ fs) l = refl
-
-pub other_row : (k : ℕ) (fs : List Text) (field : Text) → field_at fs 0 ≡ Some field → (field ≡ decimal k → ⊥) → length fs ≤ 1 → row_fault k fs ≡ Some (cell k 1)
-unfolding field_at
-other_row k [] field e n l = none_some e
-other_row k (f ∷ []) field e n l = let other = other_text f (decimal k) (λ q. n (sym (one_some e) ∙ q)) in rw other refl
-other_row k (f ∷ g ∷ fs) field e n l = absurd (omega (arith, l))
-
-pub good_row : (k : ℕ) (fs : List Text) (field : Text) → field_at fs 0 ≡ Some field → field ≡ decimal k → length fs ≤ 1 → row_fault k fs ≡ None
-unfolding field_at
-good_row k [] field e n l = none_some e
-good_row k (f ∷ []) field e n l = let is = same_text f (decimal k) (one_some e ∙ n) in rw is refl
-good_row k (f ∷ g ∷ fs) field e n l = absurd (omega (arith, l))
+-- lists with the same elements at each place are one
+pub same_places : {A : Type 0} (xs ys : List A) → ((i : ℕ) → slice_get xs i ≡ slice_get ys i) → xs ≡ ys
+same_places [] [] h = refl
+same_places [] (y ∷ ys) h = absurd (let e = h 0 in cc)
+same_places (x ∷ xs) [] h = absurd (let e = h 0 in cc)
+same_places (x ∷ xs) (y ∷ ys) h =
+    let head : x ≡ y = (let e = h 0 in cc) in
+    let tail : xs ≡ ys = same_places xs ys (λ i. h (suc i)) in
+    cc

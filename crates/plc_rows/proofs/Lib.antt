@@ -1,4 +1,11 @@
 pub mod Remaining
 pub mod Checking
+pub mod Finding
+pub mod ColumnLaws
+pub mod HeaderLaws
+pub mod CellLaws
+pub mod RowLaws
+pub mod Sizes
 pub mod Whole
 pub mod Lines
+pub mod Examples

@@ -1,4 +1,5 @@
 pub mod Rows
 pub mod Table
 pub mod Told
+pub mod Columns
 pub mod Left

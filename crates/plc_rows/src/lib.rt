@@ -1,7 +1,9 @@
 //! Rows files, and the table of the outputs of scans.
 #![tactic(auto)]
 
+mod cells;
 mod error;
+mod header;
 mod reading;
 mod records;
 mod row;
