@@ -25,7 +25,7 @@
 //! - `plant`, `numbers`, `emit TEXT | UNC CON`: the plant of a CIF source, and its program;
 //! - `read`, `print`, `check PROGRAM | NAME ..`, `scan PROGRAM | VALUE .. | ..`: a program of Structured Text, and a machine before
 //!   and after each scan, `-` for a row without values;
-//! - `rows TEXT`: a rows file;
+//! - `rows TEXT | PROGRAM`: a rows file;
 //! - `table PROGRAM | VALUE .. | ..`: the output table of a program whose outputs have these values after each scan, `-` for none;
 //! - `name LETTER NUMBER | TEXT`: the name of a variable that stands for what has that number and that path;
 //! - `interval OPERATOR | LO HI [LO HI]`, `list ITEM ..`, `text TEXT | FRONT | NUMBER`: intervals, lists and texts;

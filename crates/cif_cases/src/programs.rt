@@ -1,8 +1,6 @@
 //! Cases of Structured Text programs, each written as a text or as a tree.
 
-ghost use Rattle.std.specs.Prelude.{◌≡◌, ◌≤◌, [], length};
-ghost use Rattle.st_ast.specs.Interface.{numbers_of};
-ghost use Rattle.st_ast.specs.Scan.{is_input};
+ghost use Rattle.std.specs.Prelude.{◌≤◌, length};
 
 use crate::building::built;
 use crate::counting::count;
@@ -258,30 +256,53 @@ fn put_row_counts(page: &mut String, rows: &[Row]) -> Put {
         cells = cells.saturating_add(row.cells.len());
     }
     let count = rows.len();
-    write!(page, "  rows {count}, cells {cells}\n")
+    write!(page, "  rows {count}, cells {cells}")
+}
+
+/// The values of each row, where there are any.
+fn put_row_values(page: &mut String, rows: &[Row]) -> Put {
+    for row in rows {
+        if !row.cells.is_empty() {
+            page.push_str(" |")?;
+        }
+        for value in row.cells.as_slice() {
+            put_value(page, *value)?;
+        }
+    }
+    page.push('\n')
 }
 
 fn put_read_rows(alloc: Global, page: &mut String, program: &Checked, text: &[u8]) -> Put
-    requires size { length text.now ≤ 67108864 }
-    requires no_inputs { numbers_of is_input 0 program.now.vars ≡ [] }
+    requires { length text.now ≤ 67108864 }
 {
     match read_rows(alloc, text, program) {
         Err(error) => put_row_refusal(page, error),
-        Ok(rows) => put_row_counts(page, rows.rows.as_slice()),
+        Ok(rows) => {
+            put_row_counts(page, rows.rows.as_slice())?;
+            put_row_values(page, rows.rows.as_slice())
+        }
     }
 }
 
 fn put_rows(alloc: Global, page: &mut String, program: &Checked, text: &[u8]) -> Put {
-    if text.len() > MOST_ROWS || !program.inputs().is_empty() {
+    if text.len() > MOST_ROWS {
         return page.push_str("  too long\n");
     }
     put_read_rows(alloc, page, program, text)
 }
 
-/// `rows TEXT`: how many rows and cells a rows file has, for a program without inputs.
+/// The program whose rows are read: one without inputs where the case names none.
+fn program_with_rows<'a>(fields: &Fields<'a>) -> &'a str {
+    match fields.written(1) {
+        "" => "PROGRAM p END_PROGRAM",
+        program => program,
+    }
+}
+
+/// `rows TEXT | PROGRAM`: how many rows and cells a rows file has for the program, and the values.
 pub fn rows_case(fields: &Fields<'_>, page: &mut String) -> Result<(), Fault> {
     let text = fields.text()?;
-    match checked_of(fields, "PROGRAM p END_PROGRAM") {
+    match checked_of(fields, program_with_rows(fields)) {
         Err(why) => put_no_program(page, why),
         Ok(program) => Ok(put_rows(fields.alloc, page, &program, text.as_slice())?),
     }

@@ -20,7 +20,7 @@ use Rattle.cif_tool.specs.declared.status.Refusal.{Refusal}
 use Rattle.cif_tool.specs.declared.status.StRefusal.{StRefusal}
 use Rattle.cif_tool.specs.Command.{Generate, Replay, Asked, check, generate, replay, IsAsked, IsReplay}
 use Rattle.cif_tool.specs.Limits.{source_limit, st_limit, rows_limit}
-use Rattle.cif_tool.specs.Replaying.{Reads, AllEnd, ComesTo, IsRowRefused, StopsAt}
+use Rattle.cif_tool.specs.Replaying.{Reads, AllEnd, ComesTo, AreRowsRefused, IsRowRefused, StopsAt}
 use Rattle.cif_tool.specs.Answers.{NamesSource, NamesBoth, Quiet, IsUnlessMemory, source_of, file_at, limit_at, Call, Stops, Wrote, Ran, status_of_scan}
 use Rattle.cif_tool.proofs.ReplayLemmas.{refused_reads_none, one_row_error, rows_not_refused, one_rows, comes_once, ended_stops_none, one_stop, stopped_stops, out_of_turns_stops}
 use Rattle.cif_tool.proofs.SourceLemmas.{refused_reads_no_plant}
@@ -255,7 +255,7 @@ module _ (c : Call) (s r : Status) (ran : Ran c s) (same : IsUnlessMemory r s) w
       -- with files of which none fails or is too long, and a program that is read
       both : {B : Type 0} (t : Status) → s ≡ t → Stopped (replay x) t
           → (s ≡ status.Memory → B)
-          → ((why : RowErr) → s ≡ status.RowRefused why → IsRowRefused rows why → B)
+          → ((why : RowErr) → s ≡ status.RowRefused why → AreRowsRefused st rows why → B)
           → ((k : ℕ) (f : ScanErr) → s ≡ status.ScanFault k f → (f ≡ scan.Budget → ⊥) → StopsAt st rows k (stopped f) → B)
           → ((k : ℕ) → s ≡ status.Budget k → StopsAt st rows k OutOfTurns → B)
           → B
@@ -274,21 +274,28 @@ module _ (c : Call) (s r : Status) (ran : Ran c s) (same : IsUnlessMemory r s) w
       both status.Usage is h m a b d = absurd h
       both status.WriteFault is h m a b d = absurd h
 
-      pub other_rows_are_refused : (why : RowErr) → IsRowRefused rows why → IsUnlessMemory r (status.RowRefused why)
+      -- what is said of the program that is read is said of this one
+      of_this : (P : Program → Type 0) → (q : Program) → ((q' : Program) → ReadsAsProgram st q' → q' ≡ q) → P q → P p
+      of_this P q one h = subst P (sym (one p reads)) h
+
+      not_both : (why : RowErr) → IsRowRefused p rows why → (q : Program) → ((q' : Program) → ReadsAsProgram st q' → q' ≡ q) → (us : List (List ℤ)) → RowsOf q.vars rows us → ⊥
+      not_both why broken q one us of = rows_not_refused p rows us why (of_this (λ z. RowsOf z.vars rows us) q one of) broken
+
+      pub other_rows_are_refused : (why : RowErr) → IsRowRefused p rows why → IsUnlessMemory r (status.RowRefused why)
       other_rows_are_refused why broken = elim (of_asked c s r ran same (replay x) names.0) [
         | inl w ↦ both s refl w (λ is. inr (wanted is))
-            (λ other is h. answer (status.RowRefused why) (is ∙ ap (λ e. status.RowRefused e) (one_row_error rows other why h broken)))
-            (λ k f is nb h. absurd (rows_not_refused rows h.2.0 why h.2.1 broken))
-            (λ k is h. absurd (rows_not_refused rows h.2.0 why h.2.1 broken))
-        | inr w ↦ let q = (w.1.1 st rows names.1 names.2).1 in absurd (rows_not_refused rows q.2.0 why q.2.1 broken)
+            (λ other is h. answer (status.RowRefused why) (is ∙ ap (λ e. status.RowRefused e) (one_row_error p rows other why (of_this (λ z. IsRowRefused z rows other) h.0 h.3 h.2) broken)))
+            (λ k f is nb h. absurd (not_both why broken h.0 h.3 h.2.0 h.2.1))
+            (λ k is h. absurd (not_both why broken h.0 h.3 h.2.0 h.2.1))
+        | inr w ↦ let q = (w.1.1 st rows names.1 names.2).1 in absurd (not_both why broken q.0 q.3 q.2.0 q.2.1)
       ]
 
-      module _ (rs : List (List ℤ)) (are : RowsOf rows rs) where
+      module _ (rs : List (List ℤ)) (are : RowsOf p.vars rows rs) where
         -- what a program and rows come to is said of these
         these : (P : Program → List (List ℤ) → Type 0) → (q : Program) → ReadsAsProgram st q → ((q' : Program) → ReadsAsProgram st q' → q' ≡ q)
-            → (us : List (List ℤ)) → RowsOf rows us → P q us → P p rs
+            → (us : List (List ℤ)) → RowsOf q.vars rows us → P q us → P p rs
         these P q rq one us ru h =
-            subst (λ (l : List (List ℤ)). P p l) (one_rows rows us rs ru are) (subst (λ (z : Program). P z us) (sym (one p reads)) h)
+            subst (λ (l : List (List ℤ)). P p l) (one_rows p rows us rs (of_this (λ z. RowsOf z.vars rows us) q one ru) are) (subst (λ (z : Program). P z us) (sym (one p reads)) h)
 
         comes : (k : ℕ) (o : Outcome) → StopsAt st rows k o → ComesTo p (start_memory p) rs k o
         comes k o h = these (λ q us. ComesTo q (start_memory q) us k o) h.0 h.1 h.3 h.2.0 h.2.1 h.2.2
@@ -296,7 +303,7 @@ module _ (c : Call) (s r : Status) (ran : Ran c s) (same : IsUnlessMemory r s) w
         pub stopped_scan_is_told : (k : ℕ) (e : ScanErr) → ComesTo p (start_memory p) rs k (stopped e) → IsUnlessMemory r (status_of_scan k e)
         stopped_scan_is_told k e so = elim (of_asked c s r ran same (replay x) names.0) [
           | inl w ↦ both s refl w (λ is. inr (wanted is))
-              (λ why is h. absurd (rows_not_refused rows rs why are h))
+              (λ why is h. absurd (rows_not_refused p rows rs why are (of_this (λ z. IsRowRefused z rows why) h.0 h.3 h.2)))
               (λ j f is nb h. let q = comes_once p (start_memory p) rs j k (stopped f) (stopped e) (comes j (stopped f) h) so (stopped_stops f) (stopped_stops e) in
               told_as j k f e q.0 (one_stop f e q.1) nb is)
               (λ j is h. let q = comes_once p (start_memory p) rs j k OutOfTurns (stopped e) (comes j OutOfTurns h) so out_of_turns_stops (stopped_stops e) in
@@ -314,7 +321,7 @@ module _ (c : Call) (s r : Status) (ran : Ran c s) (same : IsUnlessMemory r s) w
         pub replay_is_done : (Rose c.out_faults c.out_faults_after → ⊥) → AllEnd p rs → IsUnlessMemory r status.Done
         replay_is_done still all = elim (of_asked c s r ran same (replay x) names.0) [
           | inl w ↦ both s refl w (λ is. inr (wanted is))
-              (λ why is h. absurd (rows_not_refused rows rs why are h))
+              (λ why is h. absurd (rows_not_refused p rows rs why are (of_this (λ z. IsRowRefused z rows why) h.0 h.3 h.2)))
               (λ j f is nb h. absurd (ended_stops_none p (start_memory p) rs j (stopped f) all (comes j (stopped f) h) (stopped_stops f)))
               (λ j is h. absurd (ended_stops_none p (start_memory p) rs j OutOfTurns all (comes j OutOfTurns h) out_of_turns_stops))
           | inr w ↦ finished still w.0 s refl w.2

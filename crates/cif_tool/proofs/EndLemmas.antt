@@ -5,12 +5,13 @@ use Rattle.std.proofs.lemmas.Bool.Decides.{nat_tests}
 use Rattle.grammar.specs.Pieces.{Text}
 use Rattle.cif_io.specs.Faults.{Rose}
 use Rattle.st_ast.specs.Tree.{Program}
+use Rattle.st_ast.specs.declared.tree.StVar.{StVar}
 use Rattle.st_ast.specs.Exec.{OutOfTurns}
 use Rattle.st_ast.specs.ReadsAs.{ReadsAsProgram}
 use Rattle.st_read.proofs.Whole.{one-program}
 use Rattle.st_read.proofs.Told.{one_derives, reads_derive}
 use Rattle.st_scan.specs.Endings.{stopped}
-use Rattle.plc_rows.specs.Rows.{RowFault, too_many_rows, most_rows, or_else, row_fault, rows_fault, header_fault, file_fault, first_row_fault, empty_rows, rows_after, records_of, RowsOf}
+use Rattle.plc_rows.specs.Rows.{RowFault, too_many_rows, most_rows, or_else, row_fault, rows_fault, header_fault, file_fault, first_row_fault, row_values, rows_after, records_of, RowsOf}
 use Rattle.plc_rows.specs.Told as told
 use Rattle.plc_rows.specs.declared.row.Row.{Row}
 use Rattle.plc_rows.specs.declared.error.RowErr.{RowErr}
@@ -32,48 +33,50 @@ none_left : (a b : Option RowFault) → or_else a b ≡ None → b ≡ None
 none_left None b e = e
 none_left (Some f) b e = absurd cc
 
--- the rows from the row k on are none, or end before the most
-abbrev FewFrom : ℕ → List (List Text) → Type 0
-FewFrom k rs = (k + length (empty_rows rs) ≤ most_rows + 1) ⊎ (length (empty_rows rs) ≡ 0)
-
-few_from : (k : ℕ) (rs : List (List Text)) → rows_fault k rs ≡ None → FewFrom k rs
-few_from k [] e = inr refl
-few_from k (r ∷ rs) e = inl (go (nat_lt most_rows k) refl (few_from (suc k) rs) e)
-  where
-    go : (b : Bool) → nat_lt most_rows k ≡ b → (rows_fault (suc k) rs ≡ None → FewFrom (suc k) rs)
-        → (if b then Some (too_many_rows (most_rows + 1)) else or_else (row_fault k r) (rows_fault (suc k) rs)) ≡ None
-        → k + suc (length (empty_rows rs)) ≤ most_rows + 1
-    go true is more h = absurd cc
-    go false is more h = elim (more (none_left (row_fault k r) (rows_fault (suc k) rs) h)) [
-      | inl q ↦ omega (arith, q)
-      | inr q ↦ let short : k ≤ most_rows = grind (arith, nat_tests) in omega (arith, q, short)
-    ]
-
-few_in_file : (rs : List (List Text)) → file_fault rs ≡ None → length (rows_after rs) ≤ most_rows
-few_in_file [] e = absurd cc
-few_in_file (h ∷ rs) e = elim (few_from 1 rs (none_left (header_fault h) (rows_fault 1 rs) e)) [ inl q ↦ omega (arith, q) | inr q ↦ omega (arith, q) ]
-
 length_of : {A B : Type 0} (f : A → B) (xs : List A) → length (map f xs) ≡ length xs
 length_of f [] = refl
 length_of f (x ∷ xs) = ap suc (length_of f xs)
 
+-- the rows from the row k on are none, or end before the most
+abbrev FewFrom : ℕ → List (List Text) → Type 0
+FewFrom k rs = (k + length rs ≤ most_rows + 1) ⊎ (length rs ≡ 0)
+
+few_from : (vars : List StVar) (names : List Text) (k : ℕ) (rs : List (List Text)) → rows_fault vars names k rs ≡ None → FewFrom k rs
+few_from vars names k [] e = inr refl
+few_from vars names k (r ∷ rs) e = inl (go (nat_lt most_rows k) refl (few_from vars names (suc k) rs) e)
+  where
+    go : (b : Bool) → nat_lt most_rows k ≡ b → (rows_fault vars names (suc k) rs ≡ None → FewFrom (suc k) rs)
+        → (if b then Some (too_many_rows (most_rows + 1)) else or_else (row_fault vars names k r) (rows_fault vars names (suc k) rs)) ≡ None
+        → k + suc (length rs) ≤ most_rows + 1
+    go true is more h = absurd cc
+    go false is more h = elim (more (none_left (row_fault vars names k r) (rows_fault vars names (suc k) rs) h)) [
+      | inl q ↦ omega (arith, q)
+      | inr q ↦ let short : k ≤ most_rows = grind (arith, nat_tests) in omega (arith, q, short)
+    ]
+
+few_in_file : (vars : List StVar) (rs : List (List Text)) → file_fault vars rs ≡ None → length (rows_after vars rs) ≤ most_rows
+few_in_file vars [] e = absurd cc
+few_in_file vars (names ∷ rs) e =
+    let same = length_of (row_values vars names) rs in
+    elim (few_from vars names 1 rs (none_left (header_fault vars names) (rows_fault vars names 1 rs) e)) [ inl q ↦ omega (arith, q, same) | inr q ↦ omega (arith, q, same) ]
+
 -- rows that break no rule are few
-pub few_rows : (text : Text) (rows slice : List Row) → RowsOf text (told.cells_of rows) → slice ≡ rows → length slice ≤ 100000
+pub few_rows : (vars : List StVar) (text : Text) (rows slice : List Row) → RowsOf vars text (told.cells_of rows) → slice ≡ rows → length slice ≤ 100000
 unfolding RowsOf first_row_fault
-few_rows text rows slice of is =
-    let few = few_in_file (records_of text) of.0 in
-    let same : length (told.cells_of rows) ≡ length (rows_after (records_of text)) = ap length of.1 in
+few_rows vars text rows slice of is =
+    let few = few_in_file vars (records_of text) of.0 in
+    let same : length (told.cells_of rows) ≡ length (rows_after vars (records_of text)) = ap length of.1 in
     let also = length_of (λ (r : Row). r.cells) rows in
     rw is (omega (arith, few, same, also))
 
-pub row_ends : (p : Program) (text : Text) (e : RowErr) (s : Status) → told.IsFirst text e → s ≡ row_status_of e → RowsEnds p text s
+pub row_ends : (p : Program) (text : Text) (e : RowErr) (s : Status) → told.IsFirst p.vars text e → s ≡ row_status_of e → RowsEnds p text s
 row_ends p text (row.Header c) s h e = subst (RowsEnds p text) (sym e) (λ q. cc, h)
 row_ends p text (row.Cell r c) s h e = subst (RowsEnds p text) (sym e) (λ q. cc, h)
 row_ends p text (row.RowLength r) s h e = subst (RowsEnds p text) (sym e) (λ q. cc, h)
 row_ends p text (row.TooManyRows n) s h e = subst (RowsEnds p text) (sym e) (λ q. cc, h)
 row_ends p text row.Memory s h e = subst (RowsEnds p text) (sym e) tt
 
-ends_of : (p : Program) (text : Text) (rs : List (List ℤ)) → RowsOf text rs → (s : Status) → ScanEnds p rs s → RowsEnds p text s
+ends_of : (p : Program) (text : Text) (rs : List (List ℤ)) → RowsOf p.vars text rs → (s : Status) → ScanEnds p rs s → RowsEnds p text s
 ends_of p text rs of (status.ScanFault k e) h = (h.0, (rs, of, h.1))
 ends_of p text rs of (status.Budget k) h = (rs, of, h)
 ends_of p text rs of status.Memory h = tt
@@ -86,12 +89,12 @@ ends_of p text rs of (status.Refused why) h = absurd h
 ends_of p text rs of (status.StRefused why) h = absurd h
 ends_of p text rs of (status.RowRefused why) h = absurd h
 
-pub scan_ends : {A : Type 0} (p : Program) (text : Text) (rows slice : List Row) (r : Result A Ended) → RowsOf text (told.cells_of rows) → slice ≡ rows
+pub scan_ends : {A : Type 0} (p : Program) (text : Text) (rows slice : List Row) (r : Result A Ended) → RowsOf p.vars text (told.cells_of rows) → slice ≡ rows
     → IfErr r (λ e. ScanEnds p (told.cells_of slice) e.status) → IfErr r (λ e. RowsEnds p text e.status)
 scan_ends p text rows slice (Ok x) of is h = tt
 scan_ends p text rows slice (Err e) of is h = ends_of p text (told.cells_of rows) of e.status (subst (λ (l : List Row). ScanEnds p (told.cells_of l) e.status) is h)
 
-pub is_table : {A E : Type 0} (bytes : A → Text) (p : Program) (text : Text) (rows slice : List Row) (r : Result A E) → RowsOf text (told.cells_of rows) → slice ≡ rows
+pub is_table : {A E : Type 0} (bytes : A → Text) (p : Program) (text : Text) (rows slice : List Row) (r : Result A E) → RowsOf p.vars text (told.cells_of rows) → slice ≡ rows
     → IfOk r (λ t. AllEnd p (told.cells_of slice)) → IfOk r (λ t. bytes t ≡ table_of p (told.cells_of slice)) → IfOk r (λ t. IsTableOf p text (bytes t))
 is_table bytes p text rows slice (Ok t) of is all eq =
     (told.cells_of rows, of, subst (λ (l : List Row). AllEnd p (told.cells_of l)) is all, subst (λ (l : List Row). bytes t ≡ table_of p (told.cells_of l)) is eq)
@@ -135,12 +138,7 @@ module _ (content : Content) (r : Replay) (text : Text) (p : Program) (whole : I
     answers table h = of_both (λ q us. IsTableOf q us table) h
 
     pub rows_stop : (before after most : Text → ℕ) (s : Status) → RowsEnds p rows s → Stops content before after most (replay r) s
-    rows_stop before after most (status.RowRefused e) h = (
-      reads_first,
-      λ st us is also.
-          let rest = same_bytes (content r.rows) rows us whole_rows also in
-          (subst (λ t. length t ≤ rows_limit) rest few, subst (λ t. IsRowRefused t e) rest h),
-    )
+    rows_stop before after most (status.RowRefused e) h = of_both (λ q us. IsRowRefused q us e) h
     rows_stop before after most (status.ScanFault k e) h = (h.0, of_both (λ q us. Reaches q us k (stopped e)) h.1)
     rows_stop before after most (status.Budget k) h = of_both (λ q us. Reaches q us k OutOfTurns) h
     rows_stop before after most status.Memory h = tt

@@ -6,12 +6,11 @@ use Rattle.st_ast.specs.Values.{Memory}
 use Rattle.st_ast.specs.Exec.{Outcome, Ended, Faulted, OutOfTurns}
 use Rattle.st_ast.specs.Scan.{scan_of, later_memories}
 use Rattle.st_ast.specs.Checks.{CheckFault, check_faults, stms_count}
-use Rattle.st_ast.specs.Interface.{numbers_of}
 use Rattle.st_ast.specs.Scan.{is_input}
 use Rattle.st_ast.specs.View.{view, view_stmts}
 use Rattle.st_ast.specs.declared.tree.Program as rust
 use Rattle.st_read.specs.Derives.{Derives}
-use Rattle.st_read.proofs.Programs.{program_small, program_no_inputs}
+use Rattle.st_read.proofs.Programs.{program_small}
 use Rattle.cif_tool.specs.Codes.{variable_of_check}
 use Rattle.st_ast.specs.ReadsAs.{ReadsAsProgram}
 use Rattle.st_read.proofs.RefusalLaws.{refused_derives_none}
@@ -56,9 +55,6 @@ few_variables text q d h = let k = (program_small text (view q) d).0 in omega (a
 pub few_statements : (text : Text) (q : rust.Program) → Derives text (view q) → length text ≤ 16777216 → stms_count (view_stmts q.body) < 2 ^ 32
 few_statements text q d h = let k = (program_small text (view q) d).1 in omega (arith, h, k)
 
-pub none_of_inputs : (text : Text) (q c : rust.Program) → Derives text (view q) → c ≡ q → numbers_of is_input 0 c.vars ≡ []
-none_of_inputs text q c d e = ap (λ (x : rust.Program). numbers_of is_input 0 x.vars) e ∙ program_no_inputs text (view q) d
-
 pub reads_checked : (text : Text) (q c : rust.Program) → Derives text (view q) → c ≡ q → check_faults (view q) ≡ [] → ReadsAsProgram text (view c)
 reads_checked text q c d e f = subst (λ (x : rust.Program). ReadsAsProgram text (view x)) (sym e) (record { tokens = d.tokens; are_tokens = d.are_tokens; derived = d.derived; checked = f })
 
@@ -86,29 +82,29 @@ error_of (cell r c) = row.Cell r c
 error_of (row_length r) = row.RowLength r
 error_of (too_many_rows n) = row.TooManyRows n
 
-fault_told : (text : Text) (e : RowErr) → IsRowRefused text e → (f : RowFault) × (first_row_fault text ≡ Some f) × (e ≡ error_of f)
-fault_told text (row.Header c) h = (header c, h.1, refl)
-fault_told text (row.Cell r c) h = (cell r c, h.1, refl)
-fault_told text (row.RowLength r) h = (row_length r, h.1, refl)
-fault_told text (row.TooManyRows n) h = (too_many_rows n, h.1, refl)
-fault_told text row.Memory h = absurd (h.0 refl)
+fault_told : (p : Program) (text : Text) (e : RowErr) → IsRowRefused p text e → (f : RowFault) × (first_row_fault p.vars text ≡ Some f) × (e ≡ error_of f)
+fault_told p text (row.Header c) h = (header c, h.1, refl)
+fault_told p text (row.Cell r c) h = (cell r c, h.1, refl)
+fault_told p text (row.RowLength r) h = (row_length r, h.1, refl)
+fault_told p text (row.TooManyRows n) h = (too_many_rows n, h.1, refl)
+fault_told p text row.Memory h = absurd (h.0 refl)
 
 -- one rule is the first that is broken
-pub one_row_error : (text : Text) (a b : RowErr) → IsRowRefused text a → IsRowRefused text b → a ≡ b
-one_row_error text a b h g =
-    let x = fault_told text a h in
-    let y = fault_told text b g in
+pub one_row_error : (p : Program) (text : Text) (a b : RowErr) → IsRowRefused p text a → IsRowRefused p text b → a ≡ b
+one_row_error p text a b h g =
+    let x = fault_told p text a h in
+    let y = fault_told p text b g in
     let same : x.0 ≡ y.0 = cc in
     x.2 ∙ ap error_of same ∙ sym y.2
 
 -- rows break no rule
-pub rows_not_refused : (text : Text) (rs : List (List ℤ)) (e : RowErr) → RowsOf text rs → IsRowRefused text e → ⊥
+pub rows_not_refused : (p : Program) (text : Text) (rs : List (List ℤ)) (e : RowErr) → RowsOf p.vars text rs → IsRowRefused p text e → ⊥
 unfolding RowsOf
-rows_not_refused text rs e of h = let x = fault_told text e h in let none = of.0 in absurd cc
+rows_not_refused p text rs e of h = let x = fault_told p text e h in let none = of.0 in absurd cc
 
-pub one_rows : (text : Text) (a b : List (List ℤ)) → RowsOf text a → RowsOf text b → a ≡ b
+pub one_rows : (p : Program) (text : Text) (a b : List (List ℤ)) → RowsOf p.vars text a → RowsOf p.vars text b → a ≡ b
 unfolding RowsOf
-one_rows text a b h g = h.1 ∙ sym g.1
+one_rows p text a b h g = h.1 ∙ sym g.1
 
 -- ---- scans
 

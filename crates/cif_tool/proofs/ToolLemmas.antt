@@ -17,7 +17,7 @@ use Rattle.cif_tool.specs.declared.status.StRefusal.{StRefusal}
 use Rattle.cif_form.specs.Source.{ReadsAsPlant}
 use Rattle.cif_tool.specs.Command.{Check, Generate, Replay, Asked, check, generate, replay, IsAsked, IsCheck, IsReplay}
 use Rattle.cif_tool.specs.Limits.{st_limit}
-use Rattle.cif_tool.specs.Replaying.{IsStRefused, IsRowRefused, StopsAt, IsTableFor}
+use Rattle.cif_tool.specs.Replaying.{IsStRefused, AreRowsRefused, StopsAt, IsTableFor}
 use Rattle.cif_tool.proofs.CommandLemmas.{one_asked}
 use Rattle.cif_tool.specs.Answers.{AsksSource, SourceRefused, accepted, NamesBoth, IsUnlessMemory, Generated, GrewByPart, Output, IsTextOf, IsAnswer, OfBoth, Unread, Overlong, Call, Stops, Wrote, Ran, not_asked, stops, wrote}
 
@@ -185,7 +185,7 @@ module _ (c : Call) (s r : Status) (ran : Ran c s) (same : IsUnlessMemory r s) w
   program_refused why e = replays (status.StRefused why) (stopped_at (status.StRefused why) (λ z. cc) (λ z. cc) (λ t w. w) e) (λ k w. w) (λ g w. w)
 
   pub rows_refused : (why : RowErr) → r ≡ status.RowRefused why → (x : Replay) × IsReplay c.words x
-      × OfBoth c.content x (λ st rows. IsRowRefused rows why)
+      × OfBoth c.content x (λ st rows. AreRowsRefused st rows why)
   rows_refused why e = replays (status.RowRefused why) (stopped_at (status.RowRefused why) (λ z. cc) (λ z. cc) (λ t w. w) e) (λ k w. w) (λ g w. w)
 
   pub scan_fault : (k : ℕ) (f : ScanErr) → r ≡ status.ScanFault k f → (x : Replay) × IsReplay c.words x

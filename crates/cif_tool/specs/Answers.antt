@@ -27,7 +27,7 @@ use Rattle.cif_tool.specs.Codes.{variable_of}
 use Rattle.cif_tool.specs.Command.{Generate, Replay, Asked, check, generate, replay, IsGenerate, IsReplay, IsAsked}
 use Rattle.cif_tool.specs.Limits.{source_limit, st_limit, rows_limit}
 use Rattle.cif_tool.specs.Lines.{line_of}
-use Rattle.cif_tool.specs.Replaying.{Reads, IsStRefused, IsRowRefused, StopsAt, IsTableFor, name_at}
+use Rattle.cif_tool.specs.Replaying.{Reads, IsStRefused, AreRowsRefused, StopsAt, IsTableFor, name_at}
 
 -- what files are told to hold, by their names
 abbrev pub Content : Type 0
@@ -253,7 +253,7 @@ Stops content before after most (replay r) (status.StRefused why) = (st : Text) 
     → (length st ≤ st_limit) × IsStRefused st why
 Stops content before after most (check c) (status.RowRefused why) = ⊥
 Stops content before after most (generate g) (status.RowRefused why) = ⊥
-Stops content before after most (replay r) (status.RowRefused why) = OfBoth content r (λ st rows. IsRowRefused rows why)
+Stops content before after most (replay r) (status.RowRefused why) = OfBoth content r (λ st rows. AreRowsRefused st rows why)
 Stops content before after most (check c) (status.ScanFault k e) = ⊥
 Stops content before after most (generate g) (status.ScanFault k e) = ⊥
 Stops content before after most (replay r) (status.ScanFault k e) = (e ≡ scan.Budget → ⊥) × OfBoth content r (λ st rows. StopsAt st rows k (stopped e))

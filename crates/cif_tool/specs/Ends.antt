@@ -73,7 +73,7 @@ ScanEnds p rows (status.RowRefused why) = ⊥
 
 -- there is no table of the scans over a text of rows
 abbrev pub RowsEnds : Program → Text → Status → Type 0
-RowsEnds p rows (status.RowRefused e) = IsRowRefused rows e
+RowsEnds p rows (status.RowRefused e) = IsRowRefused p rows e
 RowsEnds p rows (status.ScanFault k e) = (e ≡ scan.Budget → ⊥) × Reaches p rows k (stopped e)
 RowsEnds p rows (status.Budget k) = Reaches p rows k OutOfTurns
 RowsEnds p rows status.Memory = Unit {0}

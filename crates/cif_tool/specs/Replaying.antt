@@ -54,20 +54,23 @@ abbrev pub IsStRefused : Text → StRefusal → Type 0
 IsStRefused text (refusal.Text e) = (e ≡ st.Memory → ⊥) × RefusalDue text e
 IsStRefused text (refusal.Check e) = (e ≡ check.Memory → ⊥) × ((p : Program) × Derives text p × IsFirst e (check_faults p))
 
--- the first rule that the rows break
-abbrev pub IsRowRefused : Text → RowErr → Type 0
-IsRowRefused text e = (e ≡ row.Memory → ⊥) × told.IsFirst text e
+-- the first rule that the rows break for the program
+abbrev pub IsRowRefused : Program → Text → RowErr → Type 0
+IsRowRefused p rows e = (e ≡ row.Memory → ⊥) × told.IsFirst p.vars rows e
+
+abbrev pub AreRowsRefused : Text → Text → RowErr → Type 0
+AreRowsRefused st rows e = TheProgram st (λ p. IsRowRefused p rows e)
 
 -- The scan of the program over the row k comes to this, and those before it end.
 abbrev pub Reaches : Program → Text → ℕ → Outcome → Type 0
-Reaches p rows k o = (rs : List (List ℤ)) × RowsOf rows rs × ComesTo p (start_memory p) rs k o
+Reaches p rows k o = (rs : List (List ℤ)) × RowsOf p.vars rows rs × ComesTo p (start_memory p) rs k o
 
 abbrev pub StopsAt : Text → Text → ℕ → Outcome → Type 0
 StopsAt st rows k o = TheProgram st (λ p. Reaches p rows k o)
 
 -- all scans of the program over the rows end, and this is their table
 abbrev pub IsTableOf : Program → Text → Text → Type 0
-IsTableOf p rows text = (rs : List (List ℤ)) × RowsOf rows rs × AllEnd p rs × (text ≡ table_of p rs)
+IsTableOf p rows text = (rs : List (List ℤ)) × RowsOf p.vars rows rs × AllEnd p rs × (text ≡ table_of p rs)
 
 abbrev pub IsTableFor : Text → Text → Text → Type 0
 IsTableFor st rows text = TheProgram st (λ p. IsTableOf p rows text)

@@ -1,9 +1,7 @@
 //! From the bytes of a program and of rows to the table of the scans.
 
 ghost use Rattle.std.specs.Prelude.{◌≡◌, ◌<◌, ◌≤◌, ◌^◌, [], ℕ, List, Some, length, IfOk, IfErr};
-ghost use Rattle.st_ast.specs.Interface.{numbers_of};
 ghost use Rattle.st_ast.specs.ReadsAs.{ReadsAsProgram};
-ghost use Rattle.st_ast.specs.Scan.{is_input};
 ghost use Rattle.st_ast.specs.Tree.{Program};
 ghost use Rattle.st_ast.specs.View.{view};
 ghost use Rattle.st_read.specs.Derives.{Derives};
@@ -121,11 +119,10 @@ fn check_ended(alloc: Global, text: &[u8], error: StCheckErr) -> Ended
 }
 
 /// The program that a text reads as.
-#[tactic(auto, using(crate::proofs::ReplayLemmas::few_variables, crate::proofs::ReplayLemmas::few_statements, crate::proofs::ReplayLemmas::none_of_inputs, crate::proofs::ReplayLemmas::reads_checked))]
+#[tactic(auto, using(crate::proofs::ReplayLemmas::few_variables, crate::proofs::ReplayLemmas::few_statements, crate::proofs::ReplayLemmas::reads_checked))]
 fn program_of(alloc: Global, text: &[u8]) -> Result<Checked, Ended>
     requires { length text.now ≤ 16777216 }
     ensures reads { IfOk result (λ c. ReadsAsProgram text.now (view c)) }
-    ensures no_inputs { IfOk result (λ c. numbers_of is_input 0 c.vars ≡ []) }
     ensures ends { IfErr result (λ e. StEnds text.now e.status) }
     ensures named { IfErr result (λ e. IsNamedBy text.now e.status e.variable) }
 {
@@ -182,7 +179,6 @@ fn table(alloc: Global, program: &Checked, rows: &[Row]) -> Result<Vec<u8>, Ende
 #[tactic(auto, using(crate::proofs::EndLemmas::few_rows, crate::proofs::EndLemmas::row_ends, crate::proofs::EndLemmas::scan_ends, crate::proofs::EndLemmas::is_table))]
 fn rows_table(alloc: Global, program: &Checked, text: &[u8]) -> Result<Vec<u8>, Ended>
     requires size { length text.now ≤ 67108864 }
-    requires no_inputs { numbers_of is_input 0 program.now.vars ≡ [] }
     ensures table { IfOk result (λ table. IsTableOf (view program.now) text.now table.items) }
     ensures ends { IfErr result (λ e. RowsEnds (view program.now) text.now e.status) }
     ensures named { IfErr result (λ e. IsNamed (view program.now) e.status e.variable) }

@@ -24,7 +24,7 @@ ghost use Rattle.cif_tool.specs.Command.{Asked, Check, Replay, IsAsked, IsBounde
 ghost use Rattle.cif_tool.specs.Answers.{AsksSource, Generated, IsAnswer, IsNameIn, IsUnlessMemory, NamesBoth, NamesSource, OfBoth, Output, Overlong, Quiet, Ran, SourceRefused, Stops, Told, Unread, accepted, status_of_scan};
 ghost use Rattle.cif_tool.specs.Ends.{IsNameFor};
 ghost use Rattle.cif_tool.specs.Limits.{source_limit, st_limit, rows_limit};
-ghost use Rattle.cif_tool.specs.Replaying.{AllEnd, ComesTo, IsRowRefused, IsStRefused, IsTableFor, Reads, StopsAt};
+ghost use Rattle.cif_tool.specs.Replaying.{AllEnd, AreRowsRefused, ComesTo, IsRowRefused, IsStRefused, IsTableFor, Reads, StopsAt};
 
 use crate::checking::accepted_text;
 use crate::command::{Command, read_words};
@@ -158,11 +158,11 @@ pub fn tool<F: Files, O: Sink, E: Sink>(
     // The rows of `replay`: the first rule that they break is told.
     ensures rows_refused { (why : RowErr) → result ≡ Status.RowRefused why → (r : Replay)
         × IsReplay (map string_bytes words.now) r
-        × OfBoth (F.content files.old) r (λ st rows. IsRowRefused rows why) }
+        × OfBoth (F.content files.old) r (λ st rows. AreRowsRefused st rows why) }
     ensures other_rows_are_refused { (r : Replay) (st rows : List ℕ) →
         NamesBoth (map string_bytes words.now) (F.content files.old) r st rows →
         Quiet r (F.faults files.old) (F.faults files.new) → length st ≤ st_limit → length rows ≤ rows_limit →
-        (p : Program) → ReadsAsProgram st p → (why : RowErr) → IsRowRefused rows why →
+        (p : Program) → ReadsAsProgram st p → (why : RowErr) → IsRowRefused p rows why →
         IsUnlessMemory result (Status.RowRefused why) }
 
     // The scans of `replay`: the first that ends in a fault, or out of turns, is told, and else their table is written.
@@ -175,14 +175,14 @@ pub fn tool<F: Files, O: Sink, E: Sink>(
     ensures stopped_scan_is_told { (r : Replay) (st rows : List ℕ) →
         NamesBoth (map string_bytes words.now) (F.content files.old) r st rows →
         Quiet r (F.faults files.old) (F.faults files.new) → length st ≤ st_limit → length rows ≤ rows_limit →
-        (p : Program) → ReadsAsProgram st p → (rs : List (List ℤ)) → RowsOf rows rs →
+        (p : Program) → ReadsAsProgram st p → (rs : List (List ℤ)) → RowsOf p.vars rows rs →
         (k : ℕ) (e : ScanErr) → ComesTo p (start_memory p) rs k (stopped e) →
         IsUnlessMemory result (status_of_scan k e) }
     ensures replay_is_done { (r : Replay) (st rows : List ℕ) →
         NamesBoth (map string_bytes words.now) (F.content files.old) r st rows →
         Quiet r (F.faults files.old) (F.faults files.new) → length st ≤ st_limit → length rows ≤ rows_limit →
         (Rose (O.faults out.old) (O.faults out.new) → ⊥) →
-        (p : Program) → ReadsAsProgram st p → (rs : List (List ℤ)) → RowsOf rows rs → AllEnd p rs →
+        (p : Program) → ReadsAsProgram st p → (rs : List (List ℤ)) → RowsOf p.vars rows rs → AllEnd p rs →
         IsUnlessMemory result Status.Done }
     ensures replayed { result ≡ Status.Done → (r : Replay) (st rows : List ℕ) →
         NamesBoth (map string_bytes words.now) (F.content files.old) r st rows →

@@ -1,5 +1,5 @@
 -- The printed program of a plant keeps what is promised of it.
-use Rattle.std.proofs.Common.{◌≡◌, ℕ, ◌+◌, ◌≤◌, refl}
+use Rattle.std.proofs.Common.{ℕ, ◌+◌, ◌≤◌, refl}
 use Rattle.cif_plant.specs.Meaning.{system_of_numbered}
 use Rattle.cif_plant.specs.declared.numbered.NumberedPlant.{NumberedPlant}
 use Rattle.st_ast.specs.Tree.{Program}
