@@ -13,6 +13,7 @@ use crate::sources::{Sight as Source, source_case};
 use crate::stores::{int_case, put_case, reads_case, sure_put_case, sure_reads_case};
 use crate::tables::table_case;
 use crate::tokens::{Front, front_case};
+use crate::uses::uses_case;
 use crate::values::{interval_case, list_case, text_case};
 
 /// A call, by the first word of a case.
@@ -28,6 +29,7 @@ pub enum Call {
     Name,
     Order,
     NetCopies,
+    Uses,
     Program(Program),
 }
 
@@ -151,6 +153,7 @@ impl Call {
             "name" => return Some(Call::Name),
             "order" => return Some(Call::Order),
             "net-copies" => return Some(Call::NetCopies),
+            "uses" => return Some(Call::Uses),
             _ => {}
         }
         if let Some(front) = front_named(word) {
@@ -178,6 +181,7 @@ impl Call {
             Call::Name => name_case(fields, page),
             Call::Order => order_case(fields, page),
             Call::NetCopies => net_copies_case(fields.alloc, page),
+            Call::Uses => uses_case(fields, page),
             Call::Program(program) => program_case(program, fields, page),
         }
     }

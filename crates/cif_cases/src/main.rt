@@ -33,6 +33,7 @@
 //!   sinks and files in memory;
 //! - `order NEEDS | NEEDS ..`: the order of nodes, each with the numbers of those that it needs, `-` for none, and the lowest that
 //!   reaches itself;
+//! - `uses TEXT`: the names that the items of a source write, each with what its position asks for;
 //! - `net-copies`: copies of an expression and of an update of a net;
 //! - `laws`: the functions that are laws.
 //!
@@ -63,6 +64,7 @@ mod tables;
 mod texts;
 mod tokens;
 mod told;
+mod uses;
 mod values;
 
 use crate::fault::Fault;
