@@ -32,6 +32,8 @@ def texts(depth):
         "components of a source": ["check", nested("group g: ", "", "end ", of_source)],
         "expressions of a program": ["replay", CELL % f"b := {inside};"],
         "negations in a program": ["replay", CELL % f"b := {'NOT ' * of_program}b;"],
+        "selections in a program": ["replay", CELL % f"b := {nested('SEL(b, b, ', 'b', ')', of_program)};"],
+        "operators of a program": ["replay", CELL % f"b := {nested('b XOR (', 'b', ')', of_program // 2)};"],
         "statements of a program": ["replay", CELL % nested("IF b THEN ", "b := b;", " END_IF;", of_program)],
         "expressions in statements": ["replay", CELL % nested("IF b THEN ", f"b := {inside};", " END_IF;", of_program)],
     }

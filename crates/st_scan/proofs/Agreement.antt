@@ -38,11 +38,6 @@ then-same OutOfTurns f g same = refl
 and_then-same : (o p : Outcome) (f g : Act) → o ≡ p → ((n : ℕ) (m : Memory) → f n m ≡ g n m) → and_then o f ≡ and_then p g
 and_then-same o p f g e same = ap (λ q. and_then q f) e ∙ then-same p f g same
 
--- to hand a value on changes nothing
-handed_on : (r : Result ℤ Fault) → with_value r (λ e. Err e) (λ x. Ok x) ≡ r
-handed_on (Ok v) = refl
-handed_on (Err e) = refl
-
 factor-same : (f : StMul) (x y : ℤ) → applied (of_factor f) x y ≡ multiplied f x y
 factor-same mul.Times x y = refl
 factor-same mul.Div x y = refl
@@ -77,11 +72,6 @@ or-same false x = refl
 both-same : (f g : ℤ → ℤ → Result ℤ Fault) (q r s t : Result ℤ Fault) → q ≡ s → r ≡ t → ((x y : ℤ) → f x y ≡ g x y) → both f q r ≡ both g s t
 both-same f g q r s t p h same = with_value-same q s (λ e. Err e) _ _ p (λ x. with_value-same r t (λ e. Err e) _ _ h (λ y. same x y))
 
--- a chain of two operands
-pair-same : (f : Operator) (g : ℤ → ℤ → Result ℤ Fault) (q r s t : Result ℤ Fault) → q ≡ s → r ≡ t → ((x y : ℤ) → applied f x y ≡ g x y)
-    → both (λ x y. with_value (applied f x y) (λ e. Err e) (λ z. Ok z)) q r ≡ both g s t
-pair-same f g q r s t p h same = both-same _ g q r s t p h (λ x y. handed_on (applied f x y) ∙ same x y)
-
 mutual
   pub value-same : (vars : List StVar) (e : Expr) (m : Memory) → value_at (placed vars e) m ≡ value_of vars e m
   value-same vars (truth b) m = refl
@@ -92,14 +82,14 @@ mutual
   value-same vars (complement e) m = with_value-same _ _ (λ e. Err e) _ _ (value-same vars e m) (λ x. refl)
   value-same vars (product e rest) m = with_value-same _ _ (λ e. Err e) _ _ (value-same vars e m) (λ x. product-same vars x rest m)
   value-same vars (sum e rest) m = with_value-same _ _ (λ e. Err e) _ _ (value-same vars e m) (λ x. sum-same vars x rest m)
-  value-same vars (order a f b) m = pair-same (of_order f) _ _ _ _ _ (value-same vars a m) (value-same vars b m) (order-same f)
-  value-same vars (equal a same b) m = pair-same (of_equality same) _ _ _ _ _ (value-same vars a m) (value-same vars b m) (equality-same same)
+  value-same vars (order a f b) m = both-same _ _ _ _ _ _ (value-same vars a m) (value-same vars b m) (order-same f)
+  value-same vars (equal a same b) m = both-same _ _ _ _ _ _ (value-same vars a m) (value-same vars b m) (equality-same same)
   value-same vars (all_of es) m = joined-same vars op.And _ and-same true es m
   value-same vars (odd_of es) m = joined-same vars op.Xor _ xor-same false es m
   value-same vars (any_of es) m = joined-same vars op.Or _ or-same false es m
   value-same vars (absolute e) m = with_value-same _ _ (λ e. Err e) _ _ (value-same vars e m) (λ x. refl)
-  value-same vars (least a b) m = pair-same op.Smaller _ _ _ _ _ (value-same vars a m) (value-same vars b m) (λ x y. refl)
-  value-same vars (greatest a b) m = pair-same op.Larger _ _ _ _ _ (value-same vars a m) (value-same vars b m) (λ x y. refl)
+  value-same vars (least a b) m = both-same _ _ _ _ _ _ (value-same vars a m) (value-same vars b m) (λ x y. refl)
+  value-same vars (greatest a b) m = both-same _ _ _ _ _ _ (value-same vars a m) (value-same vars b m) (λ x y. refl)
   value-same vars (selection g a b) m =
       with_value-same _ _ (λ e. Err e) _ _ (value-same vars g m) (λ z. both-same _ _ _ _ _ _ (value-same vars a m) (value-same vars b m) (λ x y. refl))
 

@@ -9,6 +9,7 @@ mutual
     number : ℤ → Expr
     placed : ℕ → Expr
     single : Single → Expr → Expr
+    pair : Expr → Operator → Expr → Expr
     -- operations one after the other, from left to right
     chain : Expr → Steps → Expr
     -- a condition, the value where it is FALSE, and the one where it is TRUE

@@ -4,7 +4,7 @@ use Rattle.std.specs.Prelude.{ℤ, pos, neg_ℤ, nat_abs, true, false, not, ◌&
 use Rattle.st_ast.specs.Values.{Fault, Memory, of_bool, is_true, checked, with_value, both, holds, added, are_equal, multiplied, smaller, larger, differ}
 use Rattle.st_ast.specs.declared.tree.StMul.TheVariants as mul
 use Rattle.st_ast.specs.declared.tree.StOrder.TheVariants as cmp
-use Rattle.st_scan.specs.PlacedTree.{Expr, Steps, number, placed, single, chain, selected, no_steps, steps}
+use Rattle.st_scan.specs.PlacedTree.{Expr, Steps, number, placed, single, pair, chain, selected, no_steps, steps}
 use Rattle.st_scan.specs.declared.placed.Operator.{Operator}
 use Rattle.st_scan.specs.declared.placed.Operator.TheVariants as op
 use Rattle.st_scan.specs.declared.placed.Single.{Single}
@@ -38,6 +38,7 @@ abbrev mutual
   value_at (number z) m = Ok z
   value_at (placed k) m = Ok (slice_index_or m k (pos 0))
   value_at (single f e) m = with_value (value_at e m) (λ e. Err e) (λ x. applied_to f x)
+  value_at (pair a f b) m = both (λ x y. applied f x y) (value_at a m) (value_at b m)
   value_at (chain e rest) m = with_value (value_at e m) (λ e. Err e) (λ x. steps_at x rest m)
   value_at (selected c a b) m = with_value (value_at c m) (λ e. Err e)
       (λ z. both (λ x y. Ok (if is_true z then y else x)) (value_at a m) (value_at b m))

@@ -1,7 +1,7 @@
 -- Helper of the code: what tree of plain data a value of the types of `src/placed.rt` stands for. Each step sees one
 -- level, with its parts seen.
 use Rattle.std.specs.Prelude.{List, [], ◌∷◌, map, Option, Some, None}
-use Rattle.st_scan.specs.PlacedTree.{Expr, Steps, number, placed, single, chain, selected, steps_of, Stm, Stms, Branches, Other, assign, choice, loop, stms_of, no_branches, branches, no_other, other}
+use Rattle.st_scan.specs.PlacedTree.{Expr, Steps, number, placed, single, pair, chain, selected, steps_of, Stm, Stms, Branches, Other, assign, choice, loop, stms_of, no_branches, branches, no_other, other}
 use Rattle.st_scan.specs.declared.placed.Operator.{Operator}
 use Rattle.st_scan.specs.declared.placed.PlacedExpr.{PlacedExpr}
 use Rattle.st_scan.specs.declared.placed.PlacedExpr.TheOpen.{PlacedExpr-F, PlacedStep-F}
@@ -18,6 +18,8 @@ abbrev pub expr_step : PlacedExpr-F Expr (Operator × Expr) → Expr
 expr_step (E.Number z) = number z
 expr_step (E.Place k) = placed k
 expr_step (E.Single op e) = single op e
+expr_step (E.Pair op a b) = pair a op b
+expr_step (E.Test op k z) = pair (placed k) op (number z)
 expr_step (E.Chain e rest) = chain e (steps_of rest)
 expr_step (E.Select c a b) = selected c a b
 

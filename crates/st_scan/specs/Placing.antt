@@ -1,5 +1,5 @@
 -- Helper of the code: the expressions and statements of a program with its names resolved. Where no variable has a name,
--- its place is the number of the variables. Parentheses mean what they hold, and operands of one level are a chain.
+-- its place is the number of the variables. Parentheses mean what they hold, and operands of one level are a pair or a chain.
 use Rattle.std.specs.Prelude.{pos, Bool, true, false, List}
 use Rattle.st_ast.specs.Names.{place_of}
 use Rattle.st_ast.specs.Tree.{Expr, Exprs, Factors, Terms, truth, number, named, paren, negation, complement, product, sum, order, equal, all_of, odd_of, any_of, absolute, least, greatest, selection, no_exprs, exprs, no_factors, factors, no_terms, terms, Stm, Stms, Branches, Other, assign, choice, loop, no_stms, stms, no_branches, branches, no_other, other}
@@ -34,10 +34,6 @@ abbrev pub of_equality : Bool → Operator
 of_equality true = op.Equal
 of_equality false = op.Differ
 
--- a chain of two operands
-abbrev pub pair : to.Expr → Operator → to.Expr → to.Expr
-pair a f b = to.chain a (to.steps f b to.no_steps)
-
 abbrev mutual
   pub placed : List StVar → Expr → to.Expr
   placed vars (truth b) = to.number (of_bool b)
@@ -48,14 +44,14 @@ abbrev mutual
   placed vars (complement e) = to.single one.Not (placed vars e)
   placed vars (product e rest) = to.chain (placed vars e) (placed_factors vars rest)
   placed vars (sum e rest) = to.chain (placed vars e) (placed_terms vars rest)
-  placed vars (order a f b) = pair (placed vars a) (of_order f) (placed vars b)
-  placed vars (equal a same b) = pair (placed vars a) (of_equality same) (placed vars b)
+  placed vars (order a f b) = to.pair (placed vars a) (of_order f) (placed vars b)
+  placed vars (equal a same b) = to.pair (placed vars a) (of_equality same) (placed vars b)
   placed vars (all_of es) = to.chain (to.number (pos 1)) (placed_exprs vars op.And es)
   placed vars (odd_of es) = to.chain (to.number (pos 0)) (placed_exprs vars op.Xor es)
   placed vars (any_of es) = to.chain (to.number (pos 0)) (placed_exprs vars op.Or es)
   placed vars (absolute e) = to.single one.Absolute (placed vars e)
-  placed vars (least a b) = pair (placed vars a) op.Smaller (placed vars b)
-  placed vars (greatest a b) = pair (placed vars a) op.Larger (placed vars b)
+  placed vars (least a b) = to.pair (placed vars a) op.Smaller (placed vars b)
+  placed vars (greatest a b) = to.pair (placed vars a) op.Larger (placed vars b)
   placed vars (selection g a b) = to.selected (placed vars g) (placed vars a) (placed vars b)
 
   -- each operand with the same operator before it

@@ -33,7 +33,7 @@ pub enum Operator {
 }
 
 /// An expression. A literal is its number, and parentheses are gone. The operands of one level are a chain, which is worked
-/// out from left to right.
+/// out from left to right. `Test` is a pair of a variable and a number, which programs have most, in one piece of memory.
 #[cycle(placed_expressions)]
 #[derive(Debug, Drop)]
 pub enum PlacedExpr {
@@ -42,6 +42,16 @@ pub enum PlacedExpr {
     Single {
         op: Single,
         operand: Boxed<PlacedExpr>,
+    },
+    Pair {
+        op: Operator,
+        first: Boxed<PlacedExpr>,
+        second: Boxed<PlacedExpr>,
+    },
+    Test {
+        op: Operator,
+        place: u32,
+        number: i64,
     },
     Chain {
         first: Boxed<PlacedExpr>,

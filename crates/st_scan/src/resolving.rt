@@ -86,19 +86,20 @@ fn chain(
     Boxed::new(alloc, PlacedExpr::Chain { first, rest })
 }
 
-/// A chain of two operands.
+/// An operation on two operands.
 fn pair(
     alloc: Global,
     first: Boxed<PlacedExpr>,
     op: Operator,
     second: Boxed<PlacedExpr>,
 ) -> Result<Boxed<PlacedExpr>, Memory>
-    ensures { IfOk result (λ e. expr_view e ≡ placing.pair (expr_view first) op (expr_view second)) }
+    ensures { IfOk result (λ e. expr_view e ≡ to.pair (expr_view first) op (expr_view second)) }
 {
-    let value = second.into_inner();
-    let mut rest = Items::new(alloc);
-    rest.push(PlacedStep { op, value })?;
-    chain(alloc, first, rest)
+    if let (PlacedExpr::Place(place), PlacedExpr::Number(number)) = (first.get(), second.get()) {
+        let (place, number) = (*place, *number);
+        return Boxed::new(alloc, PlacedExpr::Test { op, place, number });
+    }
+    Boxed::new(alloc, PlacedExpr::Pair { op, first, second })
 }
 
 /// A chain from a number on.

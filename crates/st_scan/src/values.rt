@@ -122,6 +122,12 @@ pub fn value(expr: &PlacedExpr, memory: &[i64]) -> Result<i64, ValueFault>
             let x = value(operand.get(), memory)?;
             apply_to(*op, x)
         }
+        PlacedExpr::Pair { op, first, second } => {
+            let x = value(first.get(), memory)?;
+            let y = value(second.get(), memory)?;
+            apply(*op, x, y)
+        }
+        PlacedExpr::Test { op, place, number } => apply(*op, read(memory, *place), *number),
         PlacedExpr::Chain { first, rest } => {
             let x = value(first.get(), memory)?;
             apply_steps(rest.as_slice(), x, memory)
