@@ -79,39 +79,53 @@ part = item | "plant" ID ":" {piece | alphabet | monitor} {"location" [ID] eleme
      | "const" "int" ID "=" "min" "(" expr "," expr ")" "+" "abs" "(" expr ")" "mod" un ";"
 """
 
-# The part of Structured Text that is read today.
 ST = """
 program = "PROGRAM" ID {block} {stmt} "END_PROGRAM"
-block = ("VAR" | "VAR_OUTPUT") {vardecl} "END_VAR"
+block = ("VAR" ["CONSTANT"] | "VAR_INPUT" | "VAR_OUTPUT") {vardecl} "END_VAR"
 vardecl = ID ":" sttype [":=" literal] ";"
 sttype = "BOOL" | "LINT" ["(" signed ".." signed ")"]
 signed = ["-"] NUMBER
 literal = "TRUE" | "FALSE" | signed
 stmt = ID ":=" e ";" | "IF" e "THEN" {stmt} {"ELSIF" e "THEN" {stmt}} ["ELSE" {stmt}] "END_IF" ";"
      | "WHILE" e "DO" {stmt} "END_WHILE" ";"
-e = a {"OR" a}
-a = q {"AND" q}
-q = o ["=" o]
-o = s ["<" s]
-s = u {"+" u}
-u = "NOT" u | prim
-prim = "TRUE" | "FALSE" | NUMBER | ID | "(" e ")"
+e = x {"OR" x}
+x = a {"XOR" a}
+a = q {("AND" | "&") q}
+q = o [("=" | "<>") o]
+o = s [("<" | ">" | "<=" | ">=") s]
+s = p {("+" | "-") p}
+p = u {("*" | "/" | "MOD") u}
+u = ("-" | "NOT") u | prim
+prim = "TRUE" | "FALSE" | NUMBER | ID | "(" e ")" | "ABS" "(" e ")" | ("MIN" | "MAX") "(" e "," e ")"
+     | "SEL" "(" e "," e "," e ")"
+"""
+
+# What random programs are made of: besides whole ones, those that have blocks alone, one statement, or one expression of
+# operands of some level.
+ST_PARTS = """
+text = program | "PROGRAM" ID {block} "END_PROGRAM" | "PROGRAM" ID stmt "END_PROGRAM"
+     | "PROGRAM" ID ID ":=" operands ";" "END_PROGRAM"
+operands = e | x "OR" x | a "XOR" a | q ("AND" | "&") q | o ("=" | "<>") o | s ("<" | ">" | "<=" | ">=") s
+     | p ("+" | "-") p | u ("*" | "/" | "MOD") u | ("-" | "NOT") u | "(" e ")" | "ABS" "(" e ")"
+     | ("MIN" | "MAX") "(" e "," e ")" | "SEL" "(" e "," e "," e ")"
 """
 
 # A language: its grammar, the name of its texts, the name of what random texts are made of and how many of these there are,
-# tokens that have no place in it, how identifiers, numbers and blanks are spelled, the command that reads it, and how it
-# tells that it doesn't.
-Language = namedtuple("Language", "grammar start part most others identifiers numbers blanks command refusal")
+# tokens that have no place in it, the cases that words may have, how identifiers, numbers and blanks are spelled, the command
+# that reads it, and how it tells that it doesn't.
+Language = namedtuple("Language", "grammar start part most others cases identifiers numbers blanks command refusal")
 
 LANGUAGES = [
     Language(
-        Grammar(CIF + CIF_PARTS.lstrip()), "spec", "part", 3, ["cont", "tau"], ["a", "b", "e", "x", "T", "$plant", "_k1"],
-        ["0", "1", "27", "2147483647"], [" ", "\n", " /* c */ ", " // c\n"], ["check", "text"], r": 4 NotRead at (\d+)"),
+        Grammar(CIF + CIF_PARTS.lstrip()), "spec", "part", 3, ["cont", "tau"], [str],
+        ["a", "b", "e", "x", "T", "$plant", "_k1"], ["0", "1", "27", "2147483647"], [" ", "\n", " /* c */ ", " // c\n"],
+        ["check", "text"], r": 4 NotRead at (\d+)"),
     Language(
-        Grammar(ST), "program", "program", 1,
-        ["XOR", "&", "<>", ">", "<=", ">=", "*", "/", "MOD", "ABS", "MIN", "SEL", "VAR_INPUT", "CONSTANT", "DINT", "AT"],
-        ["a", "B", "x1", "_y"], ["0", "1", "007", "9223372036854775807"], [" ", "\n", " (* c *) "], ["replay", "text", "rows"],
-        r": 34 StNotRead at (\d+)"),
+        Grammar(ST + ST_PARTS.lstrip()), "program", "text", 1,
+        ["DINT", "AT", "CASE", "OF", "END_CASE", "FOR", "TO", "BY", "END_FOR", "REPEAT", "UNTIL", "END_REPEAT", "EXIT",
+         "RETURN", "FUNCTION", "FUNCTION_BLOCK", "ARRAY", "STRUCT", "STRING", "REAL", "LREAL", "TIME", "TYPE", "a__b", "x_"],
+        [str, str, str.lower, str.title], ["a", "B", "x1", "_y", "MODE", "vars"], ["0", "1", "007", "9223372036854775807"],
+        [" ", "\n", " (* c *) "], ["replay", "text", "rows"], r": 34 StNotRead at (\d+)"),
 ]
 
 
@@ -131,7 +145,7 @@ def spelled(language, choose, tokens):
     for token in tokens:
         places.append(len(text))
         kinds = {"ID": language.identifiers, "NUMBER": language.numbers}
-        text += choose.choice(kinds.get(token, [token])) + blanks
+        text += choose.choice(kinds.get(token) or [case(token) for case in language.cases]) + blanks
     return text, places
 
 
