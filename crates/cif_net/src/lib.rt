@@ -1,0 +1,27 @@
+//! Flat nets of automata, in which numbers stand for names, as types that keep what holds of every net; the states of a
+//! net, and the tables of its roles and choices (CIF 3 language reference, "Automata", "Channels").
+#![tactic(auto)]
+
+mod automata;
+mod data;
+mod events;
+mod laws;
+mod listing;
+mod net;
+mod plain;
+mod predicates;
+mod state;
+
+pub use automata::{Auto, NetEdge, NetRole};
+pub use cif_term::{
+    CmpOp, MulOp, NetBranch, NetExpr, NetFactor, NetForm, NetTerm, NetUpdate, NetUpdateBranch,
+    copy_updates,
+};
+pub use data::{Alg, AlgValue, Input, Var};
+pub use events::{Class, Event, NetChan};
+pub use laws::{nets_are_nets, plain_nets_are_plain};
+pub use listing::{Choice, EventRoles, Linear, Move, Roles};
+pub use net::Net;
+pub use plain::Plain;
+pub use predicates::{Exclusion, Invariant};
+pub use state::State;
