@@ -1,10 +1,6 @@
 //! Cases of the top call, over files and sinks in memory.
 
-use crate::fault::Fault;
-use crate::fields::{Fields, first_word, number};
-use crate::page::put_lines;
-use crate::told::{Put, put_status};
-use cif_base::Text;
+use case_text::{Fault, Fields, Put, file, first_word, number, put_lines};
 use cif_io::{MemFile, MemFiles, MemSink};
 use cif_tool::{Status, code, tool};
 use std::alloc::Global;
@@ -16,15 +12,6 @@ struct Asked {
     reads: Vec<u32>,
     writes: Vec<u32>,
     takes: usize,
-}
-
-/// A file in memory, `NAME TEXT`.
-pub fn file(fields: &Fields<'_>, text: &str) -> Result<MemFile, Fault> {
-    let (name, bytes) = first_word(text);
-    Ok(MemFile {
-        name: Text::from_vec(fields.bytes_of(name)?),
-        bytes: Text::from_vec(fields.bytes_of(bytes)?),
-    })
 }
 
 impl Asked {
@@ -80,10 +67,8 @@ fn all_asked(fields: &Fields<'_>) -> Result<Asked, Fault> {
 
 /// How a call ends: its status, and what the output and standard error hold.
 fn put_ended(page: &mut String, status: Status, out: &[u8], err: &[u8]) -> Put {
-    page.push_str("  ")?;
-    put_status(page, status)?;
     let code = code(&status);
-    write!(page, ", code {code}\n")?;
+    writeln!(page, "  {status:?}, code {code}")?;
     put_lines(page, "out", out)?;
     put_lines(page, "err", err)
 }

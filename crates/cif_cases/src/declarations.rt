@@ -1,7 +1,7 @@
 //! Declarations of CIF sources as they are printed.
 
 use crate::expressions::put_name;
-use crate::told::Put;
+use case_text::Put;
 use cif_ast::{Chan, Class, Decl, Expr, Inv, Name, Param, TypeUse};
 
 fn class_word(class: Class) -> &'static str {

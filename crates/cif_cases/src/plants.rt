@@ -3,11 +3,8 @@
 ghost use Rattle.cif_plant.specs.Meaning.{IsNumbered};
 ghost use Rattle.cif_plant.specs.Plant.{IsPlant};
 
-use crate::fault::Fault;
-use crate::fields::Fields;
-use crate::page::{put_lines, put_text};
 use crate::sources::{put_no_tree, spec_of};
-use crate::told::{Put, put_form_error};
+use case_text::{Fault, Fields, Put, put_lines, put_text};
 use cif_ast::Spec;
 use cif_form::{FormErr, number_plant, plant_of};
 use cif_plant::{Class, NumberedEdge, NumberedPlant, Plant};
@@ -17,22 +14,27 @@ use std::alloc::Global;
 
 /// What is printed of a plant.
 #[derive(Clone, Copy)]
-pub enum Sight {
+enum Sight {
     Form,
     Numbers,
     Program(Bounds),
 }
 
-/// `plant TEXT`, `numbers TEXT`
-pub fn plant_case(fields: &Fields<'_>, page: &mut String, sight: Sight) -> Result<(), Fault> {
-    let text = fields.text()?;
-    put_source(fields.alloc, page, sight, text.as_slice())
+/// `plant TEXT`
+pub fn plant_case(fields: &Fields<'_>, page: &mut String) -> Result<(), Fault> {
+    put_source(fields, page, Sight::Form)
 }
 
-fn put_source(alloc: Global, page: &mut String, sight: Sight, text: &[u8]) -> Result<(), Fault> {
-    match spec_of(alloc, text) {
-        Err(why) => Ok(put_no_tree(page, why)?),
-        Ok(spec) => put_spec(alloc, page, sight, &spec, text.len()),
+/// `numbers TEXT`
+pub fn numbers_case(fields: &Fields<'_>, page: &mut String) -> Result<(), Fault> {
+    put_source(fields, page, Sight::Numbers)
+}
+
+fn put_source(fields: &Fields<'_>, page: &mut String, sight: Sight) -> Result<(), Fault> {
+    let text = fields.text()?;
+    match spec_of(fields.alloc, text.as_slice()) {
+        Err(why) => put_no_tree(page, why),
+        Ok(spec) => put_spec(fields.alloc, page, sight, &spec, text.len()),
     }
 }
 
@@ -50,10 +52,15 @@ fn put_spec(
     }
 }
 
+/// Why a tree is no plant; a place past the end of the text is its end.
 fn put_no_plant(page: &mut String, error: FormErr, end: usize) -> Put {
-    page.push_str("  ")?;
-    put_form_error(page, error, end)?;
-    page.push('\n')
+    match error {
+        FormErr::NotBuilt { at } => {
+            let at = end.min(at as usize);
+            writeln!(page, "  NotBuilt {{ at: {at} }}")
+        }
+        FormErr::Memory => page.push_str("  Memory\n"),
+    }
 }
 
 fn put_plant(alloc: Global, page: &mut String, sight: Sight, plant: &Plant) -> Result<(), Fault>
@@ -91,7 +98,7 @@ pub fn emit_case(fields: &Fields<'_>, page: &mut String) -> Result<(), Fault> {
         unc: *unc,
         con: *con,
     };
-    plant_case(fields, page, Sight::Program(bounds))
+    put_source(fields, page, Sight::Program(bounds))
 }
 
 fn put_numbers(page: &mut String, plant: &NumberedPlant) -> Put {

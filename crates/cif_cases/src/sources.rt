@@ -1,11 +1,8 @@
 //! Cases of whole CIF sources.
 
 use crate::declarations::{decl_word, put_decls};
-use crate::expressions::{put_shape, put_tree};
-use crate::fault::Fault;
-use crate::fields::Fields;
-use crate::page::put_text;
-use crate::told::{Put, put_lex_error, put_parse_error};
+use crate::expressions::put_shape;
+use case_text::{Fault, Fields, Put, put_text};
 use cif_ast::{
     AutoBody, Body, Decl, Edge, EventUse, Expr, Ident, Inv, Item, Loc, Name, Role, Spec, Update,
     UpdateBranch,
@@ -40,60 +37,34 @@ pub fn spec_of(alloc: Global, text: &[u8]) -> Result<Spec, NoTree> {
     }
 }
 
-pub fn put_no_tree(page: &mut String, why: NoTree) -> Put {
-    page.push_str("  ")?;
+pub fn put_no_tree(page: &mut String, why: NoTree) -> Result<(), Fault> {
     match why {
-        NoTree::TooLong => page.push_str("too long")?,
-        NoTree::Lex(error) => put_lex_error(page, error)?,
-        NoTree::Parse(error) => put_parse_error(page, error)?,
+        NoTree::TooLong => page.push_str("  too long\n")?,
+        NoTree::Lex(error) => writeln!(page, "  {error:?}")?,
+        NoTree::Parse(error) => writeln!(page, "  {error:?}")?,
     }
-    page.push('\n')
-}
-
-/// What is printed of a tree.
-#[derive(Clone, Copy)]
-pub enum Sight {
-    Items,
-    Automaton,
-    Location,
-    Edge,
-    Choice,
-    Outline,
-    Shape,
-    Tree,
-    Copy,
+    Ok(())
 }
 
 /// A case of a whole source.
-pub fn source_case(fields: &Fields<'_>, page: &mut String, sight: Sight) -> Result<(), Fault> {
+pub fn source_case(call: &str, fields: &Fields<'_>, page: &mut String) -> Result<(), Fault> {
     let text = fields.text()?;
-    put_source(fields.alloc, page, sight, text.as_slice())
-}
-
-fn put_source(alloc: Global, page: &mut String, sight: Sight, text: &[u8]) -> Result<(), Fault> {
-    match spec_of(alloc, text) {
-        Err(why) => Ok(put_no_tree(page, why)?),
-        Ok(spec) => put_sight(alloc, page, sight, spec.items.as_slice()),
+    match spec_of(fields.alloc, text.as_slice()) {
+        Err(why) => put_no_tree(page, why),
+        Ok(spec) => Ok(put_part(page, call, spec.items.as_slice())?),
     }
 }
 
-fn put_sight(alloc: Global, page: &mut String, sight: Sight, items: &[Item]) -> Result<(), Fault> {
-    match sight {
-        Sight::Copy => put_copy(alloc, page, value_of(items)),
-        sight => Ok(put_part(page, sight, items)?),
-    }
-}
-
-fn put_part(page: &mut String, sight: Sight, items: &[Item]) -> Put {
-    match sight {
-        Sight::Items => put_item_line(page, items),
-        Sight::Outline => put_outline(page, items),
-        Sight::Automaton => put_last(page, automaton_of(items)),
-        Sight::Location => put_location(page, location_of(items)),
-        Sight::Edge => put_edge(page, edge_of(items)),
-        Sight::Choice => put_choice(page, edge_of(items)),
-        Sight::Tree => put_whole(page, value_of(items)),
-        Sight::Shape | Sight::Copy => put_form(page, value_of(items)),
+fn put_part(page: &mut String, call: &str, items: &[Item]) -> Put {
+    match call {
+        "items" => put_item_line(page, items),
+        "outline" => put_outline(page, items),
+        "automaton" => put_last(page, automaton_of(items)),
+        "location" => put_location(page, location_of(items)),
+        "edge" => put_edge(page, edge_of(items)),
+        "choice" => put_choice(page, edge_of(items)),
+        "tree" => put_whole(page, value_of(items)),
+        _ => put_form(page, value_of(items)),
     }
 }
 
@@ -366,13 +337,21 @@ fn put_copy(alloc: Global, page: &mut String, value: Option<&Expr>) -> Result<()
     Ok(page.push_str(told)?)
 }
 
+/// `copy TEXT`: whether the copy of the value is printed as the value is.
+pub fn copy_case(fields: &Fields<'_>, page: &mut String) -> Result<(), Fault> {
+    let text = fields.text()?;
+    match spec_of(fields.alloc, text.as_slice()) {
+        Err(why) => put_no_tree(page, why),
+        Ok(spec) => put_copy(fields.alloc, page, value_of(spec.items.as_slice())),
+    }
+}
+
+/// A value as the code writes its tree, a text by its bytes.
 fn put_whole(page: &mut String, value: Option<&Expr>) -> Put {
-    let Some(value) = value else {
-        return page.push_str("  no value\n");
-    };
-    page.push_str("  ")?;
-    put_tree(page, value)?;
-    page.push('\n')
+    match value {
+        Some(value) => writeln!(page, "  {value:?}"),
+        None => page.push_str("  no value\n"),
+    }
 }
 
 fn put_form(page: &mut String, value: Option<&Expr>) -> Put {

@@ -2,9 +2,7 @@
 
 use crate::declarations::{put_decls, put_events, put_param, put_types};
 use crate::expressions::{put_name, put_shape};
-use crate::fault::Fault;
-use crate::fields::Fields;
-use crate::told::{Put, put_lex_error, put_read_error};
+use case_text::{Fault, Fields, Put};
 use cif_ast::{Decl, Expr, Ident, Name, Param};
 use cif_base::Items;
 use cif_decl::{
@@ -12,87 +10,63 @@ use cif_decl::{
     parameters, plain_declaration,
 };
 use cif_expr::{Read, ReadError, expr, expr_list, ids, names};
-use cif_lex::{LexErr, Token, TokenKind, lex};
+use cif_lex::{Token, TokenKind, lex};
 use std::alloc::Global;
 
 /// The most bytes of a source.
 const MOST_BYTES: usize = 4_194_304;
 
-/// Readers of the front of a CIF source.
-#[derive(Clone, Copy)]
-pub enum Front {
-    Lex,
-    Expr,
-    Exprs,
-    Names,
-    Ids,
-    Declaration,
-    Types,
-    Events,
-    Disc,
-    Plain,
-    Invariants,
-    Kind,
-    Component,
-    Parameters,
-}
-
 /// A case of a reader: what it answers for the tokens of a text.
-pub fn front_case(fields: &Fields<'_>, page: &mut String, front: Front) -> Result<(), Fault> {
+pub fn front_case(call: &str, fields: &Fields<'_>, page: &mut String) -> Result<(), Fault> {
     let text = fields.text()?;
-    Ok(put_front(fields.alloc, page, front, text.as_slice())?)
+    put_front(fields.alloc, page, call, text.as_slice())
 }
 
-fn put_front(alloc: Global, page: &mut String, front: Front, text: &[u8]) -> Put {
+fn put_front(alloc: Global, page: &mut String, call: &str, text: &[u8]) -> Result<(), Fault> {
     if text.len() > MOST_BYTES {
-        return page.push_str("  too long\n");
+        return Ok(page.push_str("  too long\n")?);
     }
     match lex(alloc, text) {
-        Ok(tokens) => put_answer(alloc, page, front, text, tokens.as_slice()),
-        Err(error) => put_refused(page, error),
+        Ok(tokens) => put_answer(alloc, page, call, text, tokens.as_slice()),
+        Err(error) => Ok(writeln!(page, "  {error:?}")?),
     }
-}
-
-fn put_refused(page: &mut String, error: LexErr) -> Put {
-    page.push_str("  ")?;
-    put_lex_error(page, error)?;
-    page.push('\n')
 }
 
 fn put_answer(
     alloc: Global,
     page: &mut String,
-    front: Front,
+    call: &str,
     text: &[u8],
     tokens: &[Token],
-) -> Put {
-    match front {
-        Front::Lex => put_tokens(page, tokens),
-        Front::Expr => put_expr(alloc, page, text, tokens),
-        Front::Exprs => put_exprs(page, expr_list(alloc, text, tokens)),
-        Front::Names => put_names(page, names(alloc, text, tokens)),
-        Front::Ids => put_ids(page, ids(alloc, text, tokens)),
-        Front::Kind => put_kind(page, component_kind(tokens)),
-        Front::Component => put_component(page, is_component(tokens)),
-        Front::Parameters => put_parameters(alloc, page, parameters(alloc, text, tokens)),
-        _ => put_declared(alloc, page, front, text, tokens),
+) -> Result<(), Fault> {
+    match call {
+        "lex" => put_tokens(page, tokens),
+        "expr" => put_expr(alloc, page, text, tokens),
+        "exprs" => put_exprs(page, expr_list(alloc, text, tokens)),
+        "names" => put_names(page, names(alloc, text, tokens)),
+        "ids" => put_ids(page, ids(alloc, text, tokens)),
+        "kind" => put_kind(page, component_kind(tokens)),
+        "component" => put_component(page, is_component(tokens)),
+        "parameters" => put_parameters(alloc, page, parameters(alloc, text, tokens)),
+        _ => put_declared(alloc, page, call, text, tokens),
     }
 }
 
 fn put_declared(
     alloc: Global,
     page: &mut String,
-    front: Front,
+    call: &str,
     text: &[u8],
     tokens: &[Token],
-) -> Put {
-    match front {
-        Front::Types => put_found(page, Sight::Types, declaration(alloc, text, tokens)),
-        Front::Events => put_found(page, Sight::Events, declaration(alloc, text, tokens)),
-        Front::Disc => put_found(page, Sight::Types, disc_declaration(alloc, text, tokens)),
-        Front::Plain => put_found(page, Sight::Words, plain_declaration(alloc, text, tokens)),
-        Front::Invariants => put_found(page, Sight::Words, kind_invariants(alloc, text, tokens)),
-        _ => put_found(page, Sight::Words, declaration(alloc, text, tokens)),
+) -> Result<(), Fault> {
+    match call {
+        "declaration" => put_found(page, Sight::Words, declaration(alloc, text, tokens)),
+        "types" => put_found(page, Sight::Types, declaration(alloc, text, tokens)),
+        "events" => put_found(page, Sight::Events, declaration(alloc, text, tokens)),
+        "disc" => put_found(page, Sight::Types, disc_declaration(alloc, text, tokens)),
+        "plain" => put_found(page, Sight::Words, plain_declaration(alloc, text, tokens)),
+        "invariants" => put_found(page, Sight::Words, kind_invariants(alloc, text, tokens)),
+        _ => Err(Fault::Form("no such call")),
     }
 }
 
@@ -112,7 +86,7 @@ fn put_span(page: &mut String, from: u32, to: u32) -> Put {
 }
 
 /// `lex TEXT`: the tokens with their places.
-fn put_tokens(page: &mut String, tokens: &[Token]) -> Put {
+fn put_tokens(page: &mut String, tokens: &[Token]) -> Result<(), Fault> {
     if tokens.is_empty() {
         page.push_str("  no tokens")?;
     }
@@ -122,45 +96,43 @@ fn put_tokens(page: &mut String, tokens: &[Token]) -> Put {
         put_token(page, token)?;
         gap = ", ";
     }
-    page.push('\n')
+    Ok(page.push('\n')?)
 }
 
 /// How many tokens are left.
-fn put_left(page: &mut String, rest: &[Token]) -> Put {
+fn put_left(page: &mut String, rest: &[Token]) -> Result<(), Fault> {
     let left = rest.len();
-    write!(page, "; {left} left\n")
+    Ok(writeln!(page, "; {left} left")?)
 }
 
 /// The token at which nothing is read, by how many there are from it on.
-fn put_stop(page: &mut String, error: ReadError) -> Put {
-    page.push_str("  ")?;
-    put_read_error(page, error)?;
-    page.push('\n')
+fn put_stop(page: &mut String, error: ReadError) -> Result<(), Fault> {
+    Ok(writeln!(page, "  {error:?}")?)
 }
 
 /// `expr TEXT`: the form of the expression at the front, and of how many further parts it is a list.
-fn put_expr(alloc: Global, page: &mut String, text: &[u8], tokens: &[Token]) -> Put {
+fn put_expr(alloc: Global, page: &mut String, text: &[u8], tokens: &[Token]) -> Result<(), Fault> {
     match expr(alloc, text, tokens) {
         Ok((tree, rest)) => put_tree(page, tree.get(), rest),
         Err(error) => put_stop(page, error),
     }
 }
 
-fn put_tree(page: &mut String, tree: &Expr, rest: &[Token]) -> Put {
+fn put_tree(page: &mut String, tree: &Expr, rest: &[Token]) -> Result<(), Fault> {
     page.push_str("  ")?;
     put_shape(page, tree)?;
     put_left(page, rest)
 }
 
 /// `exprs TEXT`: the forms of expressions with commas between them.
-fn put_exprs(page: &mut String, read: Read<'_, Items<Expr>>) -> Put {
+fn put_exprs(page: &mut String, read: Read<'_, Items<Expr>>) -> Result<(), Fault> {
     match read {
         Ok((all, rest)) => put_trees(page, all.as_slice(), rest),
         Err(error) => put_stop(page, error),
     }
 }
 
-fn put_trees(page: &mut String, all: &[Expr], rest: &[Token]) -> Put {
+fn put_trees(page: &mut String, all: &[Expr], rest: &[Token]) -> Result<(), Fault> {
     let mut gap = "  ";
     for tree in all {
         page.push_str(gap)?;
@@ -171,14 +143,14 @@ fn put_trees(page: &mut String, all: &[Expr], rest: &[Token]) -> Put {
 }
 
 /// `names TEXT`: names with commas between them.
-fn put_names(page: &mut String, read: Read<'_, Items<Name>>) -> Put {
+fn put_names(page: &mut String, read: Read<'_, Items<Name>>) -> Result<(), Fault> {
     match read {
         Ok((all, rest)) => put_all_names(page, all.as_slice(), rest),
         Err(error) => put_stop(page, error),
     }
 }
 
-fn put_all_names(page: &mut String, all: &[Name], rest: &[Token]) -> Put {
+fn put_all_names(page: &mut String, all: &[Name], rest: &[Token]) -> Result<(), Fault> {
     let mut gap = "  ";
     for name in all {
         page.push_str(gap)?;
@@ -189,14 +161,14 @@ fn put_all_names(page: &mut String, all: &[Name], rest: &[Token]) -> Put {
 }
 
 /// `ids TEXT`: how many identifiers stand with commas between them.
-fn put_ids(page: &mut String, read: Read<'_, Items<Ident>>) -> Put {
+fn put_ids(page: &mut String, read: Read<'_, Items<Ident>>) -> Result<(), Fault> {
     match read {
         Ok((all, rest)) => put_number(page, all.len(), rest),
         Err(error) => put_stop(page, error),
     }
 }
 
-fn put_number(page: &mut String, count: usize, rest: &[Token]) -> Put {
+fn put_number(page: &mut String, count: usize, rest: &[Token]) -> Result<(), Fault> {
     write!(page, "  {count}")?;
     put_left(page, rest)
 }
@@ -212,14 +184,14 @@ enum Sight {
     Events,
 }
 
-fn put_found(page: &mut String, sight: Sight, read: Read<'_, Items<Decl>>) -> Put {
+fn put_found(page: &mut String, sight: Sight, read: Read<'_, Items<Decl>>) -> Result<(), Fault> {
     match read {
         Ok((found, rest)) => put_sight(page, sight, found.as_slice(), rest),
         Err(error) => put_stop(page, error),
     }
 }
 
-fn put_sight(page: &mut String, sight: Sight, found: &[Decl], rest: &[Token]) -> Put {
+fn put_sight(page: &mut String, sight: Sight, found: &[Decl], rest: &[Token]) -> Result<(), Fault> {
     page.push_str("  ")?;
     match sight {
         Sight::Words => put_decls(page, found)?,
@@ -230,7 +202,7 @@ fn put_sight(page: &mut String, sight: Sight, found: &[Decl], rest: &[Token]) ->
 }
 
 /// `kind TEXT`: a kind of components.
-fn put_kind(page: &mut String, read: Read<'_, &Token>) -> Put {
+fn put_kind(page: &mut String, read: Read<'_, &Token>) -> Result<(), Fault> {
     match read {
         Ok((token, rest)) => {
             page.push_str("  ")?;
@@ -242,19 +214,23 @@ fn put_kind(page: &mut String, read: Read<'_, &Token>) -> Put {
 }
 
 /// `component TEXT`: whether a component begins.
-fn put_component(page: &mut String, begins: bool) -> Put {
-    page.push_str(if begins { "  yes\n" } else { "  no\n" })
+fn put_component(page: &mut String, begins: bool) -> Result<(), Fault> {
+    Ok(page.push_str(if begins { "  yes\n" } else { "  no\n" })?)
 }
 
 /// `parameters TEXT`: parameters in parentheses.
-fn put_parameters(alloc: Global, page: &mut String, read: Read<'_, Items<Param>>) -> Put {
+fn put_parameters(
+    alloc: Global,
+    page: &mut String,
+    read: Read<'_, Items<Param>>,
+) -> Result<(), Fault> {
     match read {
         Ok((found, rest)) => put_params(page, given(alloc, Some(found)).as_slice(), rest),
         Err(error) => put_stop(page, error),
     }
 }
 
-fn put_params(page: &mut String, params: &[Param], rest: &[Token]) -> Put {
+fn put_params(page: &mut String, params: &[Param], rest: &[Token]) -> Result<(), Fault> {
     page.push_str(if params.is_empty() { "  none" } else { "  " })?;
     let mut gap = "";
     for param in params {

@@ -1,16 +1,13 @@
 //! Cases of the names that a CIF source writes.
 
 use crate::expressions::put_name;
-use crate::fault::Fault;
-use crate::fields::Fields;
-use crate::page::put_text;
 use crate::sources::{put_no_tree, spec_of};
-use crate::told::Put;
+use case_text::{Fault, Fields, Put, put_text};
 use cif_ast::{AutoBody, Body, Comp, Decl, Def, Inst, Item, Param, Spec};
 use cif_base::{Items, Memory};
 use cif_uses::{
-    Asked, OwnName, Use, add_arg_uses, add_automaton_own_names, add_automaton_uses,
-    add_decl_own_names, add_decl_uses, add_param_uses,
+    OwnName, Use, add_arg_uses, add_automaton_own_names, add_automaton_uses, add_decl_own_names,
+    add_decl_uses, add_param_uses,
 };
 use std::alloc::Global;
 
@@ -21,22 +18,10 @@ struct Found<'a> {
     own: Vec<OwnName<'a>>,
 }
 
-fn asked(asks: Asked) -> &'static str {
-    match asks {
-        Asked::Event => "event",
-        Asked::Location => "location",
-        Asked::Type => "type",
-        Asked::Definition => "definition",
-        Asked::Variable => "variable",
-        Asked::Value => "value",
-        Asked::Any => "any",
-    }
-}
-
 fn put_uses(page: &mut String, uses: &[Use<'_>]) -> Put {
     for one in uses {
-        let word = asked(one.asks);
-        write!(page, "  {word} ")?;
+        let asks = one.asks;
+        write!(page, "  {asks:?} ")?;
         put_name(page, one.name)?;
         page.push('\n')?;
     }
@@ -122,7 +107,7 @@ fn put_found(alloc: Global, page: &mut String, spec: &Spec) -> Result<(), Fault>
 pub fn uses_case(fields: &Fields<'_>, page: &mut String) -> Result<(), Fault> {
     let text = fields.text()?;
     match spec_of(fields.alloc, text.as_slice()) {
-        Err(why) => Ok(put_no_tree(page, why)?),
+        Err(why) => put_no_tree(page, why),
         Ok(spec) => put_found(fields.alloc, page, &spec),
     }
 }

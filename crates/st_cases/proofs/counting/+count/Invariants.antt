@@ -1,7 +1,7 @@
 use Rattle.std.proofs.Common.{◌≡◌, ◌+◌, drop}
 use Rattle.st_ast.specs.Checks.{stms_count, branches_count}
 use Rattle.st_ast.specs.View.{view_stmts, view_branches}
-use Rattle.cif_cases.proofs.counting.+count.Given as goal
+use Rattle.st_cases.proofs.counting.+count.Given as goal
 
 abbrev pub invariant-count-loop-stmt : goal.invariant-count-loop-stmt
 invariant-count-loop-stmt l = l.so_far + stms_count (view_stmts (drop l.stmt-index l.body)) ≡ l.others + stms_count (view_stmts l.body)

@@ -1,6 +1,6 @@
 //! Copies of what a net is made of.
 
-use crate::fault::Fault;
+use case_text::Fault;
 use cif_base::{Boxed, Items};
 use cif_term::{NetExpr, NetForm, NetUpdate, copy_updates};
 use std::alloc::Global;

@@ -1,57 +1,8 @@
 //! Cases of intervals, and of lists and texts that contracts see as plain data.
 
-use crate::fault::Fault;
-use crate::fields::{Fields, whole};
-use crate::page::put_lines;
-use crate::told::Put;
+use case_text::{Fault, Fields, Put, put_lines, whole};
 use cif_base::{Items, Iv, Text};
 use std::alloc::Global;
-
-/// An operator on intervals.
-#[derive(Clone, Copy)]
-enum Operator {
-    Add,
-    Sub,
-    Mul,
-    Div,
-    Rem,
-    Min,
-    Max,
-    Join,
-    Neg,
-    Abs,
-}
-
-fn operator_named(word: &str) -> Result<Operator, Fault> {
-    match word {
-        "add" => Ok(Operator::Add),
-        "sub" => Ok(Operator::Sub),
-        "mul" => Ok(Operator::Mul),
-        "div" => Ok(Operator::Div),
-        "rem" => Ok(Operator::Rem),
-        "min" => Ok(Operator::Min),
-        "max" => Ok(Operator::Max),
-        "join" => Ok(Operator::Join),
-        "neg" => Ok(Operator::Neg),
-        "abs" => Ok(Operator::Abs),
-        _ => Err(Fault::Form("no such operator")),
-    }
-}
-
-fn computed(operator: Operator, a: Iv, b: Iv) -> Option<Iv> {
-    match operator {
-        Operator::Add => a.add(b),
-        Operator::Sub => a.sub(b),
-        Operator::Mul => a.mul(b),
-        Operator::Div => a.div(b),
-        Operator::Rem => a.rem(b),
-        Operator::Min => a.min(b),
-        Operator::Max => a.max(b),
-        Operator::Join => a.join(b),
-        Operator::Neg => a.neg(),
-        Operator::Abs => a.abs(),
-    }
-}
 
 /// The bounds of two intervals; of the second 0 where there are two bounds.
 fn bounds_of(numbers: &[i64]) -> Result<[i64; 4], Fault> {
@@ -74,7 +25,25 @@ fn put_bounds(page: &mut String, lo: i64, hi: i64) -> Put {
 }
 
 /// What an operator makes of one interval or of two.
-fn put_result(page: &mut String, operator: Operator, numbers: &[i64]) -> Result<(), Fault> {
+fn put_computed(page: &mut String, operator: &str, a: Iv, b: Iv) -> Result<(), Fault> {
+    let found = match operator {
+        "add" => a.add(b),
+        "sub" => a.sub(b),
+        "mul" => a.mul(b),
+        "div" => a.div(b),
+        "rem" => a.rem(b),
+        "min" => a.min(b),
+        "max" => a.max(b),
+        "join" => a.join(b),
+        "neg" => a.neg(),
+        "abs" => a.abs(),
+        _ => return Err(Fault::Form("no such operator")),
+    };
+    Ok(put_interval(page, found)?)
+}
+
+/// The operator over these bounds.
+fn put_result(page: &mut String, operator: &str, numbers: &[i64]) -> Result<(), Fault> {
     let [lo, hi, other_lo, other_hi] = bounds_of(numbers)?;
     let Some(a) = Iv::try_new(lo, hi) else {
         return Err(Fault::Form("bounds that are not in order"));
@@ -82,14 +51,13 @@ fn put_result(page: &mut String, operator: Operator, numbers: &[i64]) -> Result<
     let Some(b) = Iv::try_new(other_lo, other_hi) else {
         return Err(Fault::Form("bounds that are not in order"));
     };
-    Ok(put_interval(page, computed(operator, a, b))?)
+    put_computed(page, operator, a, b)
 }
 
 /// `interval OPERATOR | LO HI [LO HI]`
 pub fn interval_case(fields: &Fields<'_>, page: &mut String) -> Result<(), Fault> {
-    let operator = operator_named(fields.written(0))?;
     let numbers = fields.wholes(fields.written(1))?;
-    put_result(page, operator, numbers.as_slice())
+    put_result(page, fields.written(0), numbers.as_slice())
 }
 
 fn put_items(page: &mut String, label: &str, items: &[i64]) -> Put {

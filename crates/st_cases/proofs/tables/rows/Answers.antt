@@ -2,7 +2,7 @@ use Rattle.std.proofs.Common.{◌≡◌, List, [], ◌∷◌, ◌++◌, length, 
 use Rattle.std.specs.Prelude.{All}
 use Rattle.std.proofs.lemmas.List.Elements.{All-push}
 use Rattle.plc_rows.specs.declared.row.Row.{Row}
-use Rattle.cif_cases.proofs.tables.rows.Goals as goal
+use Rattle.st_cases.proofs.tables.rows.Goals as goal
 
 -- what is so of all items, and of one more
 one_more : {X : Type 0} (P : X → Type 0) (xs : List X) (x : X) (ys : List X) → All P xs → P x → ys ≡ xs ++ x ∷ [] → All P ys

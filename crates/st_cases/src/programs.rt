@@ -1,14 +1,10 @@
-//! Cases of Structured Text programs, each written as a text or as a tree.
+//! Cases of Structured Text programs.
 
 ghost use Rattle.std.specs.Prelude.{◌≤◌, length};
 
-use crate::building::built;
 use crate::counting::count;
-use crate::fault::Fault;
-use crate::fields::Fields;
-use crate::page::{put_lines, put_text};
-use crate::told::{Put, put_check_error, put_row_error, put_scan_error, put_st_error};
-use plc_rows::{Row, RowErr, read_rows};
+use case_text::{Fault, Fields, Put, put_lines, put_text};
+use plc_rows::{Row, read_rows};
 use st_ast::Program;
 use st_check::{Checked, StCheckErr, check_program};
 use st_print::print;
@@ -38,39 +34,17 @@ impl From<Fault> for NoProgram {
 
 pub fn put_no_program(page: &mut String, why: NoProgram) -> Result<(), Fault> {
     match why {
-        NoProgram::Fault(fault) => Err(fault),
-        NoProgram::TooLong => Ok(page.push_str("  too long\n")?),
-        NoProgram::Read(error) => Ok(put_not_read(page, error)?),
-        NoProgram::Check(error) => Ok(put_not_checked(page, error)?),
+        NoProgram::Fault(fault) => return Err(fault),
+        NoProgram::TooLong => page.push_str("  too long\n")?,
+        NoProgram::Read(error) => writeln!(page, "  {error:?}")?,
+        NoProgram::Check(error) => writeln!(page, "  {error:?}")?,
     }
+    Ok(())
 }
 
-fn put_not_read(page: &mut String, error: StErr) -> Put {
-    page.push_str("  ")?;
-    put_st_error(page, error)?;
-    page.push('\n')
-}
-
-fn put_not_checked(page: &mut String, error: StCheckErr) -> Put {
-    page.push_str("  ")?;
-    put_check_error(page, error)?;
-    page.push('\n')
-}
-
-fn built_program(alloc: Global, text: &[u8]) -> Result<Program, NoProgram> {
-    match built(alloc, text) {
-        Ok(program) => Ok(program),
-        Err(fault) => Err(NoProgram::Fault(fault)),
-    }
-}
-
-/// The program of a text: a tree where it begins as one.
 fn text_program(alloc: Global, text: &[u8]) -> Result<Program, NoProgram> {
     if text.len() > MOST_BYTES {
         return Err(NoProgram::TooLong);
-    }
-    if let [b'(', b'P', ..] = text {
-        return built_program(alloc, text);
     }
     match read(alloc, text) {
         Ok(program) => Ok(program),
@@ -84,7 +58,8 @@ fn program_of(fields: &Fields<'_>, field: &str) -> Result<Program, NoProgram> {
     text_program(fields.alloc, text.as_slice())
 }
 
-fn checked(alloc: Global, program: Program) -> Result<Checked, NoProgram> {
+/// The program, checked.
+pub fn checked(alloc: Global, program: Program) -> Result<Checked, NoProgram> {
     let statements = count(program.body.as_slice(), 0);
     if program.vars.len() >= 4_294_967_296 || statements.is_none() {
         return Err(NoProgram::TooLong);
@@ -116,7 +91,8 @@ pub fn read_case(fields: &Fields<'_>, page: &mut String) -> Result<(), Fault> {
     }
 }
 
-fn put_printed(alloc: Global, page: &mut String, program: &Program) -> Result<(), Fault> {
+/// The printed text of a program.
+pub fn put_printed(alloc: Global, page: &mut String, program: &Program) -> Result<(), Fault> {
     let text = print(alloc, program)?;
     Ok(put_lines(page, "text", text.as_slice())?)
 }
@@ -169,15 +145,12 @@ pub fn check_case(fields: &Fields<'_>, page: &mut String) -> Result<(), Fault> {
     }
 }
 
-fn put_value(page: &mut String, value: i64) -> Put {
-    write!(page, " {value}")
-}
-
 fn put_variables(page: &mut String, machine: &Machine<'_>) -> Put {
     let variables = machine.program().program().vars.len();
     for variable in 0..variables {
         if variable < 4_294_967_296 {
-            put_value(page, machine.value(variable as u32))?;
+            let value = machine.value(variable as u32);
+            write!(page, " {value}")?;
         }
     }
     Ok(())
@@ -187,7 +160,8 @@ fn put_outputs(page: &mut String, machine: &Machine<'_>) -> Put {
     let outputs = machine.program().outputs().len();
     for k in 0..outputs {
         if k < 4_294_967_296 {
-            put_value(page, machine.output(k as u32))?;
+            let value = machine.output(k as u32);
+            write!(page, " {value}")?;
         }
     }
     Ok(())
@@ -202,10 +176,9 @@ fn put_values(page: &mut String, machine: &Machine<'_>) -> Put {
 }
 
 fn put_ended(page: &mut String, ended: Result<(), ScanErr>) -> Put {
-    page.push_str("  ")?;
     match ended {
-        Ok(()) => page.push_str("Ok"),
-        Err(error) => put_scan_error(page, error),
+        Ok(()) => page.push_str("  Ok"),
+        Err(error) => write!(page, "  {error:?}"),
     }
 }
 
@@ -230,7 +203,8 @@ fn put_scans(
     Ok(())
 }
 
-fn put_machine(fields: &Fields<'_>, page: &mut String, program: &Checked) -> Result<(), Fault> {
+/// The values at the start and after each scan, over the rows of the fields behind the first.
+pub fn put_machine(fields: &Fields<'_>, page: &mut String, program: &Checked) -> Result<(), Fault> {
     let mut machine = Machine::new(fields.alloc, program)?;
     put_scans(fields, page, &mut machine)
 }
@@ -242,12 +216,6 @@ pub fn scan_case(fields: &Fields<'_>, page: &mut String) -> Result<(), Fault> {
         Err(why) => put_no_program(page, why),
         Ok(program) => put_machine(fields, page, &program),
     }
-}
-
-fn put_row_refusal(page: &mut String, error: RowErr) -> Put {
-    page.push_str("  ")?;
-    put_row_error(page, error)?;
-    page.push('\n')
 }
 
 fn put_row_counts(page: &mut String, rows: &[Row]) -> Put {
@@ -266,7 +234,7 @@ fn put_row_values(page: &mut String, rows: &[Row]) -> Put {
             page.push_str(" |")?;
         }
         for value in row.cells.as_slice() {
-            put_value(page, *value)?;
+            write!(page, " {value}")?;
         }
     }
     page.push('\n')
@@ -276,7 +244,7 @@ fn put_read_rows(alloc: Global, page: &mut String, program: &Checked, text: &[u8
     requires { length text.now ≤ 67108864 }
 {
     match read_rows(alloc, text, program) {
-        Err(error) => put_row_refusal(page, error),
+        Err(error) => writeln!(page, "  {error:?}"),
         Ok(rows) => {
             put_row_counts(page, rows.rows.as_slice())?;
             put_row_values(page, rows.rows.as_slice())

@@ -1,5 +1,5 @@
 use Rattle.std.proofs.Common.{◌<◌, All, length, take}
-use Rattle.cif_cases.proofs.graphs.are_inside.Given as goal
+use Rattle.st_cases.proofs.graphs.are_inside.Given as goal
 
 abbrev pub invariant-loop-list : goal.invariant-loop-list
 invariant-loop-list l = All (All (λ n. n < length l.needs)) (take l.list-index l.needs)

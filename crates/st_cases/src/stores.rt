@@ -1,20 +1,14 @@
 //! Cases of files and sinks in memory, and of whole numbers in decimal.
 
-use crate::commands::file;
-use crate::fault::Fault;
-use crate::fields::{Fields, first_word, number};
-use crate::page::put_lines;
-use crate::told::{Put, put_file_error, put_sink_error};
+use case_text::{Fault, Fields, Put, file, first_word, number, put_lines};
 use cif_base::read_int;
 use cif_io::{FileErr, Files, MemFile, MemFiles, MemSink, SinkErr, SureFiles, SureSink, put_all};
 
 fn put_written(page: &mut String, ended: Result<(), SinkErr>, bytes: &[u8]) -> Put {
-    page.push_str("  ")?;
     match ended {
-        Ok(()) => page.push_str("Ok")?,
-        Err(error) => put_sink_error(page, error)?,
+        Ok(()) => page.push_str("  Ok\n")?,
+        Err(error) => writeln!(page, "  {error:?}")?,
     }
-    page.push('\n')?;
     put_lines(page, "sink", bytes)
 }
 
@@ -44,12 +38,10 @@ pub fn sure_put_case(fields: &Fields<'_>, page: &mut String) -> Result<(), Fault
 }
 
 fn put_read(page: &mut String, ended: Result<(), FileErr>, into: &[u8]) -> Put {
-    page.push_str("  ")?;
     match ended {
-        Ok(()) => page.push_str("Ok")?,
-        Err(error) => put_file_error(page, error)?,
+        Ok(()) => page.push_str("  Ok\n")?,
+        Err(error) => writeln!(page, "  {error:?}")?,
     }
-    page.push('\n')?;
     put_lines(page, "into", into)
 }
 

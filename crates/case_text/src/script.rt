@@ -1,11 +1,16 @@
 //! The lines of the cases, one after the other.
 
-use crate::calls::Call;
 use crate::fault::Fault;
 use crate::fields::{Fields, first_word};
+use crate::page::Put;
 use crate::texts::{Names, bytes_of};
-use crate::told::Put;
 use std::alloc::Global;
+
+/// The calls of a program of cases.
+pub trait Calls {
+    /// Makes the call that a case names by its first word, and prints what it answers.
+    fn answer(&self, call: &str, fields: &Fields<'_>, page: &mut String) -> Result<(), Fault>;
+}
 
 /// What the lines so far leave: the names that they define, and how many calls they made.
 #[derive(Drop)]
@@ -37,21 +42,26 @@ impl Script {
     }
 
     /// What is printed for a line: itself, and the answer where it is a case.
-    pub fn line(&mut self, line: &str) -> Result<String, Fault> {
+    pub fn line<C: Calls>(&mut self, calls: &C, line: &str) -> Result<String, Fault> {
         let mut page = String::from_str(self.alloc, line)?;
-        self.put_answer(line, &mut page)?;
+        self.put_answer(calls, line, &mut page)?;
         Ok(page)
     }
 
     /// The end of a line, and the answer where it is a case.
-    fn put_answer(&mut self, line: &str, page: &mut String) -> Result<(), Fault> {
+    fn put_answer<C: Calls>(
+        &mut self,
+        calls: &C,
+        line: &str,
+        page: &mut String,
+    ) -> Result<(), Fault> {
         page.push('\n')?;
         let (word, rest) = first_word(line);
         match word {
             "" | "#" => Ok(()),
             "let" => self.define(rest),
-            "each" => self.each_byte(rest, page),
-            _ => self.call(line, page),
+            "each" => self.each_byte(calls, rest, page),
+            _ => self.call(calls, line, page),
         }
     }
 
@@ -63,14 +73,11 @@ impl Script {
     }
 
     /// `CALL FIELD | FIELD ..`
-    fn call(&mut self, text: &str, page: &mut String) -> Result<(), Fault> {
+    fn call<C: Calls>(&mut self, calls: &C, text: &str, page: &mut String) -> Result<(), Fault> {
         let (word, rest) = first_word(text);
-        let Some(call) = Call::named(word) else {
-            return Err(Fault::Form("no such call"));
-        };
         self.calls = self.calls.saturating_add(1);
         let fields = Fields::new(self.alloc, &self.names, rest)?;
-        call.answer(&fields, page)
+        calls.answer(word, &fields, page)
     }
 
     /// Takes `{byte}` for this byte.
@@ -80,20 +87,25 @@ impl Script {
     }
 
     /// The answer to a case where `{byte}` is this byte.
-    fn with_byte(&mut self, text: &str, byte: u8) -> Result<String, Fault> {
+    fn with_byte<C: Calls>(&mut self, calls: &C, text: &str, byte: u8) -> Result<String, Fault> {
         self.define_byte(byte)?;
         let mut answer = String::new(self.alloc);
-        self.call(text, &mut answer)?;
+        self.call(calls, text, &mut answer)?;
         self.names.forget();
         Ok(answer)
     }
 
     /// A case for each of the 256 bytes, with one answer for each run of bytes that have the same.
-    fn each_byte(&mut self, text: &str, page: &mut String) -> Result<(), Fault> {
-        let answer = self.with_byte(text, 0)?;
+    fn each_byte<C: Calls>(
+        &mut self,
+        calls: &C,
+        text: &str,
+        page: &mut String,
+    ) -> Result<(), Fault> {
+        let answer = self.with_byte(calls, text, 0)?;
         let mut group = Group::new(0, answer);
         for byte in 1..=255 {
-            let answer = self.with_byte(text, byte)?;
+            let answer = self.with_byte(calls, text, byte)?;
             group.add(byte, answer, page)?;
         }
         Ok(group.put(page)?)

@@ -3,11 +3,9 @@
 ghost use Rattle.std.specs.Prelude.{◌<◌, ◌^◌, All, IsTrue, length};
 ghost use Rattle.cif_order.specs.Graph.{AreInside};
 
-use crate::fault::Fault;
-use crate::fields::Fields;
-use crate::told::Put;
+use case_text::{Fault, Fields, Put};
 use cif_base::{Items, Memory};
-use cif_order::{OrderErr, lowest, order};
+use cif_order::{lowest, order};
 use std::alloc::Global;
 
 /// Whether each number is below another one.
@@ -46,8 +44,7 @@ fn put_order(alloc: Global, page: &mut String, needs: &[Items<u32>]) -> Put
             }
             page.push('\n')
         }
-        Err(OrderErr::Cycle { node }) => writeln!(page, "  Cycle {node}"),
-        Err(OrderErr::Memory) => writeln!(page, "  Memory"),
+        Err(error) => writeln!(page, "  {error:?}"),
     }
 }
 

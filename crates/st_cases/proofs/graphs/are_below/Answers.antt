@@ -1,7 +1,7 @@
 use Rattle.std.proofs.Common.{◌<◌, All, List, ℕ, subst, arith}
 use Rattle.std.proofs.lemmas.List.{take_all}
 use Rattle.std.proofs.lemmas.List.Elements.{All-more}
-use Rattle.cif_cases.proofs.graphs.are_below.Goals as goal
+use Rattle.st_cases.proofs.graphs.are_below.Goals as goal
 
 pub loop-number-preserved : goal.loop-number-preserved
 loop-number-preserved c =

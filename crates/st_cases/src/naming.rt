@@ -1,9 +1,6 @@
 //! Cases of the names of a generated program's variables.
 
-use crate::fault::Fault;
-use crate::fields::{Fields, first_word, number};
-use crate::page::put_text;
-use crate::told::Put;
+use case_text::{Fault, Fields, Put, first_word, number, put_text};
 use plc_face::Letter;
 use plc_names::name_of;
 

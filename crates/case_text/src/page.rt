@@ -2,8 +2,11 @@
 
 use std::alloc::AllocError;
 
+/// Whether a page had room.
+pub type Put = Result<(), AllocError>;
+
 /// A byte: itself where it is printable ASCII and no `\`, else an escape.
-pub fn put_byte(page: &mut String, byte: u8) -> Result<(), AllocError> {
+fn put_byte(page: &mut String, byte: u8) -> Put {
     match byte {
         b'\\' => page.push_str("\\\\"),
         b'\n' => page.push_str("\\n"),
@@ -13,7 +16,7 @@ pub fn put_byte(page: &mut String, byte: u8) -> Result<(), AllocError> {
 }
 
 /// A text in one line.
-pub fn put_text(page: &mut String, bytes: &[u8]) -> Result<(), AllocError> {
+pub fn put_text(page: &mut String, bytes: &[u8]) -> Put {
     for byte in bytes {
         put_byte(page, *byte)?;
     }
@@ -21,7 +24,7 @@ pub fn put_text(page: &mut String, bytes: &[u8]) -> Result<(), AllocError> {
 }
 
 /// A text line by line, each behind its label. A last line without a line feed ends in `\`.
-pub fn put_lines(page: &mut String, label: &str, bytes: &[u8]) -> Result<(), AllocError> {
+pub fn put_lines(page: &mut String, label: &str, bytes: &[u8]) -> Put {
     let mut is_open = false;
     for byte in bytes {
         if !is_open {

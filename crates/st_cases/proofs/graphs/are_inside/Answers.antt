@@ -1,7 +1,7 @@
 use Rattle.std.proofs.Common.{◌<◌, All, List, ℕ, length, subst, arith}
 use Rattle.std.proofs.lemmas.List.{take_all}
-use Rattle.cif_cases.proofs.Needs.{inside}
-use Rattle.cif_cases.proofs.graphs.are_inside.Goals as goal
+use Rattle.st_cases.proofs.Needs.{inside}
+use Rattle.st_cases.proofs.graphs.are_inside.Goals as goal
 
 pub returns : goal.returns
 returns c is =

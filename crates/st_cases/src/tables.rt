@@ -2,10 +2,8 @@
 
 ghost use Rattle.std.specs.Prelude.{◌≡◌, All, length, IfOk};
 
-use crate::fault::Fault;
-use crate::fields::Fields;
-use crate::page::put_lines;
 use crate::programs::{checked_of, put_no_program};
+use case_text::{Fault, Fields, put_lines};
 use cif_base::Items;
 use plc_rows::{Row, rows_text};
 use st_check::Checked;
