@@ -1,8 +1,3 @@
-pub mod CommandLemmas
-pub mod SourceLemmas
-pub mod ToldLemmas
-pub mod ReplayLemmas
-pub mod ScanLemmas
-pub mod EndLemmas
-pub mod ToolLemmas
-pub mod CompleteLemmas
+pub mod AskedLaws
+pub mod ToolLaws
+pub mod TakenLaws

@@ -1,10 +1,3 @@
-pub mod Command
-pub mod Asked
-pub mod Codes
-pub mod Limits
-pub mod Lines
-pub mod Replaying
-pub mod Answers
-pub mod Refusals
-pub mod Ends
-pub mod Scanning
+pub mod Commands
+pub mod Asks
+pub mod Laws

@@ -1,17 +1,13 @@
-//! What the commands do, from the words of a command line to a status, with what is proved of them as the contract of `tool`.
+//! The top call: it dispatches the words of a command line to the command that they ask for, with what is proved of all
+//! commands as the contract of `tool`.
 #![tactic(auto)]
 
-mod checking;
-mod command;
-mod ended;
-mod generating;
-mod reading;
-mod replaying;
+mod laws;
 mod running;
-mod scanning;
-mod sources;
-mod status;
-mod telling;
 
+pub use cif_run::{Refusal, StRefusal, Status, code};
+pub use laws::{
+    replay_takes_what_generate_writes, these_rows_are_read, these_words_ask_for_generate,
+    this_line_is_told,
+};
 pub use running::tool;
-pub use status::{Refusal, StRefusal, Status, code};

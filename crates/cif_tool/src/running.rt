@@ -1,10 +1,8 @@
 //! The top call: from the words of a command line to a status, through files and sinks.
 
-ghost use Rattle.std.specs.Prelude.{◌≡◌, ◌<◌, ◌≤◌, ◌⊎◌, ◌++◌, ℕ, ℤ, List, None, Some, map, string_bytes, length, IfOk, IfErr};
+ghost use Rattle.std.specs.Prelude.{◌≡◌, ◌<◌, ◌≤◌, ◌⊎◌, ℕ, ℤ, List, Some, map, string_bytes, length};
 ghost use Rattle.cif_io.specs.Faults.{Rose};
-ghost use Rattle.cif_plant.specs.declared.plant.Plant.{Plant};
-ghost use Rattle.cif_form.specs.Source.{ReadsAsPlant};
-ghost use Rattle.cif_plant.specs.Numbers.{numbered};
+ghost use Rattle.cif_io.specs.Written.{grown};
 ghost use Rattle.st_ast.specs.ReadsAs.{ReadsAsProgram};
 ghost use Rattle.st_ast.specs.Scan.{start_memory};
 ghost use Rattle.st_ast.specs.Tree.{Program};
@@ -13,89 +11,61 @@ ghost use Rattle.st_scan.specs.Endings.{stopped};
 ghost use Rattle.st_scan.specs.declared.error.ScanErr.{ScanErr};
 ghost use Rattle.plc_rows.specs.Rows.{RowsOf};
 ghost use Rattle.plc_rows.specs.declared.error.RowErr.{RowErr};
-ghost use Rattle.cif_plant.specs.Meaning.{system_of};
-ghost use Rattle.plc_face.specs.Scans.{IsProgramOf, NeverFaults, RunsFirstSteps, ScansLegally, ScansExactly, ShowsOutputs, StaysTyped};
-ghost use Rattle.plc_gen.specs.Interface.{face_of};
+ghost use Rattle.plc_face.specs.Face.{HasInterface};
+ghost use Rattle.plc_face.specs.Scans.{NeverFaults, RunsFirstSteps, ScansLegally, ScansExactly, ShowsOutputs, StaysTyped};
 ghost use Rattle.plc_back.specs.Texts.{IsLayoutOf, TheProgram};
-ghost use Rattle.cif_tool.specs.declared.status.Refusal.{Refusal};
-ghost use Rattle.cif_tool.specs.declared.status.StRefusal.{StRefusal};
-ghost use Rattle.cif_tool.specs.Asked.{asked};
-ghost use Rattle.cif_tool.specs.Command.{Asked, Check, Replay, IsAsked, IsBounded, IsCheck, IsReplay};
-ghost use Rattle.cif_tool.specs.Answers.{AsksSource, Generated, IsAnswer, IsNameIn, IsUnlessMemory, NamesBoth, NamesSource, OfBoth, Output, Overlong, Quiet, Ran, SourceRefused, Stops, Told, Unread, accepted, status_of_scan};
-ghost use Rattle.cif_tool.specs.Ends.{IsNameFor};
-ghost use Rattle.cif_tool.specs.Limits.{source_limit, st_limit, rows_limit};
-ghost use Rattle.cif_tool.specs.Replaying.{AllEnd, AreRowsRefused, ComesTo, IsRowRefused, IsStRefused, IsTableFor, Reads, StopsAt};
+ghost use Rattle.cif_run.specs.declared.status.Refusal.{Refusal};
+ghost use Rattle.cif_run.specs.declared.status.StRefusal.{StRefusal};
+ghost use Rattle.cif_run.specs.Groups.{IsUnlessMemory};
+ghost use Rattle.cif_run.specs.Works.{Comes, Output, Overlong, Unread, reading, writing};
+ghost use Rattle.cif_run.specs.Tells.{Told};
+ghost use Rattle.cif_accept.specs.Built.{Built, ReadsAsBuilt};
+ghost use Rattle.cif_accept.specs.Accepts.{SourceIs, SourceRefused, source_limit};
+ghost use Rattle.cif_check.specs.Words.{Check, IsCheck};
+ghost use Rattle.cif_check.specs.Checks.{accepted};
+ghost use Rattle.cif_generate.specs.Meaning.{StartsInitial, meant_by, shown_of};
+ghost use Rattle.cif_replay.specs.Words.{Replay, IsReplay};
+ghost use Rattle.cif_replay.specs.Replaying.{AllEnd, AreRowsRefused, ComesTo, IsRowRefused, IsStRefused, IsTableFor, Reads, StopsAt, status_of_scan};
+ghost use Rattle.cif_replay.specs.Replays.{OfBoth, OfFirst, rows_limit, st_limit};
+ghost use Rattle.cif_tool.specs.Asks.{Asked, AsksSource, Generated, IsAsked, NamesBoth, NamesSource, NoCommand, Quiet, tool_work};
 
-use crate::checking::accepted_text;
-use crate::command::{Command, read_words};
-use crate::ended::Ended;
-use crate::generating::generated_text;
-use crate::replaying::replayed_text;
-use crate::status::Status;
-use crate::telling::report;
-use cif_io::{Files, Sink, SinkErr, put_all};
+use cif_check::check;
+use cif_generate::generate;
+use cif_io::{Files, Sink};
+use cif_replay::replay;
+use cif_run::{Ended, Status, report};
 use std::alloc::Global;
 
-/// The text of what is asked for.
-fn text_of<F: Files>(alloc: Global, command: &Command<'_>, files: &mut F) -> Result<Vec<u8>, Ended>
-    requires { IsBounded (asked command.now) }
-    ensures answer { IfOk result (λ text. IsAnswer (F.content files.old) (asked command.now) text.items) }
-    ensures stops { IfErr result (λ e. Stops (F.content files.old) (F.faults files.old) (F.faults files.new) (F.most files.new) (asked command.now) e.status) }
-    ensures named { IfErr result (λ e. IsNameFor (F.content files.old) (asked command.now) e.status e.variable) }
+/// Runs the command that the words ask for, up to what is told on the standard error.
+fn run_words<F: Files, O: Sink>(
+    alloc: Global,
+    words: &[String],
+    files: &mut F,
+    out: &mut O,
+) -> Ended
+    ensures came { Comes (tool_work (map string_bytes words.now) (F.content files.old))
+        (reading (F.content files.old) (F.faults files.old) (F.faults files.new) (F.most files.new))
+        (writing (O.written out.old) (O.written out.new) (O.faults out.old) (O.faults out.new)) result }
+    ensures nothing_read { result.status ≡ Status.Usage → files.new ≡ files.old }
+    ensures kept { (n : List ℕ) → F.content files.new n ≡ F.content files.old n }
+    ensures faults_stay_or_rise { (n : List ℕ) → F.faults files.old n ≤ F.faults files.new n }
+    ensures most_stays_or_rises { (n : List ℕ) → F.most files.old n ≤ F.most files.new n }
+    ensures out_faults_stay_or_rise { O.faults out.old ≤ O.faults out.new }
 {
-    match command {
-        Command::Check(asked) => match accepted_text(alloc, asked, files) {
-            Ok(text) => Ok(text),
-            Err(status) => Err(Ended::plain(alloc, status)),
-        },
-        Command::Generate(asked) => match generated_text(alloc, asked, files) {
-            Ok(text) => Ok(text),
-            Err(status) => Err(Ended::plain(alloc, status)),
-        },
-        Command::Replay(asked) => replayed_text(alloc, asked, files),
+    if let Some(asked) = cif_check::read_words(words) {
+        return check(alloc, &asked, files, out);
     }
+    if let Some(asked) = cif_generate::read_words(words) {
+        return generate(alloc, &asked, files, out);
+    }
+    if let Some(asked) = cif_replay::read_words(words) {
+        return replay(alloc, &asked, files, out);
+    }
+    Ended::plain(alloc, Status::Usage)
 }
 
-/// Runs a command, up to what is told on the standard error.
-fn run<F: Files, O: Sink>(alloc: Global, words: &[String], files: &mut F, out: &mut O) -> Ended
-    ensures ran { Ran (record {
-      words = map string_bytes words.now;
-      content = F.content files.old;
-      faults = F.faults files.old;
-      faults_after = F.faults files.new;
-      most_after = F.most files.new;
-      old = O.written out.old;
-      new = O.written out.new;
-      out_faults = O.faults out.old;
-      out_faults_after = O.faults out.new;
-    }) result.status }
-    ensures named { IsNameIn (map string_bytes words.now) (F.content files.old) result.status result.variable }
-{
-    let Some(command) = read_words(words) else {
-        return Ended::plain(alloc, Status::Usage);
-    };
-    let text = match text_of(alloc, &command, files) {
-        Ok(text) => text,
-        Err(ended) => return ended,
-    };
-    let status = match put_all(out, text.as_slice()) {
-        Ok(()) => Status::Done,
-        Err(SinkErr::Failed) => Status::WriteFault,
-        Err(SinkErr::Memory) => Status::Memory,
-    };
-    Ended::plain(alloc, status)
-}
-
-/// Runs the command of the words after the program's name. Nothing goes to `out` before the whole text is built.
-///
-/// `check FILE` reads a source (CIF 3 language reference), tells where it is wrong, and writes `ok` where it is accepted: where
-/// it is one plant automaton without data.
-///
-/// `generate FILE [--unc N] [--con N]` reads the same and writes a Structured Text program (IEC 61131-3) that makes its scans, with at most N rounds of uncontrollable and of controllable
-/// events in a scan: 1 to 10,000, and 100 where the option is left out.
-///
-/// `replay ST ROWS` reads a Structured Text program and a file of rows, makes a scan for each row, and writes the table of the
-/// program's outputs after each.
+/// Runs the command of the words after the program's name: `check FILE`, `generate FILE [--unc N] [--con N]`, where N is 1 to 10,000
+/// and 100 where the option is left out, or `replay ST ROWS`. Nothing goes to `out` before the whole text is built.
 pub fn tool<F: Files, O: Sink, E: Sink>(
     alloc: Global,
     words: &[String],
@@ -103,17 +73,54 @@ pub fn tool<F: Files, O: Sink, E: Sink>(
     out: &mut O,
     err: &mut E,
 ) -> Status
+    // After Done of `generate`: what was written is a program of the source, and every list of its scans is one of the
+    // source's scans.
+    ensures program { Generated result (map string_bytes words.now) (F.content files.old)
+        (O.written out.old) (O.written out.new)
+        (λ g t text. TheProgram text (HasInterface (shown_of t))) }
+    ensures starts_initial { Generated result (map string_bytes words.now) (F.content files.old)
+        (O.written out.old) (O.written out.new)
+        (λ g t text. TheProgram text (StartsInitial (shown_of t) (meant_by t))) }
+    ensures runs_first_steps { Generated result (map string_bytes words.now) (F.content files.old)
+        (O.written out.old) (O.written out.new)
+        (λ g t text. TheProgram text (RunsFirstSteps (shown_of t) (meant_by t))) }
+    ensures never_faults { Generated result (map string_bytes words.now) (F.content files.old)
+        (O.written out.old) (O.written out.new)
+        (λ g t text. TheProgram text (NeverFaults (meant_by t))) }
+    ensures scans_legally { Generated result (map string_bytes words.now) (F.content files.old)
+        (O.written out.old) (O.written out.new)
+        (λ g t text. TheProgram text (ScansLegally g.unc g.con (shown_of t) (meant_by t))) }
+    ensures scans_exactly { Generated result (map string_bytes words.now) (F.content files.old)
+        (O.written out.old) (O.written out.new)
+        (λ g t text. TheProgram text (ScansExactly g.unc g.con (shown_of t) (meant_by t))) }
+    ensures shows_outputs { Generated result (map string_bytes words.now) (F.content files.old)
+        (O.written out.old) (O.written out.new)
+        (λ g t text. TheProgram text (ShowsOutputs (shown_of t) (meant_by t))) }
+    ensures stays_typed { Generated result (map string_bytes words.now) (F.content files.old)
+        (O.written out.old) (O.written out.new)
+        (λ g t text. TheProgram text (StaysTyped (meant_by t))) }
+    ensures laid_out { Generated result (map string_bytes words.now) (F.content files.old)
+        (O.written out.old) (O.written out.new)
+        (λ g t text. TheProgram text (IsLayoutOf text)) }
+
     // The words.
     ensures usage { result ≡ Status.Usage → (a : Asked) → IsAsked (map string_bytes words.now) a → ⊥ }
-    ensures no_command_is_usage { ((a : Asked) → IsAsked (map string_bytes words.now) a → ⊥) →
-        IsUnlessMemory result Status.Usage }
+    ensures no_command_is_usage { NoCommand (map string_bytes words.now) → IsUnlessMemory result Status.Usage }
+    ensures usage_reads_nothing { result ≡ Status.Usage → files.new ≡ files.old }
 
-    // The files and the output.
-    ensures read_fault { (k : ℕ) → result ≡ Status.ReadFault k → (a : Asked) × IsAsked (map string_bytes words.now) a
-        × Unread (F.content files.old) (F.faults files.old) (F.faults files.new) a k }
+    // The files and the output: what files hold stays, and no count falls.
+    ensures files_kept { (n : List ℕ) → F.content files.new n ≡ F.content files.old n }
+    ensures file_faults_stay_or_rise { (n : List ℕ) → F.faults files.old n ≤ F.faults files.new n }
+    ensures most_stays_or_rises { (n : List ℕ) → F.most files.old n ≤ F.most files.new n }
+    ensures out_faults_stay_or_rise { O.faults out.old ≤ O.faults out.new }
+    ensures err_faults_stay_or_rise { E.faults err.old ≤ E.faults err.new }
+    ensures read_fault { (k : ℕ) → result ≡ Status.ReadFault k →
+        Unread (tool_work (map string_bytes words.now) (F.content files.old))
+        (reading (F.content files.old) (F.faults files.old) (F.faults files.new) (F.most files.new)) k }
     ensures write_fault { result ≡ Status.WriteFault → Rose (O.faults out.old) (O.faults out.new) }
-    ensures too_big { (k : ℕ) → result ≡ Status.TooBig k → (a : Asked) × IsAsked (map string_bytes words.now) a
-        × Overlong (F.content files.old) (F.most files.new) a k }
+    ensures too_big { (k : ℕ) → result ≡ Status.TooBig k →
+        Overlong (tool_work (map string_bytes words.now) (F.content files.old))
+        (reading (F.content files.old) (F.faults files.old) (F.faults files.new) (F.most files.new)) k }
     ensures longer_is_too_big { (file bytes : List ℕ) →
         NamesSource (map string_bytes words.now) (F.content files.old) file bytes →
         (Rose (F.faults files.old file) (F.faults files.new file) → ⊥) →
@@ -127,28 +134,29 @@ pub fn tool<F: Files, O: Sink, E: Sink>(
         Quiet r (F.faults files.old) (F.faults files.new) → length st ≤ st_limit → Reads st →
         rows_limit < length rows → IsUnlessMemory result (Status.TooBig 2) }
 
-    // The source of `check` and `generate`: it is refused exactly where it reads as no plant, and else the command is done.
+    // The source of `check` and `generate`: it is refused exactly where it reads as nothing that is built, and else the command is
+    // done.
     ensures refused { (why : Refusal) → result ≡ Status.Refused why → (file : List ℕ)
         × AsksSource (map string_bytes words.now) file × SourceRefused (F.content files.old) file why }
     ensures other_text_is_refused { (file bytes : List ℕ) →
         NamesSource (map string_bytes words.now) (F.content files.old) file bytes →
         (Rose (F.faults files.old file) (F.faults files.new file) → ⊥) → length bytes ≤ source_limit →
-        ((p : Plant) → ReadsAsPlant bytes p → ⊥) →
+        ((t : Built) → ReadsAsBuilt bytes t → ⊥) →
         ((why : Refusal) × (result ≡ Status.Refused why)) ⊎ (result ≡ Status.Memory) }
-    ensures plant_is_done { (file bytes : List ℕ) →
+    ensures built_is_done { (file bytes : List ℕ) →
         NamesSource (map string_bytes words.now) (F.content files.old) file bytes →
         (Rose (F.faults files.old file) (F.faults files.new file) → ⊥) → length bytes ≤ source_limit →
-        (Rose (O.faults out.old) (O.faults out.new) → ⊥) → (p : Plant) → ReadsAsPlant bytes p →
+        (Rose (O.faults out.old) (O.faults out.new) → ⊥) → (t : Built) → ReadsAsBuilt bytes t →
         IsUnlessMemory result Status.Done }
-    ensures checked { result ≡ Status.Done → (k : Check) (bytes : List ℕ) →
-        IsCheck (map string_bytes words.now) k → F.content files.old k.file ≡ Some bytes →
-        ((p : Plant) × ReadsAsPlant bytes p)
-        × ((before : List ℕ) → O.written out.old ≡ Some before → O.written out.new ≡ Some (before ++ accepted)) }
+    // `check` writes `ok`, whatever is told, and only over a source.
+    ensures checked { result ≡ Status.Done → (k : Check) → IsCheck (map string_bytes words.now) k →
+        ((t : Built) × SourceIs (F.content files.old) k.file t)
+        × (O.written out.new ≡ grown (O.written out.old) accepted) }
 
     // The program of `replay`: it is refused exactly where it reads as none.
     ensures program_refused { (why : StRefusal) → result ≡ Status.StRefused why → (r : Replay)
         × IsReplay (map string_bytes words.now) r
-        × ((st : List ℕ) → F.content files.old r.st ≡ Some st → (length st ≤ st_limit) × IsStRefused st why) }
+        × OfFirst (F.content files.old) r (λ st. IsStRefused st why) }
     ensures other_program_is_refused { (r : Replay) (st : List ℕ) →
         IsReplay (map string_bytes words.now) r → F.content files.old r.st ≡ Some st →
         (Rose (F.faults files.old r.st) (F.faults files.new r.st) → ⊥) → length st ≤ st_limit →
@@ -184,43 +192,19 @@ pub fn tool<F: Files, O: Sink, E: Sink>(
         (Rose (O.faults out.old) (O.faults out.new) → ⊥) →
         (p : Program) → ReadsAsProgram st p → (rs : List (List ℤ)) → RowsOf p.vars rows rs → AllEnd p rs →
         IsUnlessMemory result Status.Done }
-    ensures replayed { result ≡ Status.Done → (r : Replay) (st rows : List ℕ) →
-        NamesBoth (map string_bytes words.now) (F.content files.old) r st rows →
-        (text : List ℕ) × IsTableFor st rows text
-        × ((before : List ℕ) → O.written out.old ≡ Some before → O.written out.new ≡ Some (before ++ text)) }
+    ensures replayed { result ≡ Status.Done → (r : Replay) → IsReplay (map string_bytes words.now) r →
+        (text : List ℕ) × OfBoth (F.content files.old) r (λ st rows. IsTableFor st rows text)
+        × (O.written out.new ≡ grown (O.written out.old) text) }
 
-    // What is written.
-    ensures output { Output (map string_bytes words.now) (F.content files.old)
+    // What is written, after each status: the whole text of what is asked for, its beginning, or nothing.
+    ensures output { Output (tool_work (map string_bytes words.now) (F.content files.old))
         (O.written out.old) (O.written out.new) result }
-    ensures told { Told (map string_bytes words.now) (F.content files.old) (E.written err.old) (E.written err.new)
-        (Rose (E.faults err.old) (E.faults err.new)) result }
-
-    // After Done of `generate`: what was written is a program of the plant, and every list of its scans is one of the plant's
-    // scans.
-    ensures program { Generated result (map string_bytes words.now) (F.content files.old)
-        (O.written out.old) (O.written out.new)
-        (λ g p text. TheProgram text (IsProgramOf (face_of (numbered p)) (system_of p))) }
-    ensures never_faults { Generated result (map string_bytes words.now) (F.content files.old)
-        (O.written out.old) (O.written out.new)
-        (λ g p text. TheProgram text (NeverFaults (system_of p))) }
-    ensures runs_first_steps { Generated result (map string_bytes words.now) (F.content files.old)
-        (O.written out.old) (O.written out.new)
-        (λ g p text. TheProgram text (RunsFirstSteps (face_of (numbered p)) (system_of p))) }
-    ensures scans_legally { Generated result (map string_bytes words.now) (F.content files.old)
-        (O.written out.old) (O.written out.new)
-        (λ g p text. TheProgram text (ScansLegally g.unc g.con (face_of (numbered p)) (system_of p))) }
-    ensures scans_exactly { Generated result (map string_bytes words.now) (F.content files.old)
-        (O.written out.old) (O.written out.new)
-        (λ g p text. TheProgram text (ScansExactly g.unc g.con (face_of (numbered p)) (system_of p))) }
-    ensures shows_outputs { Generated result (map string_bytes words.now) (F.content files.old)
-        (O.written out.old) (O.written out.new)
-        (λ g p text. TheProgram text (ShowsOutputs (face_of (numbered p)) (system_of p))) }
-    ensures stays_typed { Generated result (map string_bytes words.now) (F.content files.old)
-        (O.written out.old) (O.written out.new)
-        (λ g p text. TheProgram text (StaysTyped (system_of p))) }
-    ensures laid_out { Generated result (map string_bytes words.now) (F.content files.old)
-        (O.written out.old) (O.written out.new) (λ g p text. TheProgram text (IsLayoutOf text)) }
+    // What is told: the line of an end to which the call came.
+    ensures told { Told (map string_bytes words.now) (tool_work (map string_bytes words.now) (F.content files.old))
+        (reading (F.content files.old) (F.faults files.old) (F.faults files.new) (F.most files.new))
+        (writing (O.written out.old) (O.written out.new) (O.faults out.old) (O.faults out.new))
+        (E.written err.old) (E.written err.new) (Rose (E.faults err.old) (E.faults err.new)) result }
 {
-    let ended = run(alloc, words, files, out);
+    let ended = run_words(alloc, words, files, out);
     report(alloc, words, ended, err)
 }

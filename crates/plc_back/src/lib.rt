@@ -8,6 +8,7 @@ ghost use Rattle.st_print.specs.Layout.{printed};
 ghost use Rattle.plc_face.specs.Scans.{IsProgramOf, NeverFaults, RunsFirstSteps, ScansLegally, ScansExactly, ShowsOutputs, StaysTyped};
 ghost use Rattle.plc_gen.specs.Emitted.{program_of};
 ghost use Rattle.plc_gen.specs.Interface.{face_of};
+ghost use Rattle.plc_back.specs.HasProgram.{HasProgram};
 ghost use Rattle.plc_back.specs.Texts.{IsLayoutOf, TheProgram};
 
 use cif_base::Memory;
@@ -34,6 +35,8 @@ pub fn generate_text(
     requires numbered { IsNumbered plant.now }
     requires named { IsNameText plant.now.name }
     requires turns { bounds.unc + bounds.con ≤ 1000000 }
+    ensures exact { IfOk result (λ text. HasProgram plant.now bounds.unc bounds.con
+        × (text.items ≡ printed (program_of plant.now bounds.unc bounds.con))) }
     ensures program { IfOk result (λ text.
         TheProgram text.items (IsProgramOf (face_of plant.now) (system_of_numbered plant.now))) }
     ensures never_faults { IfOk result (λ text.

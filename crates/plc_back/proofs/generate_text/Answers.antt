@@ -11,6 +11,9 @@ use Rattle.plc_back.proofs.generate_text.Goals as goal
 has_program : (c : goal.In_ok-text) → HasProgram c.args.plant.now c.args.bounds.unc c.args.bounds.con
 has_program c = record { numbered = c.requires.numbered; name = c.requires.named; few_places = omega arith; unc = omega arith; con = omega arith }
 
+pub returns-clause-exact : goal.returns-clause-exact
+returns-clause-exact c = (has_program c, c.in_ok-text.ensures)
+
 pub returns-clause-program : goal.returns-clause-program
 returns-clause-program c =
     subst (λ (t : Text). TheProgram t (IsProgramOf (face_of c.args.plant.now) (system_of_numbered c.args.plant.now))) (sym c.in_ok-text.ensures)

@@ -1,158 +1,143 @@
-use Rattle.std.proofs.Common.{map, string_bytes}
-use Rattle.cif_plant.specs.Numbers.{numbered}
-use Rattle.cif_plant.specs.Meaning.{system_of}
-use Rattle.plc_face.specs.Scans.{IsProgramOf, NeverFaults, RunsFirstSteps, ScansLegally, ScansExactly, ShowsOutputs, StaysTyped}
-use Rattle.plc_gen.specs.Interface.{face_of}
+-- Each clause is one line from a law of the commands.
+use Rattle.std.proofs.Common.{◌≡◌, List, map, string_bytes, inl, inr, sym, ◌∙◌}
+use Rattle.grammar.specs.Pieces.{Text}
+use Rattle.plc_face.specs.Face.{HasInterface}
+use Rattle.plc_face.specs.Scans.{NeverFaults, RunsFirstSteps, ScansLegally, ScansExactly, ShowsOutputs, StaysTyped}
 use Rattle.plc_back.specs.Texts.{IsLayoutOf, TheProgram}
-use Rattle.cif_tool.specs.Answers.{Call}
-use Rattle.cif_tool.proofs.ToolLemmas as tool
-use Rattle.cif_tool.proofs.CompleteLemmas as complete
-use Rattle.cif_tool.proofs.ToldLemmas.{named_told}
+use Rattle.cif_run.specs.declared.status.Status.TheVariants as status
+use Rattle.cif_run.specs.declared.ended.Ended.{Ended}
+use Rattle.cif_run.specs.Works.{Reading, Work, Writing, reading, writing}
+use Rattle.cif_run.proofs.CallLaws as call
+use Rattle.cif_generate.specs.Meaning.{StartsInitial, meant_by, shown_of}
+use Rattle.cif_generate.proofs.GenerateLaws as generates
+use Rattle.cif_replay.proofs.ReplayLaws as replays
+use Rattle.cif_tool.specs.Commands.{replay}
+use Rattle.cif_tool.specs.Asks.{tool_work}
+use Rattle.cif_tool.proofs.ToolLaws as tool
 use Rattle.cif_tool.proofs.running.tool.Given.{Over}
 use Rattle.cif_tool.proofs.running.tool.Goals as goal
 
--- what the run began and ended with
-call : (g : Over) → goal.After-report g → Call
-call g c = record {
-  words = map string_bytes c.args.words.now;
-  content = g.F.Files.content c.args.files.now;
-  faults = g.F.Files.faults c.args.files.now;
-  faults_after = g.F.Files.faults c.run-ended.new.files;
-  most_after = g.F.Files.most c.run-ended.new.files;
-  old = g.O.Sink.written c.args.out.now;
-  new = g.O.Sink.written c.run-ended.new.out;
-  out_faults = g.O.Sink.faults c.args.out.now;
-  out_faults_after = g.O.Sink.faults c.run-ended.new.out;
-}
+-- what the call began and ended with
+abbrev texts : (g : Over) → goal.After-report g → List Text
+texts g c = map string_bytes c.args.words.now
 
-pub returns-clause-usage : goal.returns-clause-usage
-unfolding call
-returns-clause-usage g c = tool.usage (call g c) c.run-ended.result.status c.report.result c.run-ended.ensures.ran c.report.ensures.unless_memory
+abbrev files_of : (g : Over) → goal.After-report g → Reading
+files_of g c = reading (g.F.Files.content c.args.files.now) (g.F.Files.faults c.args.files.now) (g.F.Files.faults c.run_words-ended.new.files) (g.F.Files.most c.run_words-ended.new.files)
 
-pub returns-clause-read_fault : goal.returns-clause-read_fault
-unfolding call
-returns-clause-read_fault g c = tool.read_fault (call g c) c.run-ended.result.status c.report.result c.run-ended.ensures.ran c.report.ensures.unless_memory
-
-pub returns-clause-write_fault : goal.returns-clause-write_fault
-unfolding call
-returns-clause-write_fault g c = tool.write_fault (call g c) c.run-ended.result.status c.report.result c.run-ended.ensures.ran c.report.ensures.unless_memory
-
-pub returns-clause-too_big : goal.returns-clause-too_big
-unfolding call
-returns-clause-too_big g c = tool.too_big (call g c) c.run-ended.result.status c.report.result c.run-ended.ensures.ran c.report.ensures.unless_memory
-
-pub returns-clause-refused : goal.returns-clause-refused
-unfolding call
-returns-clause-refused g c = tool.refused (call g c) c.run-ended.result.status c.report.result c.run-ended.ensures.ran c.report.ensures.unless_memory
-
-pub returns-clause-checked : goal.returns-clause-checked
-unfolding call
-returns-clause-checked g c = tool.checked (call g c) c.run-ended.result.status c.report.result c.run-ended.ensures.ran c.report.ensures.unless_memory
-
-pub returns-clause-program_refused : goal.returns-clause-program_refused
-unfolding call
-returns-clause-program_refused g c = tool.program_refused (call g c) c.run-ended.result.status c.report.result c.run-ended.ensures.ran c.report.ensures.unless_memory
-
-pub returns-clause-rows_refused : goal.returns-clause-rows_refused
-unfolding call
-returns-clause-rows_refused g c = tool.rows_refused (call g c) c.run-ended.result.status c.report.result c.run-ended.ensures.ran c.report.ensures.unless_memory
-
-pub returns-clause-scan_fault : goal.returns-clause-scan_fault
-unfolding call
-returns-clause-scan_fault g c = tool.scan_fault (call g c) c.run-ended.result.status c.report.result c.run-ended.ensures.ran c.report.ensures.unless_memory
-
-pub returns-clause-budget : goal.returns-clause-budget
-unfolding call
-returns-clause-budget g c = tool.budget (call g c) c.run-ended.result.status c.report.result c.run-ended.ensures.ran c.report.ensures.unless_memory
-
-pub returns-clause-replayed : goal.returns-clause-replayed
-unfolding call
-returns-clause-replayed g c = tool.replayed (call g c) c.run-ended.result.status c.report.result c.run-ended.ensures.ran c.report.ensures.unless_memory
-
-pub returns-clause-output : goal.returns-clause-output
-unfolding call
-returns-clause-output g c = tool.output (call g c) c.run-ended.result.status c.report.result c.run-ended.ensures.ran c.report.ensures.unless_memory
-
-pub returns-clause-no_command_is_usage : goal.returns-clause-no_command_is_usage
-unfolding call
-returns-clause-no_command_is_usage g c = tool.no_command (call g c) c.run-ended.result.status c.report.result c.run-ended.ensures.ran c.report.ensures.unless_memory
-
-pub returns-clause-longer_is_too_big : goal.returns-clause-longer_is_too_big
-unfolding call
-returns-clause-longer_is_too_big g c a bytes names sure = complete.longer_is_too_big (call g c) c.run-ended.result.status c.report.result c.run-ended.ensures.ran c.report.ensures.unless_memory a bytes names sure
-
-pub returns-clause-other_text_is_refused : goal.returns-clause-other_text_is_refused
-unfolding call
-returns-clause-other_text_is_refused g c a bytes names sure = complete.other_text_is_refused (call g c) c.run-ended.result.status c.report.result c.run-ended.ensures.ran c.report.ensures.unless_memory a bytes names sure
-
-pub returns-clause-plant_is_done : goal.returns-clause-plant_is_done
-unfolding call
-returns-clause-plant_is_done g c a bytes names sure = complete.plant_is_done (call g c) c.run-ended.result.status c.report.result c.run-ended.ensures.ran c.report.ensures.unless_memory a bytes names sure
-
-pub returns-clause-longer_program_is_too_big : goal.returns-clause-longer_program_is_too_big
-unfolding call
-returns-clause-longer_program_is_too_big g c r st is told sure = complete.longer_program_is_too_big (call g c) c.run-ended.result.status c.report.result c.run-ended.ensures.ran c.report.ensures.unless_memory r st is told sure
-
-pub returns-clause-other_program_is_refused : goal.returns-clause-other_program_is_refused
-unfolding call
-returns-clause-other_program_is_refused g c r st is told sure = complete.other_program_is_refused (call g c) c.run-ended.result.status c.report.result c.run-ended.ensures.ran c.report.ensures.unless_memory r st is told sure
-
-pub returns-clause-longer_rows_are_too_big : goal.returns-clause-longer_rows_are_too_big
-unfolding call
-returns-clause-longer_rows_are_too_big g c r st rows names quiet fits = complete.longer_rows_are_too_big (call g c) c.run-ended.result.status c.report.result c.run-ended.ensures.ran c.report.ensures.unless_memory r st rows names quiet fits
-
-pub returns-clause-other_rows_are_refused : goal.returns-clause-other_rows_are_refused
-unfolding call
-returns-clause-other_rows_are_refused g c r st rows names quiet fits short p reads = complete.other_rows_are_refused (call g c) c.run-ended.result.status c.report.result c.run-ended.ensures.ran c.report.ensures.unless_memory r st rows names quiet fits short p reads
-
-pub returns-clause-stopped_scan_is_told : goal.returns-clause-stopped_scan_is_told
-unfolding call
-returns-clause-stopped_scan_is_told g c r st rows names quiet fits short p reads rs are = complete.stopped_scan_is_told (call g c) c.run-ended.result.status c.report.result c.run-ended.ensures.ran c.report.ensures.unless_memory r st rows names quiet fits short p reads rs are
-
-pub returns-clause-replay_is_done : goal.returns-clause-replay_is_done
-unfolding call
-returns-clause-replay_is_done g c r st rows names quiet fits short still p reads rs are all =
-    complete.replay_is_done (call g c) c.run-ended.result.status c.report.result c.run-ended.ensures.ran c.report.ensures.unless_memory r st rows names quiet fits short p reads rs are still all
-
-pub returns-clause-told : goal.returns-clause-told
-returns-clause-told g c = named_told _ _ _ _ _ _ c.run-ended.result.status c.report.result c.run-ended.ensures.named c.report.ensures.unless_memory c.report.ensures.told
+abbrev out_of : (g : Over) → goal.After-report g → Writing
+out_of g c = writing (g.O.Sink.written c.args.out.now) (g.O.Sink.written c.run_words-ended.new.out) (g.O.Sink.faults c.args.out.now) (g.O.Sink.faults c.run_words-ended.new.out)
 
 pub returns-clause-program : goal.returns-clause-program
-unfolding call
-returns-clause-program g c = tool.generated (call g c) c.run-ended.result.status c.report.result c.run-ended.ensures.ran c.report.ensures.unless_memory
-    (λ m p text. TheProgram text (IsProgramOf (face_of (numbered p)) (system_of p))) (λ m p text h. h.program)
+returns-clause-program g c = tool.generated (texts g c) (files_of g c) (out_of g c) c.run_words-ended.result c.run_words-ended.ensures.came c.report.result c.report.ensures.unless_memory
+    (λ m t text. TheProgram text (HasInterface (shown_of t))) (λ m t text. generates.program m.unc m.con t text)
 
-pub returns-clause-never_faults : goal.returns-clause-never_faults
-unfolding call
-returns-clause-never_faults g c = tool.generated (call g c) c.run-ended.result.status c.report.result c.run-ended.ensures.ran c.report.ensures.unless_memory
-    (λ m p text. TheProgram text (NeverFaults (system_of p))) (λ m p text h. h.never_faults)
+pub returns-clause-starts_initial : goal.returns-clause-starts_initial
+returns-clause-starts_initial g c = tool.generated (texts g c) (files_of g c) (out_of g c) c.run_words-ended.result c.run_words-ended.ensures.came c.report.result c.report.ensures.unless_memory
+    (λ m t text. TheProgram text (StartsInitial (shown_of t) (meant_by t))) (λ m t text. generates.starts_initial m.unc m.con t text)
 
 pub returns-clause-runs_first_steps : goal.returns-clause-runs_first_steps
-unfolding call
-returns-clause-runs_first_steps g c = tool.generated (call g c) c.run-ended.result.status c.report.result c.run-ended.ensures.ran c.report.ensures.unless_memory
-    (λ m p text. TheProgram text (RunsFirstSteps (face_of (numbered p)) (system_of p))) (λ m p text h. h.runs_first_steps)
+returns-clause-runs_first_steps g c = tool.generated (texts g c) (files_of g c) (out_of g c) c.run_words-ended.result c.run_words-ended.ensures.came c.report.result c.report.ensures.unless_memory
+    (λ m t text. TheProgram text (RunsFirstSteps (shown_of t) (meant_by t))) (λ m t text. generates.runs_first_steps m.unc m.con t text)
+
+pub returns-clause-never_faults : goal.returns-clause-never_faults
+returns-clause-never_faults g c = tool.generated (texts g c) (files_of g c) (out_of g c) c.run_words-ended.result c.run_words-ended.ensures.came c.report.result c.report.ensures.unless_memory
+    (λ m t text. TheProgram text (NeverFaults (meant_by t))) (λ m t text. generates.never_faults m.unc m.con t text)
 
 pub returns-clause-scans_legally : goal.returns-clause-scans_legally
-unfolding call
-returns-clause-scans_legally g c = tool.generated (call g c) c.run-ended.result.status c.report.result c.run-ended.ensures.ran c.report.ensures.unless_memory
-    (λ m p text. TheProgram text (ScansLegally m.unc m.con (face_of (numbered p)) (system_of p))) (λ m p text h. h.scans_legally)
+returns-clause-scans_legally g c = tool.generated (texts g c) (files_of g c) (out_of g c) c.run_words-ended.result c.run_words-ended.ensures.came c.report.result c.report.ensures.unless_memory
+    (λ m t text. TheProgram text (ScansLegally m.unc m.con (shown_of t) (meant_by t))) (λ m t text. generates.scans_legally m.unc m.con t text)
 
 pub returns-clause-scans_exactly : goal.returns-clause-scans_exactly
-unfolding call
-returns-clause-scans_exactly g c = tool.generated (call g c) c.run-ended.result.status c.report.result c.run-ended.ensures.ran c.report.ensures.unless_memory
-    (λ m p text. TheProgram text (ScansExactly m.unc m.con (face_of (numbered p)) (system_of p))) (λ m p text h. h.scans_exactly)
+returns-clause-scans_exactly g c = tool.generated (texts g c) (files_of g c) (out_of g c) c.run_words-ended.result c.run_words-ended.ensures.came c.report.result c.report.ensures.unless_memory
+    (λ m t text. TheProgram text (ScansExactly m.unc m.con (shown_of t) (meant_by t))) (λ m t text. generates.scans_exactly m.unc m.con t text)
 
 pub returns-clause-shows_outputs : goal.returns-clause-shows_outputs
-unfolding call
-returns-clause-shows_outputs g c = tool.generated (call g c) c.run-ended.result.status c.report.result c.run-ended.ensures.ran c.report.ensures.unless_memory
-    (λ m p text. TheProgram text (ShowsOutputs (face_of (numbered p)) (system_of p))) (λ m p text h. h.shows_outputs)
+returns-clause-shows_outputs g c = tool.generated (texts g c) (files_of g c) (out_of g c) c.run_words-ended.result c.run_words-ended.ensures.came c.report.result c.report.ensures.unless_memory
+    (λ m t text. TheProgram text (ShowsOutputs (shown_of t) (meant_by t))) (λ m t text. generates.shows_outputs m.unc m.con t text)
 
 pub returns-clause-stays_typed : goal.returns-clause-stays_typed
-unfolding call
-returns-clause-stays_typed g c = tool.generated (call g c) c.run-ended.result.status c.report.result c.run-ended.ensures.ran c.report.ensures.unless_memory
-    (λ m p text. TheProgram text (StaysTyped (system_of p))) (λ m p text h. h.stays_typed)
+returns-clause-stays_typed g c = tool.generated (texts g c) (files_of g c) (out_of g c) c.run_words-ended.result c.run_words-ended.ensures.came c.report.result c.report.ensures.unless_memory
+    (λ m t text. TheProgram text (StaysTyped (meant_by t))) (λ m t text. generates.stays_typed m.unc m.con t text)
 
 pub returns-clause-laid_out : goal.returns-clause-laid_out
-unfolding call
-returns-clause-laid_out g c = tool.generated (call g c) c.run-ended.result.status c.report.result c.run-ended.ensures.ran c.report.ensures.unless_memory
-    (λ m p text. TheProgram text (IsLayoutOf text)) (λ m p text h. h.laid_out)
+returns-clause-laid_out g c = tool.generated (texts g c) (files_of g c) (out_of g c) c.run_words-ended.result c.run_words-ended.ensures.came c.report.result c.report.ensures.unless_memory
+    (λ m t text. TheProgram text (IsLayoutOf text)) (λ m t text. generates.laid_out m.unc m.con t text)
+
+pub returns-clause-usage : goal.returns-clause-usage
+returns-clause-usage g c = tool.usage (texts g c) (files_of g c) (out_of g c) c.run_words-ended.result c.run_words-ended.ensures.came c.report.result c.report.ensures.unless_memory
+
+pub returns-clause-no_command_is_usage : goal.returns-clause-no_command_is_usage
+returns-clause-no_command_is_usage g c = tool.no_command (texts g c) (files_of g c) (out_of g c) c.run_words-ended.result c.run_words-ended.ensures.came c.report.result c.report.ensures.unless_memory
+
+pub returns-clause-refused : goal.returns-clause-refused
+returns-clause-refused g c = tool.refused (texts g c) (files_of g c) (out_of g c) c.run_words-ended.result c.run_words-ended.ensures.came c.report.result c.report.ensures.unless_memory
+
+pub returns-clause-checked : goal.returns-clause-checked
+returns-clause-checked g c = tool.checked (texts g c) (files_of g c) (out_of g c) c.run_words-ended.result c.run_words-ended.ensures.came c.report.result c.report.ensures.unless_memory
+
+pub returns-clause-program_refused : goal.returns-clause-program_refused
+returns-clause-program_refused g c = tool.program_refused (texts g c) (files_of g c) (out_of g c) c.run_words-ended.result c.run_words-ended.ensures.came c.report.result c.report.ensures.unless_memory
+
+pub returns-clause-rows_refused : goal.returns-clause-rows_refused
+returns-clause-rows_refused g c = tool.rows_refused (texts g c) (files_of g c) (out_of g c) c.run_words-ended.result c.run_words-ended.ensures.came c.report.result c.report.ensures.unless_memory
+
+pub returns-clause-scan_fault : goal.returns-clause-scan_fault
+returns-clause-scan_fault g c = tool.scan_fault (texts g c) (files_of g c) (out_of g c) c.run_words-ended.result c.run_words-ended.ensures.came c.report.result c.report.ensures.unless_memory
+
+pub returns-clause-budget : goal.returns-clause-budget
+returns-clause-budget g c = tool.budget (texts g c) (files_of g c) (out_of g c) c.run_words-ended.result c.run_words-ended.ensures.came c.report.result c.report.ensures.unless_memory
+
+pub returns-clause-read_fault : goal.returns-clause-read_fault
+returns-clause-read_fault g c = call.read_fault (tool_work (texts g c) (g.F.Files.content c.args.files.now)) (files_of g c) (out_of g c) c.run_words-ended.result c.run_words-ended.ensures.came c.report.result c.report.ensures.unless_memory
+
+pub returns-clause-write_fault : goal.returns-clause-write_fault
+returns-clause-write_fault g c = call.write_fault (tool_work (texts g c) (g.F.Files.content c.args.files.now)) (files_of g c) (out_of g c) c.run_words-ended.result c.run_words-ended.ensures.came c.report.result c.report.ensures.unless_memory
+
+pub returns-clause-too_big : goal.returns-clause-too_big
+returns-clause-too_big g c = call.too_big (tool_work (texts g c) (g.F.Files.content c.args.files.now)) (files_of g c) (out_of g c) c.run_words-ended.result c.run_words-ended.ensures.came c.report.result c.report.ensures.unless_memory
+
+pub returns-clause-output : goal.returns-clause-output
+returns-clause-output g c = call.output (tool_work (texts g c) (g.F.Files.content c.args.files.now)) (files_of g c) (out_of g c) c.run_words-ended.result c.run_words-ended.ensures.came c.report.result c.report.ensures.unless_memory
+
+pub returns-clause-longer_is_too_big : goal.returns-clause-longer_is_too_big
+returns-clause-longer_is_too_big g c file bytes names sure = tool.longer_is_too_big (texts g c) (files_of g c) (out_of g c) c.run_words-ended.result c.run_words-ended.ensures.came c.report.result c.report.ensures.unless_memory file bytes names sure
+
+pub returns-clause-other_text_is_refused : goal.returns-clause-other_text_is_refused
+returns-clause-other_text_is_refused g c file bytes names sure = tool.other_text_is_refused (texts g c) (files_of g c) (out_of g c) c.run_words-ended.result c.run_words-ended.ensures.came c.report.result c.report.ensures.unless_memory file bytes names sure
+
+pub returns-clause-built_is_done : goal.returns-clause-built_is_done
+returns-clause-built_is_done g c file bytes names sure = tool.built_is_done (texts g c) (files_of g c) (out_of g c) c.run_words-ended.result c.run_words-ended.ensures.came c.report.result c.report.ensures.unless_memory file bytes names sure
+
+pub returns-clause-longer_program_is_too_big : goal.returns-clause-longer_program_is_too_big
+returns-clause-longer_program_is_too_big g c x st is told sure = replays.longer_program_is_too_big x (files_of g c) (out_of g c) c.run_words-ended.result
+    (tool.of_command (texts g c) (files_of g c) (out_of g c) c.run_words-ended.result c.run_words-ended.ensures.came c.report.result c.report.ensures.unless_memory replay x is) c.report.result c.report.ensures.unless_memory st told sure
+
+pub returns-clause-other_program_is_refused : goal.returns-clause-other_program_is_refused
+returns-clause-other_program_is_refused g c x st is told sure = replays.other_program_is_refused x (files_of g c) (out_of g c) c.run_words-ended.result
+    (tool.of_command (texts g c) (files_of g c) (out_of g c) c.run_words-ended.result c.run_words-ended.ensures.came c.report.result c.report.ensures.unless_memory replay x is) c.report.result c.report.ensures.unless_memory st told sure
+
+pub returns-clause-longer_rows_are_too_big : goal.returns-clause-longer_rows_are_too_big
+returns-clause-longer_rows_are_too_big g c x st rows names quiet fits = replays.longer_rows_are_too_big x (files_of g c) (out_of g c) c.run_words-ended.result
+    (tool.of_command (texts g c) (files_of g c) (out_of g c) c.run_words-ended.result c.run_words-ended.ensures.came c.report.result c.report.ensures.unless_memory replay x names.0) c.report.result c.report.ensures.unless_memory st names.1 quiet.0 rows names.2 quiet.1 fits
+
+pub returns-clause-other_rows_are_refused : goal.returns-clause-other_rows_are_refused
+returns-clause-other_rows_are_refused g c x st rows names quiet fits short p reads = replays.other_rows_are_refused x (files_of g c) (out_of g c) c.run_words-ended.result
+    (tool.of_command (texts g c) (files_of g c) (out_of g c) c.run_words-ended.result c.run_words-ended.ensures.came c.report.result c.report.ensures.unless_memory replay x names.0) c.report.result c.report.ensures.unless_memory st names.1 quiet.0 rows names.2 quiet.1 fits short p reads
+
+pub returns-clause-stopped_scan_is_told : goal.returns-clause-stopped_scan_is_told
+returns-clause-stopped_scan_is_told g c x st rows names quiet fits short p reads rs are = replays.stopped_scan_is_told x (files_of g c) (out_of g c) c.run_words-ended.result
+    (tool.of_command (texts g c) (files_of g c) (out_of g c) c.run_words-ended.result c.run_words-ended.ensures.came c.report.result c.report.ensures.unless_memory replay x names.0) c.report.result c.report.ensures.unless_memory st names.1 quiet.0 rows names.2 quiet.1 fits short p reads rs are
+
+pub returns-clause-replay_is_done : goal.returns-clause-replay_is_done
+returns-clause-replay_is_done g c x st rows names quiet fits short still p reads rs are all = replays.replay_is_done x (files_of g c) (out_of g c) c.run_words-ended.result
+    (tool.of_command (texts g c) (files_of g c) (out_of g c) c.run_words-ended.result c.run_words-ended.ensures.came c.report.result c.report.ensures.unless_memory replay x names.0) c.report.result c.report.ensures.unless_memory st names.1 quiet.0 rows names.2 quiet.1 fits short p reads rs are still all
+
+pub returns-clause-replayed : goal.returns-clause-replayed
+returns-clause-replayed g c done x is = replays.replayed x (files_of g c) (out_of g c) c.run_words-ended.result
+    (tool.of_command (texts g c) (files_of g c) (out_of g c) c.run_words-ended.result c.run_words-ended.ensures.came c.report.result c.report.ensures.unless_memory replay x is) c.report.result c.report.ensures.unless_memory done
+
+pub returns-clause-told : goal.returns-clause-told
+returns-clause-told g c = (c.run_words-ended.result, c.run_words-ended.ensures.came, c.report.ensures.tells)
+
+pub returns-clause-usage_reads_nothing : goal.returns-clause-usage_reads_nothing
+returns-clause-usage_reads_nothing g c is = c.run_words-ended.ensures.nothing_read (call.came_to (tool_work (texts g c) (g.F.Files.content c.args.files.now)) (files_of g c) (out_of g c) c.run_words-ended.result c.run_words-ended.ensures.came c.report.result c.report.ensures.unless_memory status.Usage (λ z. cc) is)

@@ -1,0 +1,8 @@
+//! The source side of the commands: from the bytes of a source to what is built of it, a plant, or why it is refused.
+#![tactic(auto)]
+
+mod accepting;
+mod sources;
+
+pub use accepting::accept_file;
+pub use sources::{SOURCE_LIMIT, read_source};

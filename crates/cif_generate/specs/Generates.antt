@@ -1,0 +1,21 @@
+-- What `generate` does.
+use Rattle.std.specs.Prelude.{◌≡◌, Option}
+use Rattle.grammar.specs.Pieces.{Text}
+use Rattle.cif_io.specs.Written.{grown}
+use Rattle.cif_run.specs.Works.{Content, Work}
+use Rattle.cif_accept.specs.Built.{Built}
+use Rattle.cif_accept.specs.Accepts.{SourceIs, source_work}
+use Rattle.cif_generate.specs.Words.{Generate as Asked}
+use Rattle.cif_generate.specs.Meaning.{IsTextOf}
+use Rattle.cif_generate.specs.declared.request.Generate.{Generate}
+
+abbrev pub generate_work : Asked → Content → Work
+generate_work g content = source_work content g.file (IsTextOf g.unc g.con)
+
+-- what is asked for, as the code holds it
+abbrev pub generate_of : Generate → Asked
+generate_of g = record { file = g.file.now; unc = g.bounds.unc; con = g.bounds.con }
+
+-- the file holds a source, and what was written is as P says of what it is built into
+abbrev pub Writes : Content → Text → Option Text → Option Text → (Built → Text → Type 0) → Type 0
+Writes content file old new P = (t : Built) × SourceIs content file t × ((text : Text) × (new ≡ grown old text) × P t text)

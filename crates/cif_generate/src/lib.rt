@@ -1,0 +1,11 @@
+//! The command `generate FILE [--unc N] [--con N]`: it reads a source and writes the text of its program, with what is promised
+//! of that text.
+#![tactic(auto)]
+
+mod command;
+mod request;
+mod words;
+
+pub use command::generate;
+pub use request::Generate;
+pub use words::read_words;

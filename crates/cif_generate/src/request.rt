@@ -1,0 +1,13 @@
+//! What `generate` is asked for.
+
+ghost use Rattle.std.specs.Prelude.{◌+◌, ◌≤◌};
+
+use plc_gen::Bounds;
+
+/// What `generate` is asked for. Both classes together have fewer rounds than a scan has loop turns.
+#[derive(Drop)]
+pub struct Generate<'a> {
+    pub file: &'a str,
+    pub bounds: Bounds,
+    ghost few: { bounds.unc + bounds.con ≤ 20000 },
+}

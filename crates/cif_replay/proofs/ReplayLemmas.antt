@@ -1,0 +1,170 @@
+-- What a replay comes to is one thing: its answers exclude one another.
+use Rattle.std.proofs.Common.{◌≡◌, ℕ, zero, suc, ◌<◌, ◌≤◌, ◌^◌, ℤ, List, [], ◌∷◌, length, Some, None, Result, Ok, Err, IfOk, IfErr, refl, sym, ap, subst, ◌∙◌, arith}
+use Rattle.grammar.specs.Pieces.{Text}
+use Rattle.st_ast.specs.Tree.{Program}
+use Rattle.st_ast.specs.Values.{Memory}
+use Rattle.st_ast.specs.Exec.{Outcome, Ended, Faulted, OutOfTurns}
+use Rattle.st_ast.specs.Scan.{scan_of, later_memories}
+use Rattle.st_ast.specs.Checks.{CheckFault, check_faults, stms_count}
+use Rattle.st_ast.specs.Scan.{is_input}
+use Rattle.st_ast.specs.View.{view, view_stmts}
+use Rattle.st_ast.specs.declared.tree.Program as rust
+use Rattle.st_read.specs.Derives.{Derives}
+use Rattle.st_read.proofs.Programs.{program_small}
+use Rattle.cif_replay.specs.Told.{variable_of_check}
+use Rattle.st_ast.specs.ReadsAs.{ReadsAsProgram}
+use Rattle.st_read.proofs.RefusalLaws.{refused_derives_none}
+use Rattle.st_read.proofs.Told.{one_derives, reads_derive}
+use Rattle.st_check.specs.Told.{first, IsFirst}
+use Rattle.st_check.specs.declared.error.StCheckErr.{StCheckErr}
+use Rattle.st_check.specs.declared.error.StCheckErr.TheVariants as check
+use Rattle.st_scan.specs.Endings.{stopped}
+use Rattle.st_scan.specs.declared.error.ScanErr.{ScanErr}
+use Rattle.st_scan.specs.declared.error.ScanErr.TheVariants as scan
+use Rattle.plc_rows.specs.Rows.{RowFault, header, cell, row_length, too_many_rows, first_row_fault, RowsOf}
+use Rattle.plc_rows.specs.declared.error.RowErr.{RowErr}
+use Rattle.plc_rows.specs.declared.error.RowErr.TheVariants as row
+use Rattle.cif_run.specs.declared.status.StRefusal.{StRefusal}
+use Rattle.cif_run.specs.declared.status.StRefusal.TheVariants as refusal
+use Rattle.cif_replay.specs.Replaying.{ComesTo, IsStRefused, IsRowRefused, name_at}
+
+-- ---- programs
+
+some_first : (faults : List CheckFault) (f : CheckFault) → faults ≡ [] → first faults ≡ Some f → ⊥
+some_first faults f e g = let h : first faults ≡ None = ap first e in absurd cc
+
+broken : (p : Program) (e : StCheckErr) → (e ≡ check.Memory → ⊥) → IsFirst e (check_faults p) → check_faults p ≡ [] → ⊥
+broken p (check.StUnknown k) other f none = some_first (check_faults p) _ none f
+broken p (check.StDuplicate k) other f none = some_first (check_faults p) _ none f
+broken p (check.StMismatch k) other f none = some_first (check_faults p) _ none f
+broken p (check.StNotAssignable k) other f none = some_first (check_faults p) _ none f
+broken p (check.StInitRange k) other f none = some_first (check_faults p) _ none f
+broken p check.Memory other f none = other refl
+
+-- a text that is refused reads as no program
+pub refused_reads_none : (text : Text) (why : StRefusal) → IsStRefused text why → (p : Program) → ReadsAsProgram text p → ⊥
+refused_reads_none text (refusal.Text e) h p reads = refused_derives_none text e h.1 h.0 p (reads_derive text p reads)
+refused_reads_none text (refusal.Check e) h p reads =
+    let same = one_derives text h.1.0 p h.1.1 (reads_derive text p reads) in
+    broken p e h.0 (subst (λ (q : Program). IsFirst e (check_faults q)) same h.1.2) reads.checked
+
+-- what is known of a program that is read and checked
+pub few_variables : (text : Text) (q : rust.Program) → Derives text (view q) → length text ≤ 16777216 → length q.vars < 2 ^ 32
+few_variables text q d h = let k = (program_small text (view q) d).0 in omega (arith, h, k)
+
+pub few_statements : (text : Text) (q : rust.Program) → Derives text (view q) → length text ≤ 16777216 → stms_count (view_stmts q.body) < 2 ^ 32
+few_statements text q d h = let k = (program_small text (view q) d).1 in omega (arith, h, k)
+
+pub reads_checked : (text : Text) (q c : rust.Program) → Derives text (view q) → c ≡ q → check_faults (view q) ≡ [] → ReadsAsProgram text (view c)
+reads_checked text q c d e f = subst (λ (x : rust.Program). ReadsAsProgram text (view x)) (sym e) (record { tokens = d.tokens; are_tokens = d.are_tokens; derived = d.derived; checked = f })
+
+-- the name of a variable in the program of a text
+pub named_in : (text : Text) (q : rust.Program) (e : StCheckErr) (number : ℕ) (name : Text) → variable_of_check e ≡ Some number → Derives text (view q) → name ≡ name_at q.vars number
+    → (p : Program) (k : ℕ) → Derives text p → variable_of_check e ≡ Some k → name ≡ name_at p.vars k
+named_in text q e number name is d n p k dp there =
+    let one = one_derives text (view q) p d dp in
+    let same : number ≡ k = cc in
+    n ∙ ap (λ j. name_at q.vars j) same ∙ ap (λ (x : Program). name_at x.vars k) one
+
+pub on_ok : {A E : Type 0} (P Q : A → Type 0) (r : Result A E) → ((x : A) → P x → Q x) → IfOk r P → IfOk r Q
+on_ok P Q (Ok x) f h = f x h
+on_ok P Q (Err e) f h = tt
+
+pub on_err : {A E : Type 0} (P Q : E → Type 0) (r : Result A E) → ((e : E) → P e → Q e) → IfErr r P → IfErr r Q
+on_err P Q (Ok x) f h = tt
+on_err P Q (Err e) f h = f e h
+
+-- ---- rows
+
+abbrev error_of : RowFault → RowErr
+error_of (header c) = row.Header c
+error_of (cell r c) = row.Cell r c
+error_of (row_length r) = row.RowLength r
+error_of (too_many_rows n) = row.TooManyRows n
+
+fault_told : (p : Program) (text : Text) (e : RowErr) → IsRowRefused p text e → (f : RowFault) × (first_row_fault p.vars text ≡ Some f) × (e ≡ error_of f)
+fault_told p text (row.Header c) h = (header c, h.1, refl)
+fault_told p text (row.Cell r c) h = (cell r c, h.1, refl)
+fault_told p text (row.RowLength r) h = (row_length r, h.1, refl)
+fault_told p text (row.TooManyRows n) h = (too_many_rows n, h.1, refl)
+fault_told p text row.Memory h = absurd (h.0 refl)
+
+-- one rule is the first that is broken
+pub one_row_error : (p : Program) (text : Text) (a b : RowErr) → IsRowRefused p text a → IsRowRefused p text b → a ≡ b
+one_row_error p text a b h g =
+    let x = fault_told p text a h in
+    let y = fault_told p text b g in
+    let same : x.0 ≡ y.0 = cc in
+    x.2 ∙ ap error_of same ∙ sym y.2
+
+-- rows break no rule
+pub rows_not_refused : (p : Program) (text : Text) (rs : List (List ℤ)) (e : RowErr) → RowsOf p.vars text rs → IsRowRefused p text e → ⊥
+unfolding RowsOf
+rows_not_refused p text rs e of h = let x = fault_told p text e h in let none = of.0 in absurd cc
+
+pub one_rows : (p : Program) (text : Text) (a b : List (List ℤ)) → RowsOf p.vars text a → RowsOf p.vars text b → a ≡ b
+unfolding RowsOf
+one_rows p text a b h g = h.1 ∙ sym g.1
+
+-- ---- scans
+
+-- a scan that does not end
+abbrev pub Stopped : Outcome → Type 0
+Stopped o = (left : ℕ) (m : Memory) → o ≡ Ended left m → ⊥
+
+pub stopped_stops : (e : ScanErr) → Stopped (stopped e)
+stopped_stops scan.Overflow left m e = absurd cc
+stopped_stops scan.ZeroDivide left m e = absurd cc
+stopped_stops (scan.SubrangeLeft k z) left m e = absurd cc
+stopped_stops scan.Budget left m e = absurd cc
+
+pub out_of_turns_stops : Stopped OutOfTurns
+out_of_turns_stops left m e = absurd cc
+
+-- the first scan that does not end is one
+pub comes_once : (p : Program) (m : Memory) (rs : List (List ℤ)) (j k : ℕ) (a b : Outcome) → ComesTo p m rs j a → ComesTo p m rs k b → Stopped a → Stopped b → (j ≡ k) × (a ≡ b)
+comes_once p m [] j k a b h g s t = absurd h
+comes_once p m (r ∷ rs) zero k a b h g s t = absurd h
+comes_once p m (r ∷ rs) (suc j) zero a b h g s t = absurd g
+comes_once p m (r ∷ rs) (suc zero) (suc zero) a b h g s t = (refl, sym h ∙ g)
+comes_once p m (r ∷ rs) (suc zero) (suc (suc k)) a b h g s t = absurd (s g.0 g.1 (sym h ∙ g.2))
+comes_once p m (r ∷ rs) (suc (suc j)) (suc zero) a b h g s t = absurd (t h.0 h.1 (sym g ∙ h.2))
+comes_once p m (r ∷ rs) (suc (suc j)) (suc (suc k)) a b h g s t =
+    let ends : Ended h.0 h.1 ≡ Ended g.0 g.1 = sym h.2 ∙ g.2 in
+    let same : h.1 ≡ g.1 = cc in
+    let rest = comes_once p h.1 rs (suc j) (suc k) a b h.3 (subst (λ (x : Memory). ComesTo p x rs (suc k) b) (sym same) g.3) s t in
+    (ap suc rest.0, rest.1)
+
+-- where all scans end, none stops
+pub ended_stops_none : (p : Program) (m : Memory) (rs : List (List ℤ)) (k : ℕ) (o : Outcome) → length (later_memories p m rs) ≡ length rs → ComesTo p m rs k o → Stopped o → ⊥
+ended_stops_none p m [] k o all h s = h
+ended_stops_none p m (r ∷ rs) zero o all h s = h
+ended_stops_none p m (r ∷ rs) (suc zero) o all h s = go (scan_of p m r) refl all
+  where
+    go : (x : Outcome) → scan_of p m r ≡ x → length (Rattle.st_ast.specs.Scan.when_ended x (λ after. after ∷ later_memories p after rs)) ≡ suc (length rs) → ⊥
+    go (Ended left after) is e = s left after (sym h ∙ is)
+    go (Faulted f) is e = absurd (omega arith)
+    go OutOfTurns is e = absurd (omega arith)
+ended_stops_none p m (r ∷ rs) (suc (suc k)) o all h s =
+    let ends : later_memories p m (r ∷ rs) ≡ h.1 ∷ later_memories p h.1 rs = ap (λ x. Rattle.st_ast.specs.Scan.when_ended x (λ after. after ∷ later_memories p after rs)) h.2 in
+    let more : suc (length (later_memories p h.1 rs)) ≡ suc (length rs) = sym (ap (λ (ms : List Memory). length ms) ends) ∙ all in
+    ended_stops_none p h.1 rs (suc k) o (omega arith) h.3 s
+
+-- errors that stop a scan in one way are one
+pub one_stop : (a b : ScanErr) → stopped a ≡ stopped b → a ≡ b
+one_stop scan.Overflow scan.Overflow e = refl
+one_stop scan.Overflow scan.ZeroDivide e = absurd cc
+one_stop scan.Overflow (scan.SubrangeLeft k z) e = absurd cc
+one_stop scan.Overflow scan.Budget e = absurd cc
+one_stop scan.ZeroDivide scan.Overflow e = absurd cc
+one_stop scan.ZeroDivide scan.ZeroDivide e = refl
+one_stop scan.ZeroDivide (scan.SubrangeLeft k z) e = absurd cc
+one_stop scan.ZeroDivide scan.Budget e = absurd cc
+one_stop (scan.SubrangeLeft k z) scan.Overflow e = absurd cc
+one_stop (scan.SubrangeLeft k z) scan.ZeroDivide e = absurd cc
+one_stop (scan.SubrangeLeft k z) (scan.SubrangeLeft j y) e = cc
+one_stop (scan.SubrangeLeft k z) scan.Budget e = absurd cc
+one_stop scan.Budget scan.Overflow e = absurd cc
+one_stop scan.Budget scan.ZeroDivide e = absurd cc
+one_stop scan.Budget (scan.SubrangeLeft k z) e = absurd cc
+one_stop scan.Budget scan.Budget e = refl

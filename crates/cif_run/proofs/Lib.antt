@@ -1,0 +1,4 @@
+pub mod FileLaws
+pub mod TellLaws
+pub mod CallLaws
+pub mod WordLaws

@@ -1,0 +1,51 @@
+//! A command over files, and its run: nothing goes to the output before the whole text is built.
+
+ghost use Rattle.std.specs.Prelude.{◌≡◌, ◌≤◌, ℕ, List, Option, IfOk, IfErr};
+ghost use Rattle.cif_run.specs.Works.{Work, Comes, Stops, reading, writing};
+
+use crate::ended::Ended;
+use crate::status::Status;
+use cif_io::{Files, Sink, SinkErr, put_all};
+use std::alloc::Global;
+
+/// What words of a command line ask for.
+pub trait Command {
+    /// What it does over files that are told to hold this.
+    ghost work: { Self → (List ℕ → Option (List ℕ)) → Work };
+
+    /// The text that it writes, or how it ends without one.
+    fn text<F: Files>(&self, alloc: Global, files: &mut F) -> Result<Vec<u8>, Ended>
+        ensures writes { IfOk result (λ text. (work self.now (F.content files.old)).writes text.items) }
+        ensures stops { IfErr result (Stops (work self.now (F.content files.old))
+            (reading (F.content files.old) (F.faults files.old) (F.faults files.new) (F.most files.new))) }
+        ensures kept { (n : List ℕ) → F.content files.new n ≡ F.content files.old n }
+        ensures faults_stay_or_rise { (n : List ℕ) → F.faults files.old n ≤ F.faults files.new n }
+        ensures most_stays_or_rises { (n : List ℕ) → F.most files.old n ≤ F.most files.new n };
+}
+
+/// Runs a command, up to what is told on the standard error.
+pub fn run<C: Command, F: Files, O: Sink>(
+    alloc: Global,
+    command: &C,
+    files: &mut F,
+    out: &mut O,
+) -> Ended
+    ensures came { Comes (C.work command.now (F.content files.old))
+        (reading (F.content files.old) (F.faults files.old) (F.faults files.new) (F.most files.new))
+        (writing (O.written out.old) (O.written out.new) (O.faults out.old) (O.faults out.new)) result }
+    ensures kept { (n : List ℕ) → F.content files.new n ≡ F.content files.old n }
+    ensures faults_stay_or_rise { (n : List ℕ) → F.faults files.old n ≤ F.faults files.new n }
+    ensures most_stays_or_rises { (n : List ℕ) → F.most files.old n ≤ F.most files.new n }
+    ensures out_faults_stay_or_rise { O.faults out.old ≤ O.faults out.new }
+{
+    let text = match command.text(alloc, files) {
+        Ok(text) => text,
+        Err(ended) => return ended,
+    };
+    let status = match put_all(out, text.as_slice()) {
+        Ok(()) => Status::Done,
+        Err(SinkErr::Failed) => Status::WriteFault,
+        Err(SinkErr::Memory) => Status::Memory,
+    };
+    Ended::plain(alloc, status)
+}

@@ -1,0 +1,80 @@
+//! How a call of the tool ends.
+
+ghost use Rattle.std.specs.Prelude.{◌≡◌};
+ghost use Rattle.cif_run.specs.Codes.{code_of};
+
+use plc_rows::RowErr;
+use st_check::StCheckErr;
+use st_read::StErr;
+use st_scan::ScanErr;
+
+/// Why a source is refused, with the byte place in it, counted from 0.
+#[derive(Clone, Copy, Debug, PartialEq, Eq)]
+pub enum Refusal {
+    /// No token, blank or comment begins there.
+    BadByte { at: u32 },
+    /// The number that begins there exceeds 2147483647.
+    NumberTooBig { at: u32 },
+    /// The comment that `/*` begins there has no end.
+    OpenComment { at: u32 },
+    /// The tokens are no source: the one that begins there can't be there, or what begins there is too deep; or the source
+    /// ends there too early.
+    NotRead { at: u32 },
+    /// The source has a tree, and the tool takes no such tree yet: what begins there is none that it generates programs for.
+    NotBuilt { at: u32 },
+}
+
+/// Why a text is refused that should be a program of Structured Text.
+#[derive(Clone, Copy, Debug, PartialEq, Eq)]
+pub enum StRefusal {
+    /// It is not read.
+    Text(StErr),
+    /// It breaks a check.
+    Check(StCheckErr),
+}
+
+/// How a call of the tool ends. `word` is the number of a word of the command line, counted from 0.
+#[derive(Clone, Copy, Debug, PartialEq, Eq)]
+pub enum Status {
+    /// The whole text of the command was written.
+    Done,
+    /// The words are no command line.
+    Usage,
+    /// The file of that word was not read.
+    ReadFault { word: u32 },
+    /// The output was not written, or only its beginning.
+    WriteFault,
+    /// No memory was found.
+    Memory,
+    /// The file of that word is longer than it may be.
+    TooBig { word: u32 },
+    /// The source is refused.
+    Refused { why: Refusal },
+    /// The text is refused as a program of Structured Text.
+    StRefused { why: StRefusal },
+    /// The rows are refused.
+    RowRefused { why: RowErr },
+    /// The scan of that row, counted from 1, ends in a fault.
+    ScanFault { row: u32, fault: ScanErr },
+    /// The scan of that row, counted from 1, takes more loop turns than a scan has.
+    Budget { row: u32 },
+}
+
+/// The exit code of a status.
+pub fn code(status: &Status) -> u8
+    ensures { result ≡ code_of status.now }
+{
+    match status {
+        Status::Done => 0,
+        Status::Usage => 2,
+        Status::ReadFault { .. } => 3,
+        Status::WriteFault => 4,
+        Status::Memory => 5,
+        Status::TooBig { .. } => 6,
+        Status::Refused { .. } => 7,
+        Status::StRefused { .. } => 9,
+        Status::RowRefused { .. } => 10,
+        Status::ScanFault { .. } => 11,
+        Status::Budget { .. } => 12,
+    }
+}

@@ -1,0 +1,273 @@
+//! The line that is told of a status on the standard error.
+
+ghost use Rattle.std.specs.Prelude.{◌≡◌, ◌≤◌, map, string_bytes, IfOk};
+ghost use Rattle.std.specs.Fmt.{signed_decimal};
+ghost use Rattle.cif_io.specs.Faults.{Rose};
+ghost use Rattle.cif_run.specs.Groups.{IsUnlessMemory};
+ghost use Rattle.cif_run.specs.Tells.{Tells};
+ghost use Rattle.cif_run.specs.Lines as lines;
+
+use crate::ended::Ended;
+use crate::status::{Refusal, StRefusal, Status};
+use cif_base::{Memory, Text, put_int};
+use cif_io::{Sink, SinkErr, put_all};
+use plc_rows::RowErr;
+use st_check::StCheckErr;
+use st_read::StErr;
+use st_scan::ScanErr;
+use std::alloc::Global;
+
+/// A word of the command line, counted from 0.
+fn word(words: &[String], k: u32) -> &[u8]
+    ensures { result.now ≡ lines.word (map string_bytes words.now) k }
+{
+    match words.get(k as usize) {
+        Some(word) => word.as_bytes(),
+        None => b"",
+    }
+}
+
+/// The texts one after the other.
+fn joined(alloc: Global, parts: &[&[u8]]) -> Result<Text, Memory>
+    ensures { IfOk result (λ text. text ≡ lines.joined (map (λ p. p.now) parts.now)) }
+{
+    let mut text = Text::new(alloc);
+    for part in parts {
+        text.push_slice(part)?;
+    }
+    Ok(text)
+}
+
+/// A number as decimal text.
+fn decimal_text(alloc: Global, number: i64) -> Result<Text, Memory>
+    ensures { IfOk result (λ text. text ≡ signed_decimal number) }
+{
+    let mut text = Vec::new(alloc);
+    put_int(&mut text, number)?;
+    Ok(Text::from_vec(text))
+}
+
+/// A refusal with one field that is a number.
+fn with_number(alloc: Global, head: &[u8], number: u32) -> Result<Text, Memory>
+    ensures { IfOk result (λ text. text ≡ lines.with_number head.now number) }
+{
+    let number = decimal_text(alloc, number as i64)?;
+    joined(alloc, &[head, number.as_slice()])
+}
+
+fn refusal_text(alloc: Global, why: Refusal) -> Result<Text, Memory>
+    ensures { IfOk result (λ text. text ≡ lines.refusal_text why) }
+{
+    match why {
+        Refusal::BadByte { at } => with_number(alloc, b"1 BadByte at ", at),
+        Refusal::NumberTooBig { at } => with_number(alloc, b"2 NumberTooBig at ", at),
+        Refusal::OpenComment { at } => with_number(alloc, b"3 OpenComment at ", at),
+        Refusal::NotRead { at } => with_number(alloc, b"4 NotRead at ", at),
+        Refusal::NotBuilt { at } => with_number(alloc, b"30 NotBuilt at ", at),
+    }
+}
+
+fn st_text(alloc: Global, error: StErr) -> Result<Text, Memory>
+    ensures { IfOk result (λ text. text ≡ lines.st_text error) }
+{
+    match error {
+        StErr::StBadByte { at } => with_number(alloc, b"31 StBadByte at ", at),
+        StErr::StNumberTooBig { at } => with_number(alloc, b"32 StNumberTooBig at ", at),
+        StErr::StOpenComment { at } => with_number(alloc, b"33 StOpenComment at ", at),
+        StErr::StNotRead { at } => with_number(alloc, b"34 StNotRead at ", at),
+        StErr::Memory => Ok(Text::new(alloc)),
+    }
+}
+
+/// A broken check; a variable is told by its name.
+fn check_text(alloc: Global, variable: &[u8], error: StCheckErr) -> Result<Text, Memory>
+    ensures { IfOk result (λ text. text ≡ lines.check_text variable.now error) }
+{
+    match error {
+        StCheckErr::StUnknown { statement } => {
+            with_number(alloc, b"35 StUnknown statement ", statement)
+        }
+        StCheckErr::StDuplicate { .. } => {
+            joined(alloc, &[b"36 StDuplicate variable ", variable])
+        }
+        StCheckErr::StMismatch { statement } => {
+            with_number(alloc, b"37 StMismatch statement ", statement)
+        }
+        StCheckErr::StNotAssignable { statement } => {
+            with_number(alloc, b"38 StNotAssignable statement ", statement)
+        }
+        StCheckErr::StInitRange { .. } => {
+            joined(alloc, &[b"39 StInitRange variable ", variable])
+        }
+        StCheckErr::Memory => Ok(Text::new(alloc)),
+    }
+}
+
+fn st_refusal_text(alloc: Global, variable: &[u8], why: StRefusal) -> Result<Text, Memory>
+    ensures { IfOk result (λ text. text ≡ lines.st_refusal_text variable.now why) }
+{
+    match why {
+        StRefusal::Text(error) => st_text(alloc, error),
+        StRefusal::Check(error) => check_text(alloc, variable, error),
+    }
+}
+
+/// A cell that breaks a rule.
+fn cell_text(alloc: Global, row: u32, column: u32) -> Result<Text, Memory>
+    ensures { IfOk result (λ text. text ≡ lines.row_text (RowErr.Cell row column)) }
+{
+    let row = decimal_text(alloc, row as i64)?;
+    let column = decimal_text(alloc, column as i64)?;
+    joined(
+        alloc,
+        &[
+            b"45 Cell row ",
+            row.as_slice(),
+            b" column ",
+            column.as_slice(),
+        ],
+    )
+}
+
+fn row_text(alloc: Global, error: RowErr) -> Result<Text, Memory>
+    ensures { IfOk result (λ text. text ≡ lines.row_text error) }
+{
+    match error {
+        RowErr::Header { column } => with_number(alloc, b"44 Header column ", column),
+        RowErr::Cell { row, column } => cell_text(alloc, row, column),
+        RowErr::RowLength { row } => with_number(alloc, b"46 RowLength row ", row),
+        RowErr::TooManyRows { count } => with_number(alloc, b"47 TooManyRows count ", count),
+        RowErr::Memory => Ok(Text::new(alloc)),
+    }
+}
+
+/// A value outside the subrange of the variable with this name.
+fn subrange_text(alloc: Global, variable: &[u8], value: i64) -> Result<Text, Memory>
+    ensures { IfOk result (λ text. text ≡ lines.subrange_text variable.now value) }
+{
+    let value = decimal_text(alloc, value)?;
+    joined(
+        alloc,
+        &[
+            b"42 SubrangeLeft variable ",
+            variable,
+            b" value ",
+            value.as_slice(),
+        ],
+    )
+}
+
+fn scan_text(alloc: Global, variable: &[u8], error: ScanErr) -> Result<Text, Memory>
+    ensures { IfOk result (λ text. text ≡ lines.scan_text variable.now error) }
+{
+    match error {
+        ScanErr::Overflow => Text::from_slice(alloc, b"40 Overflow"),
+        ScanErr::ZeroDivide => Text::from_slice(alloc, b"41 ZeroDivide"),
+        ScanErr::SubrangeLeft { variable: _, value } => subrange_text(alloc, variable, value),
+        ScanErr::Budget => Text::from_slice(alloc, b"43 Budget"),
+    }
+}
+
+/// What is told of a file.
+fn file_line(alloc: Global, name: &[u8], what: &[u8]) -> Result<Text, Memory>
+    ensures { IfOk result (λ line. line ≡ lines.file_line name.now what.now) }
+{
+    joined(alloc, &[b"cif: ", name, b": ", what, b"\n"])
+}
+
+/// What is told of a row.
+fn scan_line(alloc: Global, name: &[u8], row: u32, what: &[u8]) -> Result<Text, Memory>
+    ensures { IfOk result (λ line. line ≡ lines.scan_line name.now row what.now) }
+{
+    let row = decimal_text(alloc, row as i64)?;
+    joined(
+        alloc,
+        &[
+            b"cif: ",
+            name,
+            b": row ",
+            row.as_slice(),
+            b": ",
+            what,
+            b"\n",
+        ],
+    )
+}
+
+/// A file that may have so many bytes.
+fn too_big_line(alloc: Global, name: &[u8], most: u32) -> Result<Text, Memory>
+    ensures { IfOk result (λ line. line ≡ lines.too_big_line name.now most) }
+{
+    let most = decimal_text(alloc, most as i64)?;
+    joined(
+        alloc,
+        &[
+            b"cif: ",
+            name,
+            b" is longer than ",
+            most.as_slice(),
+            b" bytes\n",
+        ],
+    )
+}
+
+/// The line of a status that tells of a variable of this name, if it tells of one; none after `Done`.
+fn line(
+    alloc: Global,
+    words: &[String],
+    variable: &[u8],
+    limit: u32,
+    status: Status,
+) -> Result<Text, Memory>
+    ensures { IfOk result (λ line. line ≡ lines.line_of (map string_bytes words.now) variable.now limit status) }
+{
+    match status {
+        Status::Done => Ok(Text::new(alloc)),
+        Status::Usage => Text::from_slice(alloc, b"cif: not a command line\n"),
+        Status::ReadFault { word: k } => joined(
+            alloc,
+            &[b"cif: cannot read ", word(words, k), b"\n"],
+        ),
+        Status::WriteFault => Text::from_slice(alloc, b"cif: cannot write\n"),
+        Status::Memory => Text::from_slice(alloc, b"cif: out of memory\n"),
+        Status::TooBig { word: k } => too_big_line(alloc, word(words, k), limit),
+        Status::Refused { why } => {
+            let what = refusal_text(alloc, why)?;
+            file_line(alloc, word(words, 1), what.as_slice())
+        }
+        Status::StRefused { why } => {
+            let what = st_refusal_text(alloc, variable, why)?;
+            file_line(alloc, word(words, 1), what.as_slice())
+        }
+        Status::RowRefused { why } => {
+            let what = row_text(alloc, why)?;
+            file_line(alloc, word(words, 2), what.as_slice())
+        }
+        Status::ScanFault { row, fault } => {
+            let what = scan_text(alloc, variable, fault)?;
+            scan_line(alloc, word(words, 1), row, what.as_slice())
+        }
+        Status::Budget { row } => {
+            let what = scan_text(alloc, variable, ScanErr::Budget)?;
+            scan_line(alloc, word(words, 1), row, what.as_slice())
+        }
+    }
+}
+
+/// Tells the line of an end, if it has one. The answer is its status, or want of memory.
+pub fn report<E: Sink>(alloc: Global, words: &[String], ended: Ended, err: &mut E) -> Status
+    ensures unless_memory { IsUnlessMemory result ended.status }
+    ensures tells { Tells (map string_bytes words.now) ended (E.written err.old) (E.written err.new)
+        (Rose (E.faults err.old) (E.faults err.new)) result }
+    ensures faults_stay_or_rise { E.faults err.old ≤ E.faults err.new }
+{
+    let status = ended.status;
+    let Ok(line) = line(alloc, words, ended.variable.as_slice(), ended.limit, status) else {
+        return Status::Memory;
+    };
+    match put_all(err, line.as_slice()) {
+        Ok(()) => status,
+        Err(SinkErr::Failed) => status,
+        Err(SinkErr::Memory) => Status::Memory,
+    }
+}

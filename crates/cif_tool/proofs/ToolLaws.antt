@@ -1,0 +1,173 @@
+-- What the clauses of the tool say, each by a law of the commands, from how its call came to its end, where the answer is the
+-- status of that end or want of memory.
+use Rattle.std.proofs.Common.{◌≡◌, ℕ, ◌<◌, ◌≤◌, ◌⊎◌, length, List, Option, Some, refl, sym, ap, subst, ◌∙◌, inl, inr}
+use Rattle.grammar.specs.Pieces.{Text}
+use Rattle.cif_io.specs.Faults.{Rose}
+use Rattle.cif_io.specs.Written.{grown}
+use Rattle.st_ast.specs.Exec.{OutOfTurns}
+use Rattle.st_scan.specs.Endings.{stopped}
+use Rattle.st_scan.specs.declared.error.ScanErr.{ScanErr}
+use Rattle.st_scan.specs.declared.error.ScanErr.TheVariants as scan
+use Rattle.plc_rows.specs.declared.error.RowErr.{RowErr}
+use Rattle.cif_run.specs.declared.status.Status.{Status}
+use Rattle.cif_run.specs.declared.status.Status.TheVariants as status
+use Rattle.cif_run.specs.declared.status.Refusal.{Refusal}
+use Rattle.cif_run.specs.declared.status.StRefusal.{StRefusal}
+use Rattle.cif_run.specs.declared.ended.Ended.{Ended}
+use Rattle.cif_run.specs.Groups.{Group, done, unread, too_long, unwritten, wanting, judged, group_of, IsUnlessMemory}
+use Rattle.cif_run.specs.Works.{Comes, Content, Reading, StopsIn, Writing}
+use Rattle.cif_run.proofs.CallLaws.{answers, came_how, ended_so, within_comes, write_fault}
+use Rattle.cif_accept.specs.Built.{Built, ReadsAsBuilt}
+use Rattle.cif_accept.specs.Accepts.{SourceIs, SourceRefused, source_limit, source_work}
+use Rattle.cif_accept.proofs.AcceptLaws as accept
+use Rattle.cif_check.specs.Words.{Check, IsCheck}
+use Rattle.cif_check.specs.Checks.{accepted}
+use Rattle.cif_check.proofs.CheckLaws as checks
+use Rattle.cif_generate.specs.Words.{Generate, IsGenerate}
+use Rattle.cif_generate.specs.Meaning.{IsTextOf}
+use Rattle.cif_generate.proofs.GenerateLaws as generates
+use Rattle.cif_replay.specs.Words.{Replay, IsReplay}
+use Rattle.cif_replay.specs.Replaying.{AreRowsRefused, IsStRefused, StopsAt}
+use Rattle.cif_replay.specs.Replays.{OfBoth, OfFirst}
+use Rattle.cif_tool.specs.Commands.{Command, check, generate, replay, Request, IsFor, work_of, source_of}
+use Rattle.cif_tool.specs.Asks.{Asked, AsksSource, Generated, IsAsked, NamesSource, NoCommand, tool_work}
+use Rattle.cif_tool.proofs.AskedLaws.{of_tool, within_tool}
+
+-- no command ends with Usage
+no_usage : (k : Command) (q : Request k) (content : Content) (name : Text) → (work_of k q content).ends status.Usage name → ⊥
+no_usage check q content name h = h
+no_usage generate q content name h = h
+no_usage replay q content name h = h
+
+-- nor does its call
+pub not_usage : (k : Command) (q : Request k) (c : Reading) (o : Writing) (e : Ended) → Comes (work_of k q c.content) c o e → e.status ≡ status.Usage → ⊥
+not_usage k q c o e came is =
+    no_usage k q c.content e.variable (ended_so (work_of k q c.content) c o e came e.status (inl refl) status.Usage (λ z. cc) refl is)
+
+-- words that ask no command for anything ask for nothing
+pub no_command_of : (words : List Text) → ((k : Check) → IsCheck words k → ⊥) → ((g : Generate) → IsGenerate words g → ⊥) → ((x : Replay) → IsReplay words x → ⊥)
+    → NoCommand words
+no_command_of words nor neither none asked h = go asked.command asked.request h
+  where
+    go : (k : Command) (q : Request k) → IsFor k words q → ⊥
+    go check q is = nor q is
+    go generate q is = neither q is
+    go replay q is = none q is
+
+-- a call of the command that the words ask for is one of the tool
+pub command_comes : (words : List Text) (k : Command) (q : Request k) → IsFor k words q → (c : Reading) (o : Writing) (e : Ended) → Comes (work_of k q c.content) c o e
+    → Comes (tool_work words c.content) c o e
+command_comes words k q is c o e came =
+    within_comes (work_of k q c.content) (tool_work words c.content) (within_tool words c.content (record { command = k; request = q }) is) c o e came
+
+-- words that ask for nothing end with Usage
+pub nothing_comes : (words : List Text) (c : Reading) (o : Writing) (e : Ended) → NoCommand words → e.status ≡ status.Usage → o.new ≡ o.old
+    → Comes (tool_work words c.content) c o e
+nothing_comes words c o e none is same =
+    inl (subst (λ s. StopsIn (tool_work words c.content) c e (group_of s)) (sym is) (inr (is, none)), same)
+
+module _ (words : List Text) (c : Reading) (o : Writing) (e : Ended) (came : Comes (tool_work words c.content) c o e) (r : Status)
+    (same : IsUnlessMemory r e.status) where
+  -- what became of the command that the words ask for
+  pub of_command : (k : Command) (q : Request k) → IsFor k words q → Comes (work_of k q c.content) c o e
+  of_command k q is = within_comes (tool_work words c.content) (work_of k q c.content) (of_tool words c.content k q is) c o e came
+
+  -- the command that judges a status
+  ended : (t : Status) → (t ≡ status.Memory → ⊥) → group_of t ≡ judged → (t ≡ status.Usage → ⊥) → r ≡ t
+      → (a : Asked) × IsAsked words a × (work_of a.command a.request c.content).ends t e.variable
+  ended t other is not_this q = elim (ended_so (tool_work words c.content) c o e came r same t other is q) [
+    | inl h ↦ h
+    | inr h ↦ absurd (not_this h.0)
+  ]
+
+  pub usage : r ≡ status.Usage → (a : Asked) → IsAsked words a → ⊥
+  usage q = elim (ended_so (tool_work words c.content) c o e came r same status.Usage (λ z. cc) refl q) [
+    | inl h ↦ absurd (no_usage h.0.command h.0.request c.content e.variable h.2)
+    | inr h ↦ h.1
+  ]
+
+  pub no_command : NoCommand words → IsUnlessMemory r status.Usage
+  no_command none = came_how (tool_work words c.content) c o e came r same (IsUnlessMemory r status.Usage)
+      (λ k h. let a = h.1 in absurd (none a.0 a.1))
+      (λ k is h. let a = h.1 in absurd (none a.0 a.1))
+      (λ h. elim h [
+        | inl a ↦ absurd (none a.0 a.1)
+        | inr a ↦ answers (tool_work words c.content) c o e came r same status.Usage a.0
+      ])
+      (λ text h w. absurd (none h.0 h.1))
+      (λ m. inr m)
+
+  -- ---- a source
+
+  -- the command over a source
+  as_source : (file : Text) → AsksSource words file → (P : Built → Text → Type 0) × Comes (source_work c.content file P) c o e
+  as_source file h = go h.0.command h.0.request h.1 h.2
+    where
+      here : (P : Built → Text → Type 0) (f : Text) → Some f ≡ Some file → Comes (source_work c.content f P) c o e → Comes (source_work c.content file P) c o e
+      here P f is w = let at : f ≡ file = cc in subst (λ n. Comes (source_work c.content n P) c o e) at w
+
+      go : (k : Command) (q : Request k) → IsFor k words q → source_of k q ≡ Some file → (P : Built → Text → Type 0) × Comes (source_work c.content file P) c o e
+      go check q is at = (λ t text. text ≡ accepted, here (λ t text. text ≡ accepted) q.file at (of_command check q is))
+      go generate q is at = (IsTextOf q.unc q.con, here (IsTextOf q.unc q.con) q.file at (of_command generate q is))
+      go replay q is at = absurd cc
+
+  pub refused : (why : Refusal) → r ≡ status.Refused why → (file : Text) × AsksSource words file × SourceRefused c.content file why
+  refused why z = let h = ended (status.Refused why) (λ x. cc) refl (λ x. cc) z in go h.0.command h.0.request h.1 h.2
+    where
+      go : (k : Command) (q : Request k) → IsFor k words q → (work_of k q c.content).ends (status.Refused why) e.variable
+          → (file : Text) × AsksSource words file × SourceRefused c.content file why
+      go check q is h = (q.file, (record { command = check; request = q }, is, refl), h)
+      go generate q is h = (q.file, (record { command = generate; request = q }, is, refl), h)
+      go replay q is h = absurd h
+
+  module _ (file bytes : Text) (names : NamesSource words c.content file bytes) (sure : Rose (c.faults file) (c.faults_after file) → ⊥) where
+    pub longer_is_too_big : source_limit < length bytes → IsUnlessMemory r (status.TooBig 1)
+    longer_is_too_big = let s = as_source file names.0 in accept.longer_is_too_big file s.0 c o e s.1 r same bytes names.1 sure
+
+    pub other_text_is_refused : length bytes ≤ source_limit → ((t : Built) → ReadsAsBuilt bytes t → ⊥) → ((why : Refusal) × (r ≡ status.Refused why)) ⊎ (r ≡ status.Memory)
+    other_text_is_refused = let s = as_source file names.0 in accept.other_text_is_refused file s.0 c o e s.1 r same bytes names.1 sure
+
+    pub built_is_done : length bytes ≤ source_limit → (Rose o.faults o.faults_after → ⊥) → (t : Built) → ReadsAsBuilt bytes t → IsUnlessMemory r status.Done
+    built_is_done = let s = as_source file names.0 in accept.built_is_done file s.0 c o e s.1 r same bytes names.1 sure
+
+  pub checked : r ≡ status.Done → (k : Check) → IsCheck words k → ((t : Built) × SourceIs c.content k.file t) × (o.new ≡ grown o.old accepted)
+  checked q k is = checks.checked k c o e (of_command check k is) r same q
+
+  pub generated : (P : Generate → Built → Text → Type 0) → ((g : Generate) (t : Built) (text : Text) → IsTextOf g.unc g.con t text → P g t text)
+      → Generated r words c.content o.old o.new P
+  generated P from q g is = generates.writes g c o e (of_command generate g is) r same (P g) (from g) q
+
+  -- ---- a program and rows
+
+  pub program_refused : (why : StRefusal) → r ≡ status.StRefused why → (x : Replay) × IsReplay words x × OfFirst c.content x (λ st. IsStRefused st why)
+  program_refused why z = let h = ended (status.StRefused why) (λ x. cc) refl (λ x. cc) z in go h.0.command h.0.request h.1 h.2
+    where
+      go : (k : Command) (q : Request k) → IsFor k words q → (work_of k q c.content).ends (status.StRefused why) e.variable
+          → (x : Replay) × IsReplay words x × OfFirst c.content x (λ st. IsStRefused st why)
+      go replay q is h = (q, is, (h.0, h.1, h.2, h.3.0))
+      go _ q is h = absurd h
+
+  pub rows_refused : (why : RowErr) → r ≡ status.RowRefused why → (x : Replay) × IsReplay words x × OfBoth c.content x (λ st rows. AreRowsRefused st rows why)
+  rows_refused why z = let h = ended (status.RowRefused why) (λ x. cc) refl (λ x. cc) z in go h.0.command h.0.request h.1 h.2
+    where
+      go : (k : Command) (q : Request k) → IsFor k words q → (work_of k q c.content).ends (status.RowRefused why) e.variable
+          → (x : Replay) × IsReplay words x × OfBoth c.content x (λ st rows. AreRowsRefused st rows why)
+      go replay q is h = (q, is, h)
+      go _ q is h = absurd h
+
+  pub scan_fault : (k : ℕ) (f : ScanErr) → r ≡ status.ScanFault k f
+      → (x : Replay) × IsReplay words x × (f ≡ scan.Budget → ⊥) × OfBoth c.content x (λ st rows. StopsAt st rows k (stopped f))
+  scan_fault k f z = let h = ended (status.ScanFault k f) (λ x. cc) refl (λ x. cc) z in go h.0.command h.0.request h.1 h.2
+    where
+      go : (j : Command) (q : Request j) → IsFor j words q → (work_of j q c.content).ends (status.ScanFault k f) e.variable
+          → (x : Replay) × IsReplay words x × (f ≡ scan.Budget → ⊥) × OfBoth c.content x (λ st rows. StopsAt st rows k (stopped f))
+      go replay q is h = (q, is, h.0, (h.1.0, h.1.1, h.1.2, h.1.3, h.1.4, h.1.5, h.1.6.0))
+      go _ q is h = absurd h
+
+  pub budget : (k : ℕ) → r ≡ status.Budget k → (x : Replay) × IsReplay words x × OfBoth c.content x (λ st rows. StopsAt st rows k OutOfTurns)
+  budget k z = let h = ended (status.Budget k) (λ x. cc) refl (λ x. cc) z in go h.0.command h.0.request h.1 h.2
+    where
+      go : (j : Command) (q : Request j) → IsFor j words q → (work_of j q c.content).ends (status.Budget k) e.variable
+          → (x : Replay) × IsReplay words x × OfBoth c.content x (λ st rows. StopsAt st rows k OutOfTurns)
+      go replay q is h = (q, is, h)
+      go _ q is h = absurd h

@@ -1,0 +1,52 @@
+-- What the command came to that the words ask for.
+use Rattle.std.proofs.Common.{List, map, string_bytes, refl, ap}
+use Rattle.grammar.specs.Pieces.{Text}
+use Rattle.cif_run.specs.Works.{Reading, Writing, reading, writing}
+use Rattle.cif_check.specs.Checks.{check_of}
+use Rattle.cif_generate.specs.Generates.{generate_of}
+use Rattle.cif_replay.specs.Replays.{replay_of}
+use Rattle.cif_tool.specs.Commands.{check, generate, replay}
+use Rattle.cif_tool.proofs.ToolLaws.{command_comes, not_usage}
+use Rattle.cif_tool.proofs.running.run_words.Goals as goal
+
+pub returns-in-Some-clause-came : goal.returns-in-Some-clause-came
+returns-in-Some-clause-came g c =
+    command_comes (map string_bytes c.args.words.now) check (check_of c.in-Some.asked) c.in-Some.ensures.some
+    (reading (g.F.Files.content c.args.files.now) (g.F.Files.faults c.args.files.now) (g.F.Files.faults c.check.new.files) (g.F.Files.most c.check.new.files))
+    (writing (g.O.Sink.written c.args.out.now) (g.O.Sink.written c.check.new.out) (g.O.Sink.faults c.args.out.now) (g.O.Sink.faults c.check.new.out))
+    c.check.result c.check.ensures.came
+
+pub returns-in-Some-clause-nothing_read : goal.returns-in-Some-clause-nothing_read
+returns-in-Some-clause-nothing_read g c is =
+    absurd (not_usage check (check_of c.in-Some.asked)
+    (reading (g.F.Files.content c.args.files.now) (g.F.Files.faults c.args.files.now) (g.F.Files.faults c.check.new.files) (g.F.Files.most c.check.new.files))
+    (writing (g.O.Sink.written c.args.out.now) (g.O.Sink.written c.check.new.out) (g.O.Sink.faults c.args.out.now) (g.O.Sink.faults c.check.new.out))
+    c.check.result c.check.ensures.came is)
+
+pub returns-in-Some-read_words-clause-came : goal.returns-in-Some-read_words-clause-came
+returns-in-Some-read_words-clause-came g c =
+    command_comes (map string_bytes c.args.words.now) generate (generate_of c.in-Some-read_words.asked) c.in-Some-read_words.ensures.some
+    (reading (g.F.Files.content c.args.files.now) (g.F.Files.faults c.args.files.now) (g.F.Files.faults c.generate.new.files) (g.F.Files.most c.generate.new.files))
+    (writing (g.O.Sink.written c.args.out.now) (g.O.Sink.written c.generate.new.out) (g.O.Sink.faults c.args.out.now) (g.O.Sink.faults c.generate.new.out))
+    c.generate.result c.generate.ensures.came
+
+pub returns-in-Some-read_words-clause-nothing_read : goal.returns-in-Some-read_words-clause-nothing_read
+returns-in-Some-read_words-clause-nothing_read g c is =
+    absurd (not_usage generate (generate_of c.in-Some-read_words.asked)
+    (reading (g.F.Files.content c.args.files.now) (g.F.Files.faults c.args.files.now) (g.F.Files.faults c.generate.new.files) (g.F.Files.most c.generate.new.files))
+    (writing (g.O.Sink.written c.args.out.now) (g.O.Sink.written c.generate.new.out) (g.O.Sink.faults c.args.out.now) (g.O.Sink.faults c.generate.new.out))
+    c.generate.result c.generate.ensures.came is)
+
+pub returns-in-Some-read_words-2-clause-came : goal.returns-in-Some-read_words-2-clause-came
+returns-in-Some-read_words-2-clause-came g c =
+    command_comes (map string_bytes c.args.words.now) replay (replay_of c.in-Some-read_words-2.asked) c.in-Some-read_words-2.ensures.some
+    (reading (g.F.Files.content c.args.files.now) (g.F.Files.faults c.args.files.now) (g.F.Files.faults c.replay.new.files) (g.F.Files.most c.replay.new.files))
+    (writing (g.O.Sink.written c.args.out.now) (g.O.Sink.written c.replay.new.out) (g.O.Sink.faults c.args.out.now) (g.O.Sink.faults c.replay.new.out))
+    c.replay.result c.replay.ensures.came
+
+pub returns-in-Some-read_words-2-clause-nothing_read : goal.returns-in-Some-read_words-2-clause-nothing_read
+returns-in-Some-read_words-2-clause-nothing_read g c is =
+    absurd (not_usage replay (replay_of c.in-Some-read_words-2.asked)
+    (reading (g.F.Files.content c.args.files.now) (g.F.Files.faults c.args.files.now) (g.F.Files.faults c.replay.new.files) (g.F.Files.most c.replay.new.files))
+    (writing (g.O.Sink.written c.args.out.now) (g.O.Sink.written c.replay.new.out) (g.O.Sink.faults c.args.out.now) (g.O.Sink.faults c.replay.new.out))
+    c.replay.result c.replay.ensures.came is)

@@ -1,0 +1,57 @@
+-- What words ask for, and what the clauses of the tool are made of.
+use Rattle.std.specs.Prelude.{◌≡◌, ℕ, ◌⊎◌, List, Option, Some}
+use Rattle.grammar.specs.Pieces.{Text}
+use Rattle.cif_io.specs.Faults.{Rose}
+use Rattle.cif_run.specs.declared.status.Status.{Status}
+use Rattle.cif_run.specs.declared.status.Status.TheVariants as status
+use Rattle.cif_run.specs.Works.{Content, Work}
+use Rattle.cif_accept.specs.Built.{Built}
+use Rattle.cif_generate.specs.Words.{Generate, IsGenerate}
+use Rattle.cif_generate.specs.Generates.{Writes}
+use Rattle.cif_replay.specs.Words.{Replay, IsReplay}
+use Rattle.cif_tool.specs.Commands.{Command, Request, IsFor, work_of, source_of}
+
+-- a command, and what it is asked for
+pub record Asked : Type 0 where
+  pub command : Command
+  pub request : Request command
+
+-- the command lines; other words are none
+abbrev pub IsAsked : List Text → Asked → Type 0
+IsAsked words a = IsFor a.command words a.request
+
+abbrev pub NoCommand : List Text → Type 0
+NoCommand words = (a : Asked) → IsAsked words a → ⊥
+
+-- What the tool does: what the command does that the words ask for. Where they ask for nothing, it ends with `Usage`.
+abbrev pub tool_work : List Text → Content → Work
+tool_work words content = record {
+  asks = λ i. (a : Asked) × IsAsked words a × (work_of a.command a.request content).asks i;
+  writes = λ text. (a : Asked) × IsAsked words a × (work_of a.command a.request content).writes text;
+  ends = λ s name. ((a : Asked) × IsAsked words a × (work_of a.command a.request content).ends s name) ⊎ ((s ≡ status.Usage) × NoCommand words);
+}
+
+-- ---- a source
+
+-- the words ask for a command over the source in this file
+abbrev pub AsksSource : List Text → Text → Type 0
+AsksSource words file = (a : Asked) × IsAsked words a × (source_of a.command a.request ≡ Some file)
+
+-- the same, and the file is told to hold these bytes
+abbrev pub NamesSource : List Text → Content → Text → Text → Type 0
+NamesSource words content file bytes = AsksSource words file × (content file ≡ Some bytes)
+
+-- After Done of `generate`: its file holds a source, and what was written is as P says of the command and what the source is
+-- built into.
+abbrev pub Generated : Status → List Text → Content → Option Text → Option Text → (Generate → Built → Text → Type 0) → Type 0
+Generated s words content old new P = s ≡ status.Done → (g : Generate) → IsGenerate words g → Writes content g.file old new (P g)
+
+-- ---- a program and rows
+
+-- the words ask for `replay`, and its files are told to hold these bytes
+abbrev pub NamesBoth : List Text → Content → Replay → Text → Text → Type 0
+NamesBoth words content r st rows = IsReplay words r × (content r.st ≡ Some st) × (content r.rows ≡ Some rows)
+
+-- no count of faults of the two files rose
+abbrev pub Quiet : Replay → (Text → ℕ) → (Text → ℕ) → Type 0
+Quiet r before after = (Rose (before r.st) (after r.st) → ⊥) × (Rose (before r.rows) (after r.rows) → ⊥)
