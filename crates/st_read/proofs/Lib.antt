@@ -13,3 +13,4 @@ pub mod Numbers
 pub mod Made
 pub mod WordLaws
 pub mod Told
+pub mod Spellings
