@@ -1,14 +1,11 @@
 -- What a text derives has a spelling.
 use Rattle.std.proofs.Common.{◌≡◌, ◌==◌, ◌&&◌, ◌||◌, ◌≤◌, ◌+◌, ℕ, zero, suc, ℤ, pos, negsuc, Bool, true, false, not, List, [], ◌∷◌, ◌++◌, map, Option, Some, None, refl, sym, ap, subst, ◌∙◌, arith, inl, inr, filter_map, leb-true, le-leb}
 use Rattle.std.specs.Prelude.{neg_ℤ, nat_le, if◌then◌else◌}
-use Rattle.std.specs.List.{list_all, list_any}
-use Rattle.grammar.specs.Pieces.{Text, AllAre, Pieces, one_text}
-use Rattle.grammar.specs.Bytes.{begins_word, is_wordy}
+use Rattle.std.proofs.lemmas.Bool.{and_from}
+use Rattle.grammar.specs.Pieces.{Text}
 use Rattle.grammar.specs.Lang.{Lang, has, ◌&◌, ◌∣◌, ◌<$>◌, many, some, optional, flat}
 use Rattle.grammar.proofs.Texts.{and_left, and_right}
-use Rattle.st_ast.specs.Names.{same_name}
-use Rattle.st_ast.specs.Tokens.{Token, Piece, blank, comment, word, number, sign, piece, signs, token_of, Tokens, kind_of_word, kind_of_sign, kind_of_sign_in, kind_of_number, number_of, greatest, keywords, reserved, in_table, is_identifier, sign_kinds}
-use Rattle.grammar.specs.Pieces.{same}
+use Rattle.st_ast.specs.Tokens.{Token, number_of}
 use Rattle.st_ast.specs.declared.kinds.TokenKind.{TokenKind}
 use Rattle.st_ast.specs.declared.kinds.TokenKind.TheVariants as kinds
 use Rattle.st_ast.specs.declared.tree.StVar.{StVar}
@@ -18,128 +15,12 @@ use Rattle.st_ast.specs.declared.tree.StLit.{StLit}
 use Rattle.st_ast.specs.declared.tree.StLit.TheVariants as lit
 use Rattle.st_ast.specs.declared.tree.StClass.{StClass}
 use Rattle.st_ast.specs.declared.tree.StClass.TheVariants as class
-use Rattle.st_ast.specs.Tree.{Expr, Exprs, Factors, Terms, truth, number as numeral, named, paren, negation, complement, product, sum, order, equal, all_of, odd_of, any_of, absolute, least, greatest as larger, selection, exprs_of, Stm, Stms, assign, choice, loop, stms_of, Program}
+use Rattle.st_ast.specs.Tree.{Expr, Exprs, Factors, Terms, truth, number, named, paren, negation, complement, product, sum, order, equal, all_of, odd_of, any_of, absolute, least, greatest as larger, selection, exprs_of, Stm, Stms, assign, choice, loop, stms_of, Program}
 use Rattle.st_ast.specs.Parts.{factors_of, terms_of, branches_of, other_of}
 use Rattle.st_ast.specs.ReadsAs.{Derives}
-use Rattle.st_ast.specs.Grammar.{code, sort, second, word as kind_word, word_of, identifier, natural, text_of, products, sums, orders, equalities, mul_of, is_minus, order_of, is_equality, after_kind, Others, product_of, sum_of, all_from, odd_from, any_from, Level, at_or, at_xor, at_and, at_equal, at_order, at_sum, at_product, at_unary, one_argument, two_arguments, three_arguments, prim, unary, operands, made, multiplied, summed, ordered, equated, conjunction, exclusion, disjunction, level, max_depth, below, expression, without_word, assignment, guarded, conditional, repetition, statement, signed, first_value, subrange_of, value_of_init, type_use, declaration, block_of, block, whole}
-use Rattle.st_ast.specs.Spelled.{is_word_text, is_name, has_literal, has_signed_literal, place_of_level, holds_level, inside, has_factors, has_terms, has_two, is_expr, are_factors, are_terms, are_exprs, is_whole_expr, is_stm, are_stms, are_branches, is_other, is_type_spelled, is_first_spelled, is_declaration, are_declarations, is_spelled}
-
--- ---- tests
-
-both_hold : (a b : Bool) → a ≡ true → b ≡ true → (a && b) ≡ true
-both_hold a b e f = rw (e, f) refl
-
--- ---- the tokens of a text: names are identifiers, and numbers are in range
-
-pub record IsProper (t : Token) : Type 0 where
-  pub name : (code kinds.Name == code t.kind) ≡ true → is_name t.text ≡ true
-  pub number : (code kinds.Literal == code t.kind) ≡ true → nat_le (number_of t.text) greatest ≡ true
-
-abbrev pub AreProper : List Token → Type 0
-AreProper [] = Unit {0}
-AreProper (t ∷ ts) = IsProper t × AreProper ts
-
-proper_left : (xs ys : List Token) → AreProper (xs ++ ys) → AreProper xs
-proper_left [] ys h = tt
-proper_left (x ∷ xs) ys h = (h.0, proper_left xs ys h.1)
-
-proper_right : (xs ys : List Token) → AreProper (xs ++ ys) → AreProper ys
-proper_right [] ys h = h
-proper_right (x ∷ xs) ys h = proper_right xs ys h.1
-
--- a table without a kind gives it to no text
-no_kind : (kind : TokenKind) (table : List (Text × TokenKind)) (w : Text) (other : TokenKind) → list_all (λ (e : Text × TokenKind). not (code kind == code e.1)) table ≡ true
-    → (code kind == code other) ≡ false → (code kind == code (in_table table w other)) ≡ false
-no_kind kind [] w other all e = e
-no_kind kind (p ∷ ps) w other all e = go (same_name p.0 w) (no_kind kind ps w other (and_right (not (code kind == code p.1)) (list_all (λ (e : Text × TokenKind). not (code kind == code e.1)) ps) all) e)
-  where
-    flipped : (b : Bool) → not b ≡ true → b ≡ false
-    flipped true e = absurd cc
-    flipped false e = refl
-
-    go : (b : Bool) → (code kind == code (in_table ps w other)) ≡ false → (code kind == code (if b then p.1 else in_table ps w other)) ≡ false
-    go true h = flipped (code kind == code p.1) (and_left (not (code kind == code p.1)) (list_all (λ (e : Text × TokenKind). not (code kind == code e.1)) ps) all)
-    go false h = h
-
-no_sign_kind : (kind : TokenKind) (table : List (Text × TokenKind)) (s : Text) → list_all (λ (e : Text × TokenKind). not (code kind == code e.1)) table ≡ true
-    → (code kind == code kinds.Outside) ≡ false → (code kind == code (kind_of_sign_in table s)) ≡ false
-no_sign_kind kind [] s all e = e
-no_sign_kind kind (p ∷ ps) s all e = go (same p.0 s) (no_sign_kind kind ps s (and_right (not (code kind == code p.1)) (list_all (λ (e : Text × TokenKind). not (code kind == code e.1)) ps) all) e)
-  where
-    flipped : (b : Bool) → not b ≡ true → b ≡ false
-    flipped true e = absurd cc
-    flipped false e = refl
-
-    go : (b : Bool) → (code kind == code (kind_of_sign_in ps s)) ≡ false → (code kind == code (if b then p.1 else kind_of_sign_in ps s)) ≡ false
-    go true h = flipped (code kind == code p.1) (and_left (not (code kind == code p.1)) (list_all (λ (e : Text × TokenKind). not (code kind == code e.1)) ps) all)
-    go false h = h
-
--- a word that is no keyword
-other_kind : Text → TokenKind
-other_kind w = if list_any (λ r. same_name r w) reserved then kinds.Outside else (if is_identifier w then kinds.Name else kinds.Outside)
-
-no_other_literal : (a b : Bool) → (code kinds.Literal == code (if a then kinds.Outside else (if b then kinds.Name else kinds.Outside))) ≡ false
-no_other_literal true b = refl
-no_other_literal false true = refl
-no_other_literal false false = refl
-
-no_literal_word : (w : Text) → (code kinds.Literal == code (kind_of_word w)) ≡ false
-no_literal_word w = no_kind kinds.Literal keywords w (if list_any (λ r. same_name r w) reserved then kinds.Outside else (if is_identifier w then kinds.Name else kinds.Outside)) refl
-    (no_other_literal (list_any (λ r. same_name r w) reserved) (is_identifier w))
-
-not_both : (b : Bool) {A : Type 0} → b ≡ false → b ≡ true → A
-not_both b e f = absurd cc
-
-word_proper : (w : Text) → is_word_text w ≡ true → IsProper (record { kind = kind_of_word w; text = w })
-word_proper w good = record {
-  name = λ e. both_hold (is_word_text w) (code kinds.Name == code (kind_of_word w)) good e;
-  number = λ e. not_both (code kinds.Literal == code (kind_of_word w)) (no_literal_word w) e;
-}
-
-number_proper : (d : Text) → IsProper (record { kind = kind_of_number d; text = d })
-number_proper d = go (nat_le (number_of d) greatest) refl
-  where
-    go : (b : Bool) → nat_le (number_of d) greatest ≡ b → IsProper (record { kind = (if b then kinds.Literal else kinds.Outside); text = d })
-    go true e = record { name = λ f. absurd cc; number = λ f. e }
-    go false e = record { name = λ f. absurd cc; number = λ f. absurd cc }
-
-sign_proper : (s : Text) → IsProper (record { kind = kind_of_sign s; text = s })
-sign_proper s = record {
-  name = λ e. not_both (code kinds.Name == code (kind_of_sign s)) (no_sign_kind kinds.Name sign_kinds s refl refl) e;
-  number = λ e. not_both (code kinds.Literal == code (kind_of_sign s)) (no_sign_kind kinds.Literal sign_kinds s refl refl) e;
-}
-
--- the words of a text are spelled as words
-all_of_them : (f : ℕ → Bool) (t : Text) → AllAre f t → list_all f t ≡ true
-all_of_them f [] h = refl
-all_of_them f (b ∷ t) h = both_hold (f b) (list_all f t) h.0 (all_of_them f t h.1)
-
-no_word_sign : (ss : List Text) (w x : Text) → one_text ss sign (word w) x → ⊥
-no_word_sign [] w x d = d
-no_word_sign (s ∷ ss) w x (inl d) = let e = d.1 in cc
-no_word_sign (s ∷ ss) w x (inr d) = no_word_sign ss w x d
-
-pub word_spelled : (w x : Text) → piece (word w) x → is_word_text w ≡ true
-unfolding piece
-word_spelled w x (inl d) = let e = d.5 in absurd cc
-word_spelled w x (inr (inl d)) =
-    let is : word w ≡ word (d.0 ∷ d.1) = d.5 in
-    let same : w ≡ d.0 ∷ d.1 = cc in
-    subst (λ v. is_word_text v ≡ true) (sym same) (both_hold (begins_word d.0) (list_all is_wordy d.1) d.2 (all_of_them is_wordy d.1 d.3))
-word_spelled w x (inr (inr (inl d))) = let e = d.5 in absurd cc
-word_spelled w x (inr (inr (inr (inl d)))) = let e = d.1.3 in absurd cc
-word_spelled w x (inr (inr (inr (inr d)))) = absurd (no_word_sign signs w x d)
-
-pieces_proper : (ps : List Piece) (text : Text) → Pieces piece ps text → AreProper (filter_map token_of ps)
-pieces_proper [] text d = tt
-pieces_proper (blank ∷ ps) text d = pieces_proper ps d.1 d.5
-pieces_proper (comment ∷ ps) text d = pieces_proper ps d.1 d.5
-pieces_proper (word w ∷ ps) text d = (word_proper w (word_spelled w d.0 d.2), pieces_proper ps d.1 d.5)
-pieces_proper (number n ∷ ps) text d = (number_proper n, pieces_proper ps d.1 d.5)
-pieces_proper (sign s ∷ ps) text d = (sign_proper s, pieces_proper ps d.1 d.5)
-
-pub tokens_proper : (text : Text) (ts : List Token) → Tokens text ts → AreProper ts
-tokens_proper text ts h = subst (λ us. AreProper us) (sym h.are) (pieces_proper h.pieces text h.cut)
+use Rattle.st_ast.specs.Grammar.{code, sort, second, word, word_of, identifier, natural, text_of, products, sums, orders, equalities, mul_of, is_minus, order_of, is_equality, after_kind, Others, product_of, sum_of, all_from, odd_from, any_from, Level, at_or, at_xor, at_and, at_equal, at_order, at_sum, at_product, at_unary, one_argument, two_arguments, three_arguments, prim, unary, operands, made, multiplied, summed, ordered, equated, conjunction, exclusion, disjunction, level, max_depth, below, expression, without_word, assignment, guarded, conditional, repetition, statement, signed, first_value, subrange_of, value_of_init, type_use, declaration, block_of, block, whole}
+use Rattle.st_read.proofs.ProperTokens.{IsProper, AreProper, proper_left, proper_right, tokens_proper}
+use Rattle.st_ast.specs.Spelled.{is_name, has_literal, has_signed_literal, place_of_level, holds_level, inside, has_factors, has_terms, has_two, is_expr, are_factors, are_terms, are_exprs, is_whole_expr, is_stm, are_stms, are_branches, is_other, is_type_spelled, is_first_spelled, is_declaration, are_declarations, is_spelled}
 
 -- ---- what holds of all that a language derives from such tokens
 
@@ -210,7 +91,7 @@ one_kind : (b : Bool) → (b || false) ≡ true → b ≡ true
 one_kind true e = refl
 one_kind false e = e
 
-token_gives : (kind : TokenKind) → Gives (λ (t : Token). ((code kind == code t.kind) ≡ true) × IsProper t) (kind_word kind)
+token_gives : (kind : TokenKind) → Gives (λ (t : Token). ((code kind == code t.kind) ≡ true) × IsProper t) (word kind)
 token_gives kind = record {
   give = λ t x d all. let one = subst (λ us. AreProper us) d.1 all in (one_kind (code kind == code t.kind) d.0, one.0);
 }
@@ -229,7 +110,7 @@ IsPart n l e = inside n (λ k. is_expr k l e) ≡ true
 
 inside_both : (n : ℕ) (a b : ℕ → Bool) → inside n a ≡ true → inside n b ≡ true → inside n (λ k. a k && b k) ≡ true
 inside_both zero a b h k = h
-inside_both (suc n) a b h k = both_hold (a n) (b n) h k
+inside_both (suc n) a b h k = and_from (a n) (b n) h k
 
 -- an expression of every level from one on up
 abbrev IsOf : ℕ → Level → Expr → Type 0
@@ -250,33 +131,33 @@ exprs_from more = exprs_of (map second (map after_kind more))
 
 each_factor : (n : ℕ) (more : List (Token × Expr)) → Each (IsOperand (suc n) at_unary) more → are_factors n (factors_from more) ≡ true
 each_factor n [] h = refl
-each_factor n (v ∷ more) h = both_hold (is_expr n at_unary v.1) (are_factors n (factors_from more)) h.0.1 (each_factor n more h.1)
+each_factor n (v ∷ more) h = and_from (is_expr n at_unary v.1) (are_factors n (factors_from more)) h.0.1 (each_factor n more h.1)
 
 each_term : (n : ℕ) (more : List (Token × Expr)) → Each (IsOperand (suc n) at_product) more → are_terms n (terms_from more) ≡ true
 each_term n [] h = refl
-each_term n (v ∷ more) h = both_hold (is_expr n at_product v.1) (are_terms n (terms_from more)) h.0.1 (each_term n more h.1)
+each_term n (v ∷ more) h = and_from (is_expr n at_product v.1) (are_terms n (terms_from more)) h.0.1 (each_term n more h.1)
 
 each_expr : (n : ℕ) (l : Level) (more : List (Token × Expr)) → Each (IsOperand (suc n) l) more → are_exprs n l (exprs_from more) ≡ true
 each_expr n l [] h = refl
-each_expr n l (v ∷ more) h = both_hold (is_expr n l v.1) (are_exprs n l (exprs_from more)) h.0.1 (each_expr n l more h.1)
+each_expr n l (v ∷ more) h = and_from (is_expr n l v.1) (are_exprs n l (exprs_from more)) h.0.1 (each_expr n l more h.1)
 
 product_parts : (n : ℕ) (e : Expr) (more : List (Token × Expr)) → IsPart n at_unary e → OneOrMore (IsOperand n at_unary) more
     → inside n (λ k. has_factors (factors_from more) && (is_expr k at_unary e && are_factors k (factors_from more))) ≡ true
 product_parts n e [] h s = absurd s
 product_parts zero e (v ∷ more) h s = absurd cc
-product_parts (suc n) e (v ∷ more) h s = both_hold (is_expr n at_unary e) (are_factors n (factors_from (v ∷ more))) h (each_factor n (v ∷ more) s)
+product_parts (suc n) e (v ∷ more) h s = and_from (is_expr n at_unary e) (are_factors n (factors_from (v ∷ more))) h (each_factor n (v ∷ more) s)
 
 sum_parts : (n : ℕ) (e : Expr) (more : List (Token × Expr)) → IsPart n at_product e → OneOrMore (IsOperand n at_product) more
     → inside n (λ k. has_terms (terms_from more) && (is_expr k at_product e && are_terms k (terms_from more))) ≡ true
 sum_parts n e [] h s = absurd s
 sum_parts zero e (v ∷ more) h s = absurd cc
-sum_parts (suc n) e (v ∷ more) h s = both_hold (is_expr n at_product e) (are_terms n (terms_from (v ∷ more))) h (each_term n (v ∷ more) s)
+sum_parts (suc n) e (v ∷ more) h s = and_from (is_expr n at_product e) (are_terms n (terms_from (v ∷ more))) h (each_term n (v ∷ more) s)
 
 joined_parts : (n : ℕ) (l : Level) (e : Expr) (more : List (Token × Expr)) → IsPart n l e → OneOrMore (IsOperand n l) more
     → inside n (λ k. has_two (exprs_of (e ∷ map second (map after_kind more))) && are_exprs k l (exprs_of (e ∷ map second (map after_kind more)))) ≡ true
 joined_parts n l e [] h s = absurd s
 joined_parts zero l e (v ∷ more) h s = absurd cc
-joined_parts (suc n) l e (v ∷ more) h s = both_hold (is_expr n l e) (are_exprs n l (exprs_from (v ∷ more))) h (each_expr n l (v ∷ more) s)
+joined_parts (suc n) l e (v ∷ more) h s = and_from (is_expr n l e) (are_exprs n l (exprs_from (v ∷ more))) h (each_expr n l (v ∷ more) s)
 
 holds_next : (l a b : Level) → place_of_level a ≤ place_of_level b → holds_level l a ≡ true → holds_level l b ≡ true
 holds_next l a b h r =
@@ -318,33 +199,33 @@ module _ (n : ℕ) (inner : Level → Lang Token Expr) (h : (l : Level) → Give
 
   multiplied_gives : Gives (IsOf n at_product) (multiplied inner)
   multiplied_gives = either_give (narrower n at_product at_unary (omega arith) (unary inner) unary_gives)
-      (map_gives (operands_give at_unary products) (IsOf n at_product) _ (λ v w l r. both_hold (holds_level l at_product) _ r (product_parts n v.0 v.1 w.0 w.1)))
+      (map_gives (operands_give at_unary products) (IsOf n at_product) _ (λ v w l r. and_from (holds_level l at_product) _ r (product_parts n v.0 v.1 w.0 w.1)))
 
   summed_gives : Gives (IsOf n at_sum) (summed inner)
   summed_gives = either_give (narrower n at_sum at_product (omega arith) (multiplied inner) multiplied_gives)
-      (map_gives (operands_give at_product sums) (IsOf n at_sum) _ (λ v w l r. both_hold (holds_level l at_sum) _ r (sum_parts n v.0 v.1 w.0 w.1)))
+      (map_gives (operands_give at_product sums) (IsOf n at_sum) _ (λ v w l r. and_from (holds_level l at_sum) _ r (sum_parts n v.0 v.1 w.0 w.1)))
 
   ordered_gives : Gives (IsOf n at_order) (ordered inner)
   ordered_gives = either_give (narrower n at_order at_sum (omega arith) (summed inner) summed_gives)
       (map_gives (both_give (h at_sum) (both_give any_gives (h at_sum))) (IsOf n at_order) _
-      (λ v w l r. both_hold (holds_level l at_order) _ r (inside_both n (λ k. is_expr k at_sum v.0) (λ k. is_expr k at_sum v.1.1) w.0 w.1.1)))
+      (λ v w l r. and_from (holds_level l at_order) _ r (inside_both n (λ k. is_expr k at_sum v.0) (λ k. is_expr k at_sum v.1.1) w.0 w.1.1)))
 
   equated_gives : Gives (IsOf n at_equal) (equated inner)
   equated_gives = either_give (narrower n at_equal at_order (omega arith) (ordered inner) ordered_gives)
       (map_gives (both_give (h at_order) (both_give any_gives (h at_order))) (IsOf n at_equal) _
-      (λ v w l r. both_hold (holds_level l at_equal) _ r (inside_both n (λ k. is_expr k at_order v.0) (λ k. is_expr k at_order v.1.1) w.0 w.1.1)))
+      (λ v w l r. and_from (holds_level l at_equal) _ r (inside_both n (λ k. is_expr k at_order v.0) (λ k. is_expr k at_order v.1.1) w.0 w.1.1)))
 
   conjunction_gives : Gives (IsOf n at_and) (conjunction inner)
   conjunction_gives = either_give (narrower n at_and at_equal (omega arith) (equated inner) equated_gives)
-      (map_gives (operands_give at_equal (kinds.And ∷ [])) (IsOf n at_and) _ (λ v w l r. both_hold (holds_level l at_and) _ r (joined_parts n at_equal v.0 v.1 w.0 w.1)))
+      (map_gives (operands_give at_equal (kinds.And ∷ [])) (IsOf n at_and) _ (λ v w l r. and_from (holds_level l at_and) _ r (joined_parts n at_equal v.0 v.1 w.0 w.1)))
 
   exclusion_gives : Gives (IsOf n at_xor) (exclusion inner)
   exclusion_gives = either_give (narrower n at_xor at_and (omega arith) (conjunction inner) conjunction_gives)
-      (map_gives (operands_give at_and (kinds.Xor ∷ [])) (IsOf n at_xor) _ (λ v w l r. both_hold (holds_level l at_xor) _ r (joined_parts n at_and v.0 v.1 w.0 w.1)))
+      (map_gives (operands_give at_and (kinds.Xor ∷ [])) (IsOf n at_xor) _ (λ v w l r. and_from (holds_level l at_xor) _ r (joined_parts n at_and v.0 v.1 w.0 w.1)))
 
   disjunction_gives : Gives (IsOf n at_or) (disjunction inner)
   disjunction_gives = either_give (narrower n at_or at_xor (omega arith) (exclusion inner) exclusion_gives)
-      (map_gives (operands_give at_xor (kinds.Or ∷ [])) (IsOf n at_or) _ (λ v w l r. both_hold (holds_level l at_or) _ r (joined_parts n at_xor v.0 v.1 w.0 w.1)))
+      (map_gives (operands_give at_xor (kinds.Or ∷ [])) (IsOf n at_or) _ (λ v w l r. and_from (holds_level l at_or) _ r (joined_parts n at_xor v.0 v.1 w.0 w.1)))
 
   level_gives : (l : Level) → Gives (λ e. is_expr n l e ≡ true) (level inner l)
   level_gives at_or = record { give = λ e x d all. disjunction_gives.give e x d all at_or refl }
@@ -369,11 +250,11 @@ expression_gives = record { give = λ e x d all. (level_gives max_depth (below m
 
 assignment_gives : (n : ℕ) → Gives (λ s. is_stm n s ≡ true) assignment
 assignment_gives n = map_gives (both_give identifier_gives (both_give any_gives (both_give expression_gives any_gives))) (λ s. is_stm n s ≡ true) _
-    (λ v w. both_hold (is_name v.0) (is_whole_expr v.1.1.0) w.0 w.1.1.0)
+    (λ v w. and_from (is_name v.0) (is_whole_expr v.1.1.0) w.0 w.1.1.0)
 
 each_stm : (n : ℕ) (ss : List Stm) → Each (λ s. is_stm n s ≡ true) ss → are_stms n (stms_of ss) ≡ true
 each_stm n [] h = refl
-each_stm n (s ∷ ss) h = both_hold (is_stm n s) (are_stms n (stms_of ss)) h.0 (each_stm n ss h.1)
+each_stm n (s ∷ ss) h = and_from (is_stm n s) (are_stms n (stms_of ss)) h.0 (each_stm n ss h.1)
 
 -- a condition and its statements
 abbrev IsGuarded : ℕ → Expr × Stms → Type 0
@@ -381,8 +262,8 @@ IsGuarded n g = (is_whole_expr g.0 ≡ true) × (are_stms n g.1 ≡ true)
 
 each_branch : (n : ℕ) (bs : List (Token × (Expr × Stms))) → Each (λ (b : Token × (Expr × Stms)). Unit {0} × IsGuarded n b.1) bs → are_branches n (branches_of (map second bs)) ≡ true
 each_branch n [] h = refl
-each_branch n (b ∷ bs) h = both_hold (is_whole_expr b.1.0) (are_stms n b.1.1 && are_branches n (branches_of (map second bs))) h.0.1.0
-    (both_hold (are_stms n b.1.1) (are_branches n (branches_of (map second bs))) h.0.1.1 (each_branch n bs h.1))
+each_branch n (b ∷ bs) h = and_from (is_whole_expr b.1.0) (are_stms n b.1.1 && are_branches n (branches_of (map second bs))) h.0.1.0
+    (and_from (are_stms n b.1.1) (are_branches n (branches_of (map second bs))) h.0.1.1 (each_branch n bs h.1))
 
 last_part : (n : ℕ) (o : Option (Token × List Stm)) → IfSome (λ (w : Token × List Stm). Unit {0} × Each (λ s. is_stm n s ≡ true) w.1) o → is_other n (other_of (without_word o)) ≡ true
 last_part n None h = refl
@@ -395,14 +276,14 @@ module _ (n : ℕ) (body : Lang Token (List Stm)) (b : Gives (Each (λ s. is_stm
   conditional_gives : Gives (λ s. is_stm (suc n) s ≡ true) (conditional body)
   conditional_gives = map_gives (both_give any_gives (both_give (guarded_gives kinds.Then) (both_give (many_give (both_give any_gives (guarded_gives kinds.Then)))
       (both_give (optional_gives (both_give any_gives b)) any_gives)))) (λ s. is_stm (suc n) s ≡ true) _
-      (λ v w. both_hold (are_branches n (branches_of (v.1.0 ∷ map second v.1.1.0))) (is_other n (other_of (without_word v.1.1.1.0)))
-      (both_hold (is_whole_expr v.1.0.0) (are_stms n v.1.0.1 && are_branches n (branches_of (map second v.1.1.0))) w.1.0.0
-      (both_hold (are_stms n v.1.0.1) (are_branches n (branches_of (map second v.1.1.0))) w.1.0.1 (each_branch n v.1.1.0 w.1.1.0)))
+      (λ v w. and_from (are_branches n (branches_of (v.1.0 ∷ map second v.1.1.0))) (is_other n (other_of (without_word v.1.1.1.0)))
+      (and_from (is_whole_expr v.1.0.0) (are_stms n v.1.0.1 && are_branches n (branches_of (map second v.1.1.0))) w.1.0.0
+      (and_from (are_stms n v.1.0.1) (are_branches n (branches_of (map second v.1.1.0))) w.1.0.1 (each_branch n v.1.1.0 w.1.1.0)))
       (last_part n v.1.1.1.0 w.1.1.1.0))
 
   repetition_gives : Gives (λ s. is_stm (suc n) s ≡ true) (repetition body)
   repetition_gives = map_gives (both_give any_gives (both_give (guarded_gives kinds.Do) any_gives)) (λ s. is_stm (suc n) s ≡ true) _
-      (λ v w. both_hold (is_whole_expr v.1.0.0) (are_stms n v.1.0.1) w.1.0.0 w.1.0.1)
+      (λ v w. and_from (is_whole_expr v.1.0.0) (are_stms n v.1.0.1) w.1.0.0 w.1.0.1)
 
 statement_gives : (n : ℕ) → Gives (λ s. is_stm n s ≡ true) (statement n)
 unfolding statement
@@ -440,7 +321,7 @@ IsSubrange v = Unit {0} × ((has_signed_literal v.1.0 ≡ true) × (Unit {0} × 
 
 subrange_spelled : (o : Option Subrange) → IfSome IsSubrange o → is_type_spelled (subrange_of o) ≡ true
 subrange_spelled None h = refl
-subrange_spelled (Some v) h = both_hold (has_signed_literal v.1.0) (has_signed_literal v.1.1.1.0) h.1.0 h.1.1.1.0
+subrange_spelled (Some v) h = and_from (has_signed_literal v.1.0) (has_signed_literal v.1.1.1.0) h.1.0 h.1.1.1.0
 
 type_gives : Gives (λ t. is_type_spelled t ≡ true) type_use
 type_gives = either_give (map_gives any_gives (λ t. is_type_spelled t ≡ true) _ (λ v w. refl))
@@ -453,13 +334,13 @@ init_spelled (Some v) h = h.1
 
 declaration_gives : (k : StClass) → Gives (λ v. is_declaration v ≡ true) (declaration k)
 declaration_gives k = map_gives (both_give identifier_gives (both_give any_gives (both_give type_gives (both_give (optional_gives (both_give any_gives first_value_gives)) any_gives)))) (λ v. is_declaration v ≡ true) _
-    (λ v w. both_hold (is_name v.0) (is_type_spelled v.1.1.0 && (is_first_spelled (value_of_init v.1.1.1.0) && true)) w.0
-    (both_hold (is_type_spelled v.1.1.0) (is_first_spelled (value_of_init v.1.1.1.0) && true) w.1.1.0
-    (both_hold (is_first_spelled (value_of_init v.1.1.1.0)) true (init_spelled v.1.1.1.0 w.1.1.1.0) refl)))
+    (λ v w. and_from (is_name v.0) (is_type_spelled v.1.1.0 && (is_first_spelled (value_of_init v.1.1.1.0) && true)) w.0
+    (and_from (is_type_spelled v.1.1.0) (is_first_spelled (value_of_init v.1.1.1.0) && true) w.1.1.0
+    (and_from (is_first_spelled (value_of_init v.1.1.1.0)) true (init_spelled v.1.1.1.0 w.1.1.1.0) refl)))
 
 each_declaration : (vs : List StVar) → Each (λ v. is_declaration v ≡ true) vs → are_declarations vs ≡ true
 each_declaration [] h = refl
-each_declaration (v ∷ vs) h = both_hold (is_declaration v) (are_declarations vs) h.0 (each_declaration vs h.1)
+each_declaration (v ∷ vs) h = and_from (is_declaration v) (are_declarations vs) h.0 (each_declaration vs h.1)
 
 block_of_gives : (kind : TokenKind) (k : StClass) → Gives (λ vs. are_declarations vs ≡ true) (block_of kind k)
 block_of_gives kind k = map_gives (both_give any_gives (both_give (many_give (declaration_gives k)) any_gives)) (λ vs. are_declarations vs ≡ true) _ (λ v w. each_declaration v.1.0 w.1.0)
@@ -471,7 +352,7 @@ block_gives = either_give (block_of_gives kinds.Var class.Plain)
 
 declarations_append : (us vs : List StVar) → are_declarations us ≡ true → are_declarations vs ≡ true → are_declarations (us ++ vs) ≡ true
 declarations_append [] vs h k = k
-declarations_append (u ∷ us) vs h k = both_hold (is_declaration u) (are_declarations (us ++ vs)) (and_left (is_declaration u) (are_declarations us) h)
+declarations_append (u ∷ us) vs h k = and_from (is_declaration u) (are_declarations (us ++ vs)) (and_left (is_declaration u) (are_declarations us) h)
     (declarations_append us vs (and_right (is_declaration u) (are_declarations us) h) k)
 
 each_block : (vss : List (List StVar)) → Each (λ vs. are_declarations vs ≡ true) vss → are_declarations (flat vss) ≡ true
@@ -483,8 +364,8 @@ each_block (vs ∷ vss) h = declarations_append vs (flat vss) h.0 (each_block vs
 pub whole_gives : Gives (λ p. is_spelled p ≡ true) whole
 unfolding whole
 whole_gives = map_gives (both_give any_gives (both_give identifier_gives (both_give (many_give block_gives) (both_give (many_give (statement_gives max_depth)) any_gives)))) (λ p. is_spelled p ≡ true) _
-    (λ v w. both_hold (is_name v.1.0) (are_declarations (flat v.1.1.0) && are_stms max_depth (stms_of v.1.1.1.0)) w.1.0
-    (both_hold (are_declarations (flat v.1.1.0)) (are_stms max_depth (stms_of v.1.1.1.0)) (each_block v.1.1.0 w.1.1.0) (each_stm max_depth v.1.1.1.0 w.1.1.1.0)))
+    (λ v w. and_from (is_name v.1.0) (are_declarations (flat v.1.1.0) && are_stms max_depth (stms_of v.1.1.1.0)) w.1.0
+    (and_from (are_declarations (flat v.1.1.0)) (are_stms max_depth (stms_of v.1.1.1.0)) (each_block v.1.1.0 w.1.1.0) (each_stm max_depth v.1.1.1.0 w.1.1.1.0)))
 
 -- a program that a text derives has a spelling
 pub derived_is_spelled : (text : Text) (p : Program) → Derives text p → is_spelled p ≡ true
