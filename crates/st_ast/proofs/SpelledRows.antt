@@ -1,10 +1,9 @@
 -- Worked examples of what has a spelling, by computation.
-use Rattle.std.proofs.Common.{◌≡◌, ℕ, zero, suc, pos, negsuc, true, false, List, [], ◌∷◌, Some, None, refl}
-use Rattle.std.specs.Prelude.{Bool, codes, map, replicate}
-use Rattle.st_ast.specs.Tree.{Expr, truth, number, named, paren, negation, complement, product, sum, order, equal, all_of, odd_of, any_of, absolute, least, selection, exprs, no_exprs, factors, no_factors, terms, no_terms, Stm, Stms, assign, choice, loop, no_stms, stms, no_branches, branches, no_other, other, stms_of, Program}
-use Rattle.st_ast.specs.Grammar.{Level, at_or, at_equal, at_sum, at_unary, max_depth}
+use Rattle.std.proofs.Common.{◌≡◌, ℕ, zero, suc, pos, negsuc, true, false, [], ◌∷◌, Some, None, refl}
+use Rattle.std.specs.Prelude.{codes, map}
+use Rattle.st_ast.specs.Tree.{Expr, number, named, paren, negation, complement, product, sum, order, equal, all_of, odd_of, any_of, absolute, selection, exprs, no_exprs, factors, no_factors, terms, no_terms, Stm, assign, choice, loop, no_stms, stms, no_branches, branches, no_other, other, stms_of, Program}
+use Rattle.st_ast.specs.Grammar.{at_or, at_equal, at_sum, at_unary, max_depth}
 use Rattle.st_ast.specs.Spelled.{is_name, has_literal, has_signed_literal, is_expr, is_whole_expr, is_stm, is_declaration, is_spelled}
-use Rattle.st_ast.specs.declared.tree.Address.{Address}
 use Rattle.st_ast.specs.declared.tree.Size.TheVariants as size
 use Rattle.st_ast.specs.declared.tree.StClass.TheVariants as class
 use Rattle.st_ast.specs.declared.tree.StMul.TheVariants as mul

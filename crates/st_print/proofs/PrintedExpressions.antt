@@ -1,7 +1,7 @@
 -- The printed marks of an expression that has a spelling derive it.
 use Rattle.std.proofs.Common.{◌≡◌, ◌==◌, ◌&&◌, ◌≤◌, ◌+◌, ◌-◌, ℕ, zero, suc, pos, negsuc, Bool, true, false, List, [], ◌∷◌, map, refl, sym, ap, subst, ◌∙◌, eq-eqb, leb-true, arith}
 use Rattle.std.specs.Prelude.{codes, decimal, nat_le}
-use Rattle.grammar.specs.Lang.{Lang, has, ◌&◌, ◌∣◌, ◌<$>◌, many}
+use Rattle.grammar.specs.Lang.{Lang, has, ◌&◌, ◌<$>◌, many}
 use Rattle.grammar.specs.Pieces.{Text}
 use Rattle.grammar.proofs.Texts.{and_left, and_right}
 use Rattle.st_ast.specs.Tokens.{Token, kind_of_word, kind_of_number, kind_of_sign, number_of, greatest}
@@ -11,9 +11,9 @@ use Rattle.st_ast.specs.declared.tree.StMul.{StMul}
 use Rattle.st_ast.specs.declared.tree.StMul.TheVariants as mul
 use Rattle.st_ast.specs.declared.tree.StOrder.{StOrder}
 use Rattle.st_ast.specs.declared.tree.StOrder.TheVariants as cmp
-use Rattle.st_ast.specs.Grammar.{sort, code, word, word_of, natural, identifier, text_of, middle, second, products, sums, orders, equalities, mul_of, is_minus, order_of, is_equality, product_of, sum_of, after_kind, Level, at_or, at_xor, at_and, at_equal, at_order, at_sum, at_product, at_unary, one_argument, two_arguments, three_arguments, prim, unary, operands, made, level, below, expression, disjunction, max_depth}
+use Rattle.st_ast.specs.Grammar.{sort, code, word, word_of, natural, identifier, text_of, middle, second, products, sums, orders, equalities, mul_of, is_minus, order_of, is_equality, product_of, sum_of, after_kind, Level, at_or, at_xor, at_and, at_equal, at_order, at_sum, at_product, at_unary, one_argument, two_arguments, three_arguments, prim, unary, operands, made, level, below, expression, max_depth}
 use Rattle.st_ast.specs.Parts.{factors_of, terms_of}
-use Rattle.st_ast.specs.Spelled.{is_word_text, is_name, has_literal, place_of_level, holds_level, has_factors, has_terms, has_two, is_expr, are_factors, are_terms, are_exprs, is_whole_expr}
+use Rattle.st_ast.specs.Spelled.{is_word_text, is_name, place_of_level, holds_level, has_factors, has_terms, has_two, is_expr, are_factors, are_terms, are_exprs, is_whole_expr}
 use Rattle.st_ast.specs.Tree.{Expr, Exprs, Factors, Terms, truth, number, named, paren, negation, complement, product, sum, order, equal, all_of, odd_of, any_of, absolute, least, greatest as larger, selection, exprs, no_exprs, factors, no_factors, terms, no_terms, exprs_of}
 use Rattle.st_print.specs.Layout.{Mark, truth_marks, order_text, equal_text, plus_text, mul_mark, expr_marks, factors_marks, terms_marks, operands_marks, more_marks}
 use Rattle.st_print.specs.Layout as mark

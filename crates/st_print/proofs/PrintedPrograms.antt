@@ -1,5 +1,5 @@
 -- The printed text of a program that has a spelling derives it.
-use Rattle.std.proofs.Common.{◌≡◌, ◌&&◌, ℕ, true, List, [], ◌∷◌, refl, sym, ap, subst, ◌∙◌, append-nil, Result, Ok, Err}
+use Rattle.std.proofs.Common.{◌≡◌, ◌&&◌, true, List, [], ◌∷◌, refl, sym, subst, ◌∙◌, append-nil, Result, Ok, Err}
 use Rattle.std.specs.Prelude.{codes, IfOk}
 use Rattle.grammar.specs.Lang.{flat}
 use Rattle.grammar.specs.Pieces.{Text}
@@ -17,7 +17,7 @@ use Rattle.st_print.specs.Marks.{tokens_of}
 use Rattle.st_print.proofs.Derived.{Derives, both_derive, map_derives, line_derives}
 use Rattle.st_print.proofs.PrintedExpressions.{parts, word_derives, identifier_derives}
 use Rattle.st_print.proofs.PrintedStatements.{list_of, stms_of-list_of, stms_derive}
-use Rattle.st_print.proofs.PrintedVariables.{blocks_of, variables_derive, flat-blocks_of}
+use Rattle.st_print.proofs.PrintedVariables.{variables_derive, flat-blocks_of}
 use Rattle.st_print.proofs.MarksLaws.{marks-tokens}
 
 -- the marks but for the last line break

@@ -1,7 +1,7 @@
 -- The printed marks of a statement that has a spelling derive it.
-use Rattle.std.proofs.Common.{◌≡◌, ◌&&◌, ℕ, zero, suc, ◌+◌, Bool, true, false, List, [], ◌∷◌, Option, Some, None, map, refl, ap, subst, inl, inr}
+use Rattle.std.proofs.Common.{◌≡◌, ◌&&◌, ℕ, zero, suc, ◌+◌, true, false, List, [], ◌∷◌, Option, Some, None, map, refl, ap, subst, inl, inr}
 use Rattle.std.specs.Prelude.{codes}
-use Rattle.grammar.specs.Lang.{Lang, ◌&◌, many, optional}
+use Rattle.grammar.specs.Lang.{◌&◌, many, optional}
 use Rattle.grammar.specs.Pieces.{Text}
 use Rattle.st_ast.specs.Tokens.{Token, kind_of_word}
 use Rattle.st_ast.specs.declared.kinds.TokenKind.{TokenKind}
@@ -12,7 +12,7 @@ use Rattle.st_ast.specs.Spelled.{is_word_text, is_name, is_whole_expr, has_branc
 use Rattle.st_ast.specs.Tree.{Expr, Stm, Stms, Branches, Other, assign, choice, loop, no_stms, stms, no_branches, branches, no_other, other, stms_of}
 use Rattle.st_print.specs.Layout.{Mark, expr_marks, stm_marks, stms_marks, branches_marks, other_marks}
 use Rattle.st_print.specs.Layout as mark
-use Rattle.st_print.proofs.Derived.{Derives, both_derive, map_derives, left_derives, right_derives, none_derives, more_derive, absent_derives, present_derives, line_derives}
+use Rattle.st_print.proofs.Derived.{Derives, both_derive, map_derives, none_derives, more_derive, absent_derives, present_derives, line_derives}
 use Rattle.st_print.proofs.PrintedExpressions.{parts, word_token, sign_token, word_derives, sign_derives, identifier_derives, whole_derives}
 
 -- ---- lists

@@ -1,5 +1,5 @@
 -- The printed marks of variables that have a spelling derive them.
-use Rattle.std.proofs.Common.{◌≡◌, ◌&&◌, ◌+◌, ℕ, suc, ℤ, pos, negsuc, Bool, true, false, List, [], ◌∷◌, ◌++◌, Option, Some, None, refl, sym, ap, subst, ◌∙◌, add-one, inl, inr}
+use Rattle.std.proofs.Common.{◌≡◌, ◌&&◌, ◌+◌, ℤ, pos, negsuc, Bool, true, false, List, [], ◌∷◌, ◌++◌, Option, Some, None, refl, sym, ap, subst, ◌∙◌, add-one, inl, inr}
 use Rattle.std.specs.Prelude.{codes, nat_le, neg_ℤ, if◌then◌else◌}
 use Rattle.grammar.specs.Lang.{Lang, ◌&◌, ◌∣◌, ◌<$>◌, many, optional, flat}
 use Rattle.grammar.specs.Pieces.{Text}

@@ -1,24 +1,21 @@
 -- What a text derives has a spelling.
-use Rattle.std.proofs.Common.{◌≡◌, ◌==◌, ◌&&◌, ◌||◌, ◌≤◌, ◌+◌, ℕ, zero, suc, ℤ, pos, negsuc, Bool, true, false, not, List, [], ◌∷◌, ◌++◌, map, Option, Some, None, refl, sym, ap, subst, ◌∙◌, arith, inl, inr, filter_map, leb-true, le-leb}
-use Rattle.std.specs.Prelude.{neg_ℤ, nat_le, if◌then◌else◌}
+use Rattle.std.proofs.Common.{◌≡◌, ◌==◌, ◌&&◌, ◌||◌, ◌≤◌, ℕ, zero, suc, ℤ, pos, negsuc, Bool, true, false, List, [], ◌∷◌, ◌++◌, map, Option, Some, None, refl, sym, subst, arith, inl, inr, leb-true, le-leb}
+use Rattle.std.specs.Prelude.{neg_ℤ}
 use Rattle.std.proofs.lemmas.Bool.{and_from}
 use Rattle.grammar.specs.Pieces.{Text}
-use Rattle.grammar.specs.Lang.{Lang, has, ◌&◌, ◌∣◌, ◌<$>◌, many, some, optional, flat}
+use Rattle.grammar.specs.Lang.{Lang, ◌&◌, ◌∣◌, ◌<$>◌, many, some, optional, flat}
 use Rattle.grammar.proofs.Texts.{and_left, and_right}
-use Rattle.st_ast.specs.Tokens.{Token, number_of}
+use Rattle.st_ast.specs.Tokens.{Token}
 use Rattle.st_ast.specs.declared.kinds.TokenKind.{TokenKind}
 use Rattle.st_ast.specs.declared.kinds.TokenKind.TheVariants as kinds
 use Rattle.st_ast.specs.declared.tree.StVar.{StVar}
-use Rattle.st_ast.specs.declared.tree.StTy.{StTy}
-use Rattle.st_ast.specs.declared.tree.StTy.TheVariants as ty
 use Rattle.st_ast.specs.declared.tree.StLit.{StLit}
-use Rattle.st_ast.specs.declared.tree.StLit.TheVariants as lit
 use Rattle.st_ast.specs.declared.tree.StClass.{StClass}
 use Rattle.st_ast.specs.declared.tree.StClass.TheVariants as class
-use Rattle.st_ast.specs.Tree.{Expr, Exprs, Factors, Terms, truth, number, named, paren, negation, complement, product, sum, order, equal, all_of, odd_of, any_of, absolute, least, greatest as larger, selection, exprs_of, Stm, Stms, assign, choice, loop, stms_of, Program}
+use Rattle.st_ast.specs.Tree.{Expr, Exprs, Factors, Terms, exprs_of, Stm, Stms, stms_of, Program}
 use Rattle.st_ast.specs.Parts.{factors_of, terms_of, branches_of, other_of}
 use Rattle.st_ast.specs.ReadsAs.{Derives}
-use Rattle.st_ast.specs.Grammar.{code, sort, second, word, word_of, identifier, natural, text_of, products, sums, orders, equalities, mul_of, is_minus, order_of, is_equality, after_kind, Others, product_of, sum_of, all_from, odd_from, any_from, Level, at_or, at_xor, at_and, at_equal, at_order, at_sum, at_product, at_unary, one_argument, two_arguments, three_arguments, prim, unary, operands, made, multiplied, summed, ordered, equated, conjunction, exclusion, disjunction, level, max_depth, below, expression, without_word, assignment, guarded, conditional, repetition, statement, signed, first_value, subrange_of, value_of_init, type_use, declaration, block_of, block, whole}
+use Rattle.st_ast.specs.Grammar.{code, second, word, identifier, natural, products, sums, mul_of, is_minus, after_kind, Level, at_or, at_xor, at_and, at_equal, at_order, at_sum, at_product, at_unary, one_argument, two_arguments, three_arguments, prim, unary, operands, multiplied, summed, ordered, equated, conjunction, exclusion, disjunction, level, max_depth, below, expression, without_word, assignment, guarded, conditional, repetition, statement, signed, first_value, subrange_of, value_of_init, type_use, declaration, block_of, block, whole}
 use Rattle.st_read.proofs.ProperTokens.{IsProper, AreProper, proper_left, proper_right, tokens_proper}
 use Rattle.st_ast.specs.Spelled.{is_name, has_literal, has_signed_literal, place_of_level, holds_level, inside, has_factors, has_terms, has_two, is_expr, are_factors, are_terms, are_exprs, is_whole_expr, is_stm, are_stms, are_branches, is_other, is_type_spelled, is_first_spelled, is_declaration, are_declarations, is_spelled}
 
