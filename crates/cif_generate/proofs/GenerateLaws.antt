@@ -9,7 +9,7 @@ use Rattle.plc_face.specs.Face.{HasInterface}
 use Rattle.plc_face.specs.Scans.{NeverFaults, RunsFirstSteps, ScansLegally, ScansExactly, ShowsOutputs, StaysTyped}
 use Rattle.plc_gen.specs.Emitted.{program_of}
 use Rattle.cif_plant.specs.declared.numbered.NumberedPlant.{NumberedPlant}
-use Rattle.plc_back.specs.HasProgram.{HasProgram}
+use Rattle.plc_gen.specs.HasProgram.{HasProgram}
 use Rattle.plc_back.specs.Texts.{IsLayoutOf, TheProgram}
 use Rattle.plc_back.proofs.TextLaws as law
 use Rattle.cif_run.specs.declared.status.Status.{Status}

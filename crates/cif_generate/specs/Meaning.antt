@@ -10,7 +10,7 @@ use Rattle.st_print.specs.Layout.{printed}
 use Rattle.plc_face.specs.Face.{Face, StateOf}
 use Rattle.plc_gen.specs.Emitted.{program_of}
 use Rattle.plc_gen.specs.Interface.{face_of}
-use Rattle.plc_back.specs.HasProgram.{HasProgram}
+use Rattle.plc_gen.specs.HasProgram.{HasProgram}
 use Rattle.cif_accept.specs.Built.{Built}
 
 -- what a program shows of it

@@ -1,2 +1,1 @@
-pub mod HasProgram
 pub mod Texts

@@ -4,11 +4,12 @@
 ghost use Rattle.std.specs.Prelude.{◌≡◌, ◌+◌, ◌≤◌, ◌<◌, IfOk};
 ghost use Rattle.cif_plant.specs.Meaning.{IsNumbered, system_of_numbered};
 ghost use Rattle.cif_plant.specs.Named.{IsNameText};
+ghost use Rattle.st_ast.specs.ReadsAs.{ReadsBack};
 ghost use Rattle.st_print.specs.Layout.{printed};
 ghost use Rattle.plc_face.specs.Scans.{IsProgramOf, NeverFaults, RunsFirstSteps, ScansLegally, ScansExactly, ShowsOutputs, StaysTyped};
 ghost use Rattle.plc_gen.specs.Emitted.{program_of};
 ghost use Rattle.plc_gen.specs.Interface.{face_of};
-ghost use Rattle.plc_back.specs.HasProgram.{HasProgram};
+ghost use Rattle.plc_gen.specs.HasProgram.{HasProgram};
 ghost use Rattle.plc_back.specs.Texts.{IsLayoutOf, TheProgram};
 
 use cif_base::Memory;
@@ -18,8 +19,12 @@ use std::alloc::Global;
 
 /// The text of the program that `emit` makes.
 fn program_text(alloc: Global, plant: &NumberedPlant, bounds: Bounds) -> Result<Vec<u8>, Memory>
-    requires { IsNumbered plant.now }
-    ensures { IfOk result (λ text. text.items ≡ printed (program_of plant.now bounds.unc bounds.con)) }
+    requires numbered { IsNumbered plant.now }
+    requires named { IsNameText plant.now.name }
+    ensures laid_out { IfOk result (λ text.
+        text.items ≡ printed (program_of plant.now bounds.unc bounds.con)) }
+    ensures read_again { IfOk result (λ text.
+        ReadsBack text.items (program_of plant.now bounds.unc bounds.con)) }
 {
     let program = plc_gen::emit(alloc, plant, bounds)?;
     st_print::print(alloc, &program)

@@ -1,6 +1,6 @@
 -- A program that meets all premises of the law of the frame: of a system with one Boolean input, and one uncontrollable event
 -- that no automaton takes part in.
-use Rattle.std.proofs.Common.{◌≡◌, ℕ, zero, suc, ℤ, pos, false, true, List, [], ◌∷◌, ◌++◌, map, Some, refl, sym, ap, ◌∙◌, inl, inr, arith}
+use Rattle.std.proofs.Common.{◌≡◌, ℕ, zero, suc, ℤ, pos, false, true, List, [], ◌∷◌, ◌++◌, map, Some, None, refl, sym, ap, ◌∙◌, inl, inr, arith}
 use Rattle.std.specs.Prelude.{codes}
 use Rattle.std.specs.Fmt.{digits}
 use Rattle.std.specs.List.{AllByRecursion}
@@ -36,10 +36,10 @@ parts = record { own = []; body = no_stms } ∷ []
 abbrev program : Program
 program = record {
   name = codes "CifScan";
-  vars = record { name = codes "I0_k"; class = class.Input; ty = ty.Bool; init = Some (lit.Bool false) }
-      ∷ record { name = codes "H0_k"; class = class.Plain; ty = ty.Bool; init = Some (lit.Bool false) }
-      ∷ record { name = fired; class = class.Plain; ty = ty.Bool; init = Some (lit.Bool false) }
-      ∷ record { name = rounds_made; class = class.Plain; ty = ty.Lint; init = Some (lit.Int (pos 0)) } ∷ [];
+  vars = record { name = codes "I0_k"; class = class.Input; ty = ty.Bool; init = Some (lit.Bool false); at = None }
+      ∷ record { name = codes "H0_k"; class = class.Plain; ty = ty.Bool; init = Some (lit.Bool false); at = None }
+      ∷ record { name = fired; class = class.Plain; ty = ty.Bool; init = Some (lit.Bool false); at = None }
+      ∷ record { name = rounds_made; class = class.Plain; ty = ty.Lint; init = Some (lit.Int (pos 0)); at = None } ∷ [];
   body = framed face system parts 3 3 no_stms;
 }
 

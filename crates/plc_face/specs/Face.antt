@@ -1,6 +1,6 @@
 -- What a program shows of a system of automata: the names, types and first values of its inputs and outputs, the state that
 -- a memory stands for, and the outputs (IEC 61131-3, "Variables").
-use Rattle.std.specs.Prelude.{◌≡◌, ℕ, ◌-◌, ◌^◌, ℤ, pos, negsuc, Bool, IsTrue, List, ◌++◌, map, filter, length, codes, Some, option_map, slice_get, if◌then◌else◌}
+use Rattle.std.specs.Prelude.{◌≡◌, ℕ, ◌-◌, ◌^◌, ℤ, pos, negsuc, Bool, IsTrue, List, ◌++◌, map, filter, length, codes, Some, None, option_map, slice_get, if◌then◌else◌}
 use Rattle.std.specs.List.{enumerate_from, AllZip}
 use Rattle.grammar.specs.Pieces.{Text}
 use Rattle.cif_system.specs.System.{Automaton, IsState, Range, Observation, State, Stored, System, in_range, outputs}
@@ -69,7 +69,7 @@ literal_of (ty.Range lo hi) z = lit.Int z
 
 -- the declaration of a variable with a number
 abbrev pub declaration : Letter → StClass → ℕ × VariableFace → StVar
-declaration l c (k, x) = record { name = name_for l k x.path; class = c; ty = x.ty; init = Some (literal_of x.ty x.first) }
+declaration l c (k, x) = record { name = name_for l k x.path; class = c; ty = x.ty; init = Some (literal_of x.ty x.first); at = None }
 
 -- these variables, numbered from 0
 abbrev pub declarations : Letter → StClass → List VariableFace → List StVar

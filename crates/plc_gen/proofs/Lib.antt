@@ -6,3 +6,5 @@ pub mod PlantScans
 pub mod PlantSteps
 pub mod Rows
 pub mod Tries
+pub mod NameLemmas
+pub mod Spellings

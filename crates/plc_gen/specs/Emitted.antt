@@ -1,5 +1,5 @@
 -- The program of a plant automaton without data.
-use Rattle.std.specs.Prelude.{ℕ, suc, ◌-◌, pos, Bool, true, false, List, [], ◌∷◌, ◌++◌, filter, nat_eq, codes, Some, if◌then◌else◌}
+use Rattle.std.specs.Prelude.{ℕ, suc, ◌-◌, pos, Bool, true, false, List, [], ◌∷◌, ◌++◌, filter, nat_eq, codes, Some, None, if◌then◌else◌}
 use Rattle.grammar.specs.Pieces.{Text}
 use Rattle.st_ast.specs.Tree.{Expr, truth, number, named, equal, Stms, Branches, assign, choice, no_stms, stms, no_branches, branches, no_other, Program}
 use Rattle.st_ast.specs.declared.tree.StVar.{StVar}
@@ -63,6 +63,7 @@ place_variable n = record {
   class = class.Plain;
   ty = ty.Range (pos 0) (pos (n.places - 1));
   init = Some (lit.Int (pos n.first));
+  at = None;
 }
 
 -- the output that shows the place of the automaton
@@ -72,12 +73,13 @@ place_output n = record {
   class = class.Output;
   ty = ty.Range (pos 0) (pos (n.places - 1));
   init = Some (lit.Int (pos n.first));
+  at = None;
 }
 
 abbrev pub variables_of : NumberedPlant → List StVar
 variables_of n = place_variable n
-    ∷ record { name = fired; class = class.Plain; ty = ty.Bool; init = Some (lit.Bool false) }
-    ∷ record { name = rounds_made; class = class.Plain; ty = ty.Lint; init = Some (lit.Int (pos 0)) }
+    ∷ record { name = fired; class = class.Plain; ty = ty.Bool; init = Some (lit.Bool false); at = None }
+    ∷ record { name = rounds_made; class = class.Plain; ty = ty.Lint; init = Some (lit.Int (pos 0)); at = None }
     ∷ place_output n ∷ []
 
 abbrev pub outputs_of : NumberedPlant → Stms

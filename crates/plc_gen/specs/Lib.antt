@@ -1,3 +1,4 @@
 pub mod Buckets
 pub mod Emitted
+pub mod HasProgram
 pub mod Interface

@@ -2,6 +2,7 @@
 
 ghost use Rattle.std.specs.Prelude.{◌≡◌, IfOk};
 ghost use Rattle.cif_plant.specs.Meaning.{IsNumbered};
+ghost use Rattle.cif_plant.specs.Named.{IsNameText};
 ghost use Rattle.st_ast.specs.View.{view};
 ghost use Rattle.plc_gen.specs.Emitted.{program_of};
 
@@ -25,9 +26,11 @@ pub struct Bounds {
 /// order of their numbers: the event takes the first of its edges that leaves the location, if there is one. The rounds
 /// of a class end after one in which nothing fired, or after the bound of the class.
 pub fn emit(alloc: Global, plant: &NumberedPlant, bounds: Bounds) -> Result<Program, Memory>
-    requires { IsNumbered plant.now }
+    requires numbered { IsNumbered plant.now }
+    requires named { IsNameText plant.now.name }
     ensures text { IfOk result (λ p. view p ≡ program_of plant.now bounds.unc bounds.con) }
 {
+    let _places = plant.places;
     let edges = edges_by_event(alloc, plant)?;
     let body = statements(alloc, plant, edges.as_slice(), bounds)?;
     let vars = variables(alloc, plant)?;

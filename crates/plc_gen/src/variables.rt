@@ -1,6 +1,6 @@
 //! The declarations of the variables.
 
-ghost use Rattle.std.specs.Prelude.{◌≡◌, ◌<◌, ◌-◌, pos, Some, IfOk};
+ghost use Rattle.std.specs.Prelude.{◌≡◌, ◌<◌, ◌-◌, pos, Some, None, IfOk};
 ghost use Rattle.st_ast.specs.declared.tree.StTy.TheVariants as ty;
 ghost use Rattle.st_ast.specs.declared.tree.StLit.TheVariants as lit;
 ghost use Rattle.plc_gen.specs.Emitted.{variables_of};
@@ -14,7 +14,7 @@ use std::alloc::Global;
 /// A variable for a location of the automaton, which is the initial one at first.
 fn location_variable(plant: &NumberedPlant, name: Text, class: StClass) -> StVar
     requires { 0 < plant.now.places }
-    ensures { result ≡ record { name = name; class = class; ty = ty.Range (pos 0) (pos (plant.now.places - 1)); init = Some (lit.Int (pos plant.now.first)) } }
+    ensures { result ≡ record { name = name; class = class; ty = ty.Range (pos 0) (pos (plant.now.places - 1)); init = Some (lit.Int (pos plant.now.first)); at = None } }
 {
     StVar {
         name,
@@ -24,6 +24,7 @@ fn location_variable(plant: &NumberedPlant, name: Text, class: StClass) -> StVar
             hi: i64::from(plant.places - 1),
         },
         init: Some(StLit::Int(i64::from(plant.first))),
+        at: None,
     }
 }
 
@@ -40,12 +41,14 @@ pub fn variables(alloc: Global, plant: &NumberedPlant) -> Result<Items<StVar>, M
         class: StClass::Plain,
         ty: StTy::Bool,
         init: Some(StLit::Bool(false)),
+        at: None,
     })?;
     vars.push(StVar {
         name: name_of_counter(alloc)?,
         class: StClass::Plain,
         ty: StTy::Lint,
         init: Some(StLit::Int(0)),
+        at: None,
     })?;
     vars.push(location_variable(plant, name_of_output(alloc, plant)?, StClass::Output))?;
     Ok(vars)

@@ -19,12 +19,12 @@ use Rattle.st_ast.specs.declared.kinds.TokenKind.TheVariants as kinds
 use Rattle.st_ast.specs.Grammar.{products, sums, orders, equalities, mul_of, is_minus, order_of, is_equality}
 use Rattle.st_ast.specs.Checks.{unknown, duplicate, mismatch, not_assignable, init_range, boolean, integer, check_faults, sort_of, knows}
 use Rattle.st_ast.specs.Interface.{output_values}
-use Rattle.st_ast.specs.Values.{Fault, overflow, zero_divide, subrange_left, value_of}
+use Rattle.st_ast.specs.Values.{Fault, overflow, zero_divide, subrange_left, checked, number_value, value_of}
 use Rattle.st_ast.specs.Exec.{Outcome, Ended, Faulted, OutOfTurns, repeated, exec}
 use Rattle.st_ast.specs.Scan.{start_memory, scan_of, store_row}
 
 abbrev variable : Text → StClass → StTy → StVar
-variable x k t = record { name = x; class = k; ty = t; init = None }
+variable x k t = record { name = x; class = k; ty = t; init = None; at = None }
 
 abbrev program_with : List StVar → List Stm → Program
 program_with vars body = record { name = codes "p"; vars = vars; body = stms_of body }
@@ -90,7 +90,7 @@ order_of_truths = refl
 truths_may_be_unequal : check_faults (program_with (variable (codes "x") class.Plain ty.Bool ∷ []) (assign (codes "x") (equal (truth true) false (truth false)) ∷ [])) ≡ []
 truths_may_be_unequal = refl
 
-first_value_out_of_range : check_faults (program_with (record { name = codes "x"; class = class.Plain; ty = ty.Range (pos 0) (pos 3); init = Some (lit.Int (pos 4)) } ∷ []) []) ≡ init_range 0 ∷ []
+first_value_out_of_range : check_faults (program_with (record { name = codes "x"; class = class.Plain; ty = ty.Range (pos 0) (pos 3); init = Some (lit.Int (pos 4)); at = None } ∷ []) []) ≡ init_range 0 ∷ []
 first_value_out_of_range = refl
 
 -- a statement inside a loop has a number of its own
@@ -100,10 +100,17 @@ inner_statement_is_numbered = refl
 -- ---- values and statements
 
 abbrev x_of : StTy → StLit → StVar
-x_of t v = record { name = codes "x"; class = class.Plain; ty = t; init = Some v }
+x_of t v = record { name = codes "x"; class = class.Plain; ty = t; init = Some v; at = None }
 
 sum_out_of_64_bits : value_of [] (sum (number (pos 9223372036854775807)) (terms false (number (pos 1)) no_terms)) [] ≡ Err overflow
 sum_out_of_64_bits = refl
+
+-- in a program of 32 bits
+numbers_of_32_bits : map (λ z. number_value 32 z) (pos 2147483647 ∷ pos 2147483648 ∷ negsuc 2147483647 ∷ negsuc 2147483648 ∷ []) ≡ Ok (pos 2147483647) ∷ Err overflow ∷ Ok (negsuc 2147483647) ∷ Err overflow ∷ []
+numbers_of_32_bits = refl
+
+results_of_32_bits : checked 32 (pos 2147483648) ∷ checked 32 (negsuc 2147483647) ∷ checked 64 (pos 2147483648) ∷ [] ≡ Err overflow ∷ Ok (negsuc 2147483647) ∷ Ok (pos 2147483648) ∷ []
+results_of_32_bits = refl
 
 -- 1, 2 and 3 beside 2
 abbrev beside_two : StOrder → List (Result ℤ Fault)
@@ -344,7 +351,7 @@ loops_share_the_turns : with_x (counts_to (pos 2) ∷ counts_to (pos 4) ∷ []) 
 unfolding repeated
 loops_share_the_turns = refl
 
-first_value_of_a_constant : start_memory (program_with (record { name = codes "x"; class = class.Constant; ty = ty.Lint; init = Some (lit.Int (pos 7)) } ∷ []) []) ≡ pos 7 ∷ []
+first_value_of_a_constant : start_memory (program_with (record { name = codes "x"; class = class.Constant; ty = ty.Lint; init = Some (lit.Int (pos 7)); at = None } ∷ []) []) ≡ pos 7 ∷ []
 first_value_of_a_constant = refl
 
 -- ---- words and signs of the grammar

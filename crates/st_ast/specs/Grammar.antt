@@ -26,7 +26,7 @@ use Rattle.st_ast.specs.Tokens.{Token, number_of}
 use Rattle.st_ast.specs.declared.kinds.TokenKind.{TokenKind}
 use Rattle.st_ast.specs.declared.kinds.TokenKind.TheVariants as kinds
 use Rattle.st_ast.specs.Tree.{Expr, truth, number, named, paren, negation, complement, product, sum, order, equal, all_of, odd_of, any_of, absolute, least, greatest, selection, exprs_of, Stm, Stms, assign, choice, loop, stms_of, Program}
-use Rattle.st_ast.specs.View.{factors_of, terms_of, branches_of, other_of}
+use Rattle.st_ast.specs.Parts.{factors_of, terms_of, branches_of, other_of}
 use Rattle.st_ast.specs.declared.tree.StMul.{StMul}
 use Rattle.st_ast.specs.declared.tree.StMul.TheVariants as mul
 use Rattle.st_ast.specs.declared.tree.StOrder.{StOrder}
@@ -317,7 +317,7 @@ value_of_init (Some (s, v)) = Some v
 -- a declaration, of the class of its block
 abbrev pub declaration : StClass → Lang Token StVar
 declaration k =
-    (λ ((x, (s, (t, (o, end)))) : Text × (Token × (StTy × (Option (Token × StLit) × Token)))). record { name = x; class = k; ty = t; init = value_of_init o })
+    (λ ((x, (s, (t, (o, end)))) : Text × (Token × (StTy × (Option (Token × StLit) × Token)))). record { name = x; class = k; ty = t; init = value_of_init o; at = None })
     <$> identifier & word kinds.Colon & type_use & optional (word kinds.Assigns & first_value) & word kinds.Semicolon
 
 abbrev pub block_of : TokenKind → StClass → Lang Token (List StVar)

@@ -1,8 +1,10 @@
 pub mod Tree
+pub mod Parts
 pub mod View
 pub mod Names
 pub mod Tokens
 pub mod Grammar
+pub mod Spelled
 pub mod Checks
 pub mod ReadsAs
 pub mod Values

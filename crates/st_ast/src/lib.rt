@@ -6,5 +6,6 @@ mod tree;
 
 pub use kinds::TokenKind;
 pub use tree::{
-    Program, StBranch, StClass, StExpr, StFactor, StLit, StMul, StOrder, StTerm, StTy, StVar, Stmt,
+    Address, Program, Size, StBranch, StClass, StExpr, StFactor, StLit, StMul, StOrder, StTerm,
+    StTy, StVar, Stmt,
 };

@@ -1,5 +1,9 @@
 //! The tree of a Structured Text program (IEC 61131-3, "Structured Text").
 
+ghost use Rattle.std.specs.Prelude.{◌≡◌, true};
+ghost use Rattle.st_ast.specs.Parts.{program_of_parts};
+ghost use Rattle.st_ast.specs.Spelled.{is_spelled};
+
 use cif_base::{Boxed, Items, Text};
 
 /// The block in which a variable is declared: `VAR`, `VAR CONSTANT`, `VAR_INPUT` or `VAR_OUTPUT`.
@@ -26,13 +30,32 @@ pub enum StLit {
     Int(i64),
 }
 
-/// The declaration of a variable.
+/// How many bits an address names: one, 32 or 64.
+#[derive(Clone, Copy, Debug, PartialEq, Eq)]
+pub enum Size {
+    Bit,
+    Double,
+    Long,
+}
+
+/// The address of an input or of an output (IEC 61131-3, "Directly represented variables"). `bit` is 0 where the size is not
+/// `Bit`.
+#[derive(Clone, Copy, Debug, PartialEq, Eq)]
+pub struct Address {
+    pub input: bool,
+    pub size: Size,
+    pub byte: u32,
+    pub bit: u32,
+}
+
+/// The declaration of a variable. No text gives one an address so far: `at` is always None.
 #[derive(Debug, Drop)]
 pub struct StVar {
     pub name: Text,
     pub class: StClass,
     pub ty: StTy,
     pub init: Option<StLit>,
+    pub at: Option<Address>,
 }
 
 /// An operator of products: `*`, `/`, `MOD`.
@@ -132,10 +155,12 @@ pub struct StBranch {
     pub body: Items<Stmt>,
 }
 
-/// A program: its name, its variables in the order of declaration, and its statements.
+/// A program: its name, its variables in the order of declaration, and its statements. It has a spelling: there is a text
+/// whose tokens derive it.
 #[derive(Debug, Drop)]
 pub struct Program {
     pub name: Text,
     pub vars: Items<StVar>,
     pub body: Items<Stmt>,
+    pub ghost spelled: { is_spelled (program_of_parts name vars body) ≡ true },
 }

@@ -12,7 +12,8 @@ use Rattle.st_lex.specs.Cutting.{piece_cut}
 use Rattle.st_lex.proofs.CuttingLaws.{piece_cuts}
 use Rattle.grammar.proofs.Decimals.{decimal_digits, decimal_nonempty}
 use Rattle.st_print.specs.Layout.{Mark, line, word, digits, sign, dash, times, call, gap, closes, opens, fresh_after, text_of}
-use Rattle.st_print.specs.Marks.{tokens_of, is_word_text, mark_signs, AreMarks}
+use Rattle.st_ast.specs.Spelled.{is_word_text}
+use Rattle.st_print.specs.Marks.{tokens_of, mark_signs, AreMarks}
 
 -- ---- tests
 

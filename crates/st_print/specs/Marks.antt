@@ -1,9 +1,9 @@
 -- The tokens of what is printed, mark by mark, and the marks that are printed so that these are the tokens of the text.
-use Rattle.std.specs.Prelude.{◌≡◌, Bool, true, false, ◌&&◌, List, [], ◌∷◌, codes, decimal, Option, Some, None, filter_map}
-use Rattle.std.specs.List.{list_any, list_all}
+use Rattle.std.specs.Prelude.{◌≡◌, Bool, true, List, [], ◌∷◌, codes, decimal, Option, Some, None, filter_map}
+use Rattle.std.specs.List.{list_any}
 use Rattle.grammar.specs.Pieces.{Text, same}
-use Rattle.grammar.specs.Bytes.{begins_word, is_wordy}
 use Rattle.st_ast.specs.Tokens.{Token, kind_of_word, kind_of_number, kind_of_sign}
+use Rattle.st_ast.specs.Spelled.{is_word_text}
 use Rattle.st_print.specs.Layout.{Mark, line, word, digits, sign, dash, times, call}
 
 -- a line break gives none
@@ -18,11 +18,6 @@ token_of_mark call = Some (record { kind = kind_of_sign (codes "("); text = code
 
 abbrev pub tokens_of : List Mark → List Token
 tokens_of ms = filter_map token_of_mark ms
-
--- a letter or an underscore, and then letters, digits and underscores
-abbrev pub is_word_text : Text → Bool
-is_word_text [] = false
-is_word_text (b ∷ t) = begins_word b && list_all is_wordy t
 
 -- the signs that are printed; `*` has a mark of its own
 abbrev pub mark_signs : List Text

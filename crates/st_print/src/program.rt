@@ -1,6 +1,7 @@
 //! How declarations and whole programs are printed.
 
 ghost use Rattle.std.specs.Prelude.{◌≡◌, ◌∷◌, List, OnOk, IfOk};
+ghost use Rattle.st_ast.specs.ReadsAs.{ReadsBack};
 ghost use Rattle.st_ast.specs.View.{view};
 ghost use Rattle.st_print.specs.Layout.{Mark, line, word, type_marks, literal_marks, init_marks, declaration_marks, block_marks, same_class, further_marks, variables_marks, printed};
 ghost use Rattle.st_print.specs.Printing.{so_far};
@@ -10,9 +11,8 @@ use cif_base::Memory;
 use st_ast::{Program, StClass, StLit, StTy, StVar};
 use std::alloc::Global;
 
-/// The printed text of a program (IEC 61131-3, "Structured Text"): keywords in capitals, one blank between tokens, a line
-/// for each declaration and statement, two blanks for each nesting.
-pub fn print(alloc: Global, program: &Program) -> Result<Vec<u8>, Memory>
+/// The layout of a program.
+fn laid_out(alloc: Global, program: &Program) -> Result<Vec<u8>, Memory>
     ensures { IfOk result (λ text. text.items ≡ printed (view program.now)) }
 {
     let mut printer = Printer::new(alloc);
@@ -23,6 +23,15 @@ pub fn print(alloc: Global, program: &Program) -> Result<Vec<u8>, Memory>
     printer.keyword_line(b"END_PROGRAM")?;
     printer.line(0)?;
     Ok(printer.into_bytes())
+}
+
+/// The printed text of a program (IEC 61131-3, "Structured Text"): keywords in capitals, one blank between tokens, a line
+/// for each declaration and statement, two blanks for each nesting. It reads as the program, and as no other.
+pub fn print(alloc: Global, program: &Program) -> Result<Vec<u8>, Memory>
+    ensures laid_out { IfOk result (λ text. text.items ≡ printed (view program.now)) }
+    ensures read_again { IfOk result (λ text. ReadsBack text.items (view program.now)) }
+{
+    laid_out(alloc, program)
 }
 
 impl Printer {

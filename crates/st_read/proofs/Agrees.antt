@@ -1,5 +1,5 @@
 -- What is read is what the grammar derives.
-use Rattle.std.proofs.Common.{◌≡◌, ℕ, zero, suc, ◌+◌, ◌≤◌, ◌<◌, true, false, List, [], ◌∷◌, ◌++◌, map, Option, refl, ap, ◌∙◌, arith, inl, inr}
+use Rattle.std.proofs.Common.{◌≡◌, ℕ, zero, suc, ◌+◌, ◌≤◌, ◌<◌, true, false, List, [], ◌∷◌, ◌++◌, map, Option, refl, ap, ◌∙◌, arith, inl, inr, None}
 use Rattle.grammar.specs.Lang.{Lang, ◌&◌, ◌∣◌, ◌<$>◌, many, optional, flat}
 use Rattle.grammar.specs.Reader.{Reader, Deep, one_at, flat_at, inside, many_at, both_at, deep_both}
 use Rattle.grammar.specs.Sets.{apart}
@@ -285,7 +285,7 @@ valued-declaration : (k : StClass) (v : StVar) (x : List Token) → valued k v x
 valued-declaration k v x ((v0, (v1, (v2, (v3, v4)))), (a, b, d, (a1, b1, d1, (a2, b2, d2, (a3, b3, (w3, d3, is3), d4, e3), e2), e1), e), is) = (
   (v0, (v1, (v2, (w3, v4)))),
   (a, b, d, (a1, b1, d1, (a2, b2, d2, (a3, b3, d3, d4, e3), e2), e1), e),
-  is ∙ ap (λ (o : Option StLit). record { name = v0; class = k; ty = v2; init = o }) is3,
+  is ∙ ap (λ (o : Option StLit). record { name = v0; class = k; ty = v2; init = o; at = None }) is3,
 )
 
 pub declaration_takes : (k : StClass) → Takes sort false (first kinds.Name) [] (declaration k) (declaration_at k)

@@ -13,3 +13,5 @@ pub mod Numbers
 pub mod Made
 pub mod WordLaws
 pub mod Told
+pub mod ProperTokens
+pub mod Spellings

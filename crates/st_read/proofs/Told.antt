@@ -5,9 +5,7 @@ use Rattle.grammar.specs.Pieces.{Text}
 use Rattle.st_ast.specs.Tokens.{Token}
 use Rattle.st_ast.specs.Tree.{Program}
 use Rattle.st_ast.specs.Grammar.{whole}
-use Rattle.st_ast.specs.View.{view}
 use Rattle.st_ast.specs.ReadsAs.{ReadsAsProgram}
-use Rattle.st_ast.specs.declared.tree.Program as rust
 use Rattle.st_lex.proofs.CuttingLaws.{token_lists_agree}
 use Rattle.st_read.specs.declared.error.StErr.{StErr}
 use Rattle.st_read.specs.declared.error.StErr.TheVariants as err
@@ -47,9 +45,9 @@ not_read text at ts l w e = record {
 
 -- ---- what is told of a text
 
-pub told_read : (text : Text) (ts : List Token) (r : Result rust.Program StErr) → Lexes text ts → Tells (length text) view r (program_of ts) → IfOk r (λ p. Derives text (view p))
-told_read text ts (Ok p) l t = record { tokens = ts; are_tokens = l.are_tokens; derived = read_derives ts (view p) t }
-told_read text ts (Err e) l t = tt
+pub told_read : {X : Type 0} (view : X → Program) (text : Text) (ts : List Token) (r : Result X StErr) → Lexes text ts → Tells (length text) view r (program_of ts) → IfOk r (λ p. Derives text (view p))
+told_read view text ts (Ok p) l t = record { tokens = ts; are_tokens = l.are_tokens; derived = read_derives ts (view p) t }
+told_read view text ts (Err e) l t = tt
 
 due : (text : Text) (ts : List Token) (why : StErr) → Lexes text ts → Refuses (length text) why (program_of ts) → RefusalDue text why
 due text ts (err.StBadByte at) l t = absurd t
@@ -58,9 +56,9 @@ due text ts (err.StOpenComment at) l t = absurd t
 due text ts (err.StNotRead at) l t = not_read text at ts l t.0 t.1
 due text ts err.Memory l t = tt
 
-pub told_refused : (text : Text) (ts : List Token) (r : Result rust.Program StErr) → Lexes text ts → Tells (length text) view r (program_of ts) → IfErr r (RefusalDue text)
-told_refused text ts (Ok p) l t = tt
-told_refused text ts (Err why) l t = due text ts why l t
+pub told_refused : {X : Type 0} (view : X → Program) (text : Text) (ts : List Token) (r : Result X StErr) → Lexes text ts → Tells (length text) view r (program_of ts) → IfErr r (RefusalDue text)
+told_refused view text ts (Ok p) l t = tt
+told_refused view text ts (Err why) l t = due text ts why l t
 
 pub only_memory : (text : Text) (why : StErr) → RefusalDue text why → (p : Program) → Derives text p → why ≡ err.Memory
 only_memory text (err.StBadByte at) h p d = absurd (refused_derives_none text (err.StBadByte at) h (λ e. cc) p d)
@@ -70,7 +68,7 @@ only_memory text (err.StNotRead at) h p d = absurd (refused_derives_none text (e
 only_memory text err.Memory h p d = refl
 
 -- a text that derives a program is read as that, or memory runs out
-pub told_complete : (text : Text) (r : Result rust.Program StErr) → IfOk r (λ p. Derives text (view p)) → IfErr r (RefusalDue text)
+pub told_complete : {X : Type 0} (view : X → Program) (text : Text) (r : Result X StErr) → IfOk r (λ p. Derives text (view p)) → IfErr r (RefusalDue text)
     → (p : Program) → Derives text p → MatchResult r (λ q. view q ≡ p) (λ e. e ≡ err.Memory)
-told_complete text (Ok q) h k p d = one_derives text (view q) p h d
-told_complete text (Err why) h k p d = only_memory text why k p d
+told_complete view text (Ok q) h k p d = one_derives text (view q) p h d
+told_complete view text (Err why) h k p d = only_memory text why k p d

@@ -8,3 +8,4 @@ pub mod Told
 pub mod Cursor
 pub mod Derives
 pub mod Refusals
+pub mod PartsOf

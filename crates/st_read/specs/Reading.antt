@@ -6,7 +6,7 @@ use Rattle.st_ast.specs.Tokens.{Token, number_of}
 use Rattle.st_ast.specs.declared.kinds.TokenKind.{TokenKind}
 use Rattle.st_ast.specs.declared.kinds.TokenKind.TheVariants as kinds
 use Rattle.st_ast.specs.Tree.{Expr, truth, number, named, paren, negation, complement, absolute, least, greatest, selection, order, equal, Stm, Stms, assign, choice, loop, stms_of, Program}
-use Rattle.st_ast.specs.View.{branches_of, other_of}
+use Rattle.st_ast.specs.Parts.{branches_of, other_of}
 use Rattle.st_ast.specs.Grammar.{code, sort, second, middle, text_of, products, sums, orders, equalities, order_of, is_equality, Others, product_of, sum_of, all_from, odd_from, any_from, after_kind, max_depth, without_word, subrange_of, value_of_init}
 use Rattle.grammar.specs.Loops.{flat_after}
 use Rattle.st_ast.specs.declared.tree.StVar.{StVar}
@@ -254,7 +254,7 @@ unfoldable pub type_at : Reader Token StTy
 type_at = either_at sort (first kinds.Bool) (map_at bool_type (word_at kinds.Bool)) (map_at number_type (both_at (word_at kinds.Lint) subrange_at))
 
 abbrev pub variable_of : StClass → Text × (Token × (StTy × (Option StLit × Token))) → StVar
-variable_of k (x, (s, (t, (v, end)))) = record { name = x; class = k; ty = t; init = v }
+variable_of k (x, (s, (t, (v, end)))) = record { name = x; class = k; ty = t; init = v; at = None }
 
 unfoldable pub init_at : Reader Token (Option StLit)
 init_at = map_at value_of_init (optional_at sort (first kinds.Assigns) (both_at (word_at kinds.Assigns) first_value_at))

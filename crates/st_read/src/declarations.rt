@@ -101,6 +101,7 @@ fn declaration(alloc: Global, tokens: Tokens<'_>, class: StClass) -> Read<'_, St
         class,
         ty,
         init,
+        at: None,
     };
     Ok((variable, rest))
 }

@@ -1,10 +1,12 @@
 //! A text as one program.
 
-ghost use Rattle.std.specs.Prelude.{◌≡◌, ◌≤◌, length, IfOk, IfErr, MatchResult};
+ghost use Rattle.std.specs.Prelude.{◌≡◌, ◌≤◌, true, length, IfOk, IfErr, MatchResult};
 ghost use Rattle.st_ast.specs.Tree as tree;
+ghost use Rattle.st_ast.specs.Spelled.{is_spelled};
 ghost use Rattle.st_ast.specs.View.{view};
 ghost use Rattle.st_read.specs.Cursor.{tokens_in};
 ghost use Rattle.st_read.specs.Derives.{Derives};
+ghost use Rattle.st_read.specs.PartsOf.{view_parts};
 ghost use Rattle.st_read.specs.Reading as reading;
 ghost use Rattle.st_read.specs.Refusals.{RefusalDue};
 ghost use Rattle.st_read.specs.Told.{Tells};
@@ -12,7 +14,7 @@ ghost use Rattle.st_read.specs.declared.error.StErr.TheVariants.{Memory as no_me
 
 use crate::error::{StErr, Stop};
 use crate::lexing::token_count;
-use crate::program::derived;
+use crate::program::{Parts, derived};
 use crate::tokens::Tokens;
 use st_ast::Program;
 use std::alloc::Global;
@@ -25,18 +27,27 @@ fn place(text: &[u8], left: usize) -> u32
     text.len().saturating_sub(left) as u32
 }
 
-/// The program that so many tokens of a text derive.
-fn parsed(alloc: Global, text: &[u8], count: u32) -> Result<Program, StErr>
+/// The parts of the program that so many tokens of a text derive.
+fn parsed(alloc: Global, text: &[u8], count: u32) -> Result<Parts, StErr>
     requires { length text.now ≤ 16777216 }
-    ensures { Tells (length text.now) (λ p. view p) result (reading.program_of (tokens_in count text.now)) }
+    ensures { Tells (length text.now) (λ p. view_parts p) result (reading.program_of (tokens_in count text.now)) }
 {
     match derived(alloc, Tokens::of(text, count)) {
-        Ok(program) => Ok(program),
+        Ok(parts) => Ok(parts),
         Err(Stop::NoMemory) => Err(StErr::Memory),
         Err(Stop::NotTaken(left)) => Err(StErr::StNotRead {
             at: place(text, left),
         }),
     }
+}
+
+/// The program with these parts, which have a spelling.
+fn built(parts: Parts) -> Program
+    requires { is_spelled (view_parts parts) ≡ true }
+    ensures { view result ≡ view_parts parts }
+{
+    let Parts { name, vars, body } = parts;
+    Program { name, vars, body }
 }
 
 /// Reads a text of at most 16 MiB as one program (IEC 61131-3, "Structured Text"), without any check of its names and
@@ -50,5 +61,6 @@ pub fn read(alloc: Global, text: &[u8]) -> Result<Program, StErr>
         → MatchResult result (λ q. view q ≡ p) (λ e. e ≡ no_memory) }
 {
     let count = token_count(text)?;
-    parsed(alloc, text, count)
+    let parts = parsed(alloc, text, count)?;
+    Ok(built(parts))
 }

@@ -7,7 +7,7 @@ use Rattle.grammar.specs.Pieces.{Text, AllAre}
 use Rattle.grammar.specs.Bytes.{is_letter, is_wordy}
 use Rattle.st_ast.specs.Tokens.{is_identifier, kind_of_word}
 use Rattle.st_ast.specs.declared.kinds.TokenKind.TheVariants as kinds
-use Rattle.st_print.specs.Marks.{is_word_text}
+use Rattle.st_ast.specs.Spelled.{is_word_text}
 use Rattle.cif_plant.specs.Named.{IsNameText}
 
 letter-wordy : (b : ℕ) → is_letter b ≡ true → is_wordy b ≡ true
