@@ -36,7 +36,8 @@ pub trait Files {
 
     ghost most: { Self → List ℕ → ℕ };
 
-    /// Empties `into` and reads the whole file into it, if it has at most `limit` bytes.
+    /// Empties `into` and reads the whole file into it, if it has at most `limit` bytes. So where the content isn't told,
+    /// `into` has no more bytes than a read of the file took.
     ///
     /// Errors: `Failed` where the count of faults of `name` rose in this call; `TooBig` where the file is longer than
     /// `limit`, and then `into` has `limit` + 1 bytes; `Memory`. What `into` holds after the other errors is open.
@@ -46,6 +47,8 @@ pub trait Files {
         ensures most_stays_or_rises { (n : List ℕ) → most self.old n ≤ most self.new n }
         ensures whole { OnOk result (IfSome (content self.old name.now) (λ b. into.new.items ≡ b)) }
         ensures within { OnOk result (vec_len into.new ≤ limit) }
+        ensures emptied { OnOk result (MatchOption (content self.old name.now)
+            (vec_len into.new ≤ most self.new name.now) (λ b. Unit {0})) }
         ensures failed { result ≡ Err FileErr.Failed →
             Rose (faults self.old name.now) (faults self.new name.now) }
         ensures too_big { (l : ℕ) → result ≡ Err (FileErr.TooBig l) →

@@ -50,6 +50,7 @@ impl<R: std::rt::Files> Files for HostFiles<R> {
 
     fn read(&mut self, name: &str, limit: u64, into: &mut Vec<u8>) -> Result<(), FileErr>
         ensures within { OnOk result (vec_len into.new ≤ limit) }
+        ensures emptied { OnOk result (vec_len into.new ≤ self.new.most) }
         ensures too_big { (l : ℕ) → result ≡ Err (FileErr.TooBig l) →
             (l ≡ limit) × (vec_len into.new ≡ limit + 1) }
         ensures longer { (l : ℕ) → result ≡ Err (FileErr.TooBig l) → limit < self.new.most }

@@ -80,6 +80,8 @@ impl Files for MemFiles {
         ensures whole { OnOk result
             (IfSome (content_of self.old.files name.now) (λ b. into.new.items ≡ b)) }
         ensures within { OnOk result (vec_len into.new ≤ limit) }
+        ensures emptied { OnOk result (MatchOption (content_of self.old.files name.now)
+            (vec_len into.new ≤ 0) (λ b. Unit {0})) }
         ensures failed { result ≡ Err FileErr.Failed →
             Rose (faults_of self.old name.now) (faults_of self.new name.now) }
         ensures too_big { (l : ℕ) → result ≡ Err (FileErr.TooBig l) →
