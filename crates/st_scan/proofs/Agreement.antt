@@ -17,7 +17,7 @@ use Rattle.st_scan.specs.declared.placed.Operator.TheVariants as op
 use Rattle.st_scan.specs.Placing.{of_factor, of_term, of_order, of_equality, placed, placed_exprs, placed_factors, placed_terms, placed_stm, placed_stms, placed_branches, placed_other}
 use Rattle.st_scan.specs.PlacedTree as to
 use Rattle.st_scan.specs.PlacedValues.{value_at, steps_at, applied}
-use Rattle.st_scan.specs.PlacedExec.{exec_at, exec_one_at, exec_other_at, exec_choice_at}
+use Rattle.st_scan.specs.PlacedExec.{exec_at, exec_one_at, exec_choice_at}
 
 after : {X : Type 0} (r : Result ℤ Fault) (fails : Fault → X) (f g : ℤ → X) → ((v : ℤ) → f v ≡ g v) → with_value r fails f ≡ with_value r fails g
 after (Ok v) fails f g same = same v
@@ -135,7 +135,7 @@ mutual
   exec_one-same vars (choice bs o) n m = exec_choice-same vars bs _ _ (λ l k. exec_other-same vars o l k) n m
   exec_one-same vars (loop c ss) n m = repeated-same (suc n) _ _ _ _ (λ k. value-same vars c k) (λ l k. exec-same vars ss l k) n m
 
-  exec_other-same : (vars : List StVar) (o : Other) (n : ℕ) (m : Memory) → exec_other_at (placed_other vars o) n m ≡ exec_other vars o n m
+  exec_other-same : (vars : List StVar) (o : Other) (n : ℕ) (m : Memory) → exec_at (placed_other vars o) n m ≡ exec_other vars o n m
   exec_other-same vars no_other n m = refl
   exec_other-same vars (other ss) n m = exec-same vars ss n m
 

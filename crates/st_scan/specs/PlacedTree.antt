@@ -20,10 +20,10 @@ mutual
     steps : Operator → Expr → Steps → Steps
 
 mutual
-  -- an assignment has the place and the type of its variable
+  -- An assignment has the place and the type of its variable. Where there is no ELSE, nothing stands after it.
   pub data Stm : Type 0 where
     assign : ℕ → StTy → Expr → Stm
-    choice : Branches → Other → Stm
+    choice : Branches → Stms → Stm
     loop : Expr → Stms → Stm
 
   pub data Stms : Type 0 where
@@ -33,11 +33,6 @@ mutual
   pub data Branches : Type 0 where
     no_branches : Branches
     branches : Expr → Stms → Branches → Branches
-
-  -- what stands after ELSE
-  pub data Other : Type 0 where
-    no_other : Other
-    other : Stms → Other
 
 abbrev pub steps_of : List (Operator × Expr) → Steps
 steps_of [] = no_steps

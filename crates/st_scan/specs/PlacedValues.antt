@@ -1,10 +1,12 @@
 -- Helper of the code: the values of expressions whose names are resolved, by the words of `st_ast`. A place beyond the
 -- memory has the value 0.
-use Rattle.std.specs.Prelude.{ℤ, pos, neg_ℤ, nat_abs, true, false, not, ◌&&◌, ◌||◌, Result, Ok, Err, slice_index_or, if◌then◌else◌}
+use Rattle.std.specs.Prelude.{ℤ, pos, neg_ℤ, nat_abs, Bool, true, false, not, ◌&&◌, ◌||◌, Result, Ok, Err, slice_index_or, if◌then◌else◌}
 use Rattle.st_ast.specs.Values.{Fault, Memory, of_bool, is_true, checked, with_value, both, holds, added, are_equal, multiplied, smaller, larger, differ}
 use Rattle.st_ast.specs.declared.tree.StMul.TheVariants as mul
 use Rattle.st_ast.specs.declared.tree.StOrder.TheVariants as cmp
 use Rattle.st_scan.specs.PlacedTree.{Expr, Steps, number, placed, single, pair, chain, selected, no_steps, steps}
+use Rattle.st_scan.specs.declared.placed.Relation.{Relation}
+use Rattle.st_scan.specs.declared.placed.Relation.TheVariants as rel
 use Rattle.st_scan.specs.declared.placed.Operator.{Operator}
 use Rattle.st_scan.specs.declared.placed.Operator.TheVariants as op
 use Rattle.st_scan.specs.declared.placed.Single.{Single}
@@ -15,18 +17,21 @@ applied_to one.Minus x = checked (neg_ℤ x)
 applied_to one.Not x = Ok (of_bool (not (is_true x)))
 applied_to one.Absolute x = checked (pos (nat_abs x))
 
+abbrev pub related : Relation → ℤ → ℤ → Bool
+related rel.Less x y = holds cmp.Lt x y
+related rel.Greater x y = holds cmp.Gt x y
+related rel.AtMost x y = holds cmp.Le x y
+related rel.AtLeast x y = holds cmp.Ge x y
+related rel.Equal x y = are_equal true x y
+related rel.Differ x y = are_equal false x y
+
 abbrev pub applied : Operator → ℤ → ℤ → Result ℤ Fault
 applied op.Add x y = checked (added false x y)
 applied op.Subtract x y = checked (added true x y)
 applied op.Multiply x y = multiplied mul.Times x y
 applied op.Divide x y = multiplied mul.Div x y
 applied op.Remainder x y = multiplied mul.Mod x y
-applied op.Less x y = Ok (of_bool (holds cmp.Lt x y))
-applied op.Greater x y = Ok (of_bool (holds cmp.Gt x y))
-applied op.AtMost x y = Ok (of_bool (holds cmp.Le x y))
-applied op.AtLeast x y = Ok (of_bool (holds cmp.Ge x y))
-applied op.Equal x y = Ok (of_bool (are_equal true x y))
-applied op.Differ x y = Ok (of_bool (are_equal false x y))
+applied (op.Is r) x y = Ok (of_bool (related r x y))
 applied op.And x y = Ok (of_bool (is_true x && is_true y))
 applied op.Xor x y = Ok (of_bool (differ (is_true x) (is_true y)))
 applied op.Or x y = Ok (of_bool (is_true x || is_true y))

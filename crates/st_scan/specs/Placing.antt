@@ -11,6 +11,7 @@ use Rattle.st_ast.specs.declared.tree.StOrder.{StOrder}
 use Rattle.st_ast.specs.declared.tree.StOrder.TheVariants as cmp
 use Rattle.st_ast.specs.declared.tree.StVar.{StVar}
 use Rattle.st_scan.specs.PlacedTree as to
+use Rattle.st_scan.specs.declared.placed.Relation.TheVariants as rel
 use Rattle.st_scan.specs.declared.placed.Operator.{Operator}
 use Rattle.st_scan.specs.declared.placed.Operator.TheVariants as op
 use Rattle.st_scan.specs.declared.placed.Single.TheVariants as one
@@ -25,14 +26,14 @@ of_term false = op.Add
 of_term true = op.Subtract
 
 abbrev pub of_order : StOrder → Operator
-of_order cmp.Lt = op.Less
-of_order cmp.Gt = op.Greater
-of_order cmp.Le = op.AtMost
-of_order cmp.Ge = op.AtLeast
+of_order cmp.Lt = op.Is rel.Less
+of_order cmp.Gt = op.Is rel.Greater
+of_order cmp.Le = op.Is rel.AtMost
+of_order cmp.Ge = op.Is rel.AtLeast
 
 abbrev pub of_equality : Bool → Operator
-of_equality true = op.Equal
-of_equality false = op.Differ
+of_equality true = op.Is rel.Equal
+of_equality false = op.Is rel.Differ
 
 abbrev mutual
   pub placed : List StVar → Expr → to.Expr
@@ -81,6 +82,6 @@ abbrev mutual
   placed_branches vars no_branches = to.no_branches
   placed_branches vars (branches c ss bs) = to.branches (placed vars c) (placed_stms vars ss) (placed_branches vars bs)
 
-  pub placed_other : List StVar → Other → to.Other
-  placed_other vars no_other = to.no_other
-  placed_other vars (other ss) = to.other (placed_stms vars ss)
+  pub placed_other : List StVar → Other → to.Stms
+  placed_other vars no_other = to.no_stms
+  placed_other vars (other ss) = placed_stms vars ss

@@ -11,6 +11,17 @@ pub enum Single {
     Absolute,
 }
 
+/// How one number stands to another.
+#[derive(Clone, Copy, Debug, PartialEq, Eq)]
+pub enum Relation {
+    Less,
+    Greater,
+    AtMost,
+    AtLeast,
+    Equal,
+    Differ,
+}
+
 /// An operation on two operands.
 #[derive(Clone, Copy, Debug, PartialEq, Eq)]
 pub enum Operator {
@@ -19,12 +30,7 @@ pub enum Operator {
     Multiply,
     Divide,
     Remainder,
-    Less,
-    Greater,
-    AtMost,
-    AtLeast,
-    Equal,
-    Differ,
+    Is(Relation),
     And,
     Xor,
     Or,
@@ -32,35 +38,42 @@ pub enum Operator {
     Larger,
 }
 
-/// An expression. A literal is its number, and parentheses are gone. The operands of one level are a chain, which is worked
-/// out from left to right. `Test` is a pair of a variable and a number, which programs have most, in one piece of memory.
+/// An expression. A literal is its number, and parentheses are gone. What programs have most takes no memory of its own: a
+/// number, a variable, and a variable beside a number.
 #[cycle(placed_expressions)]
 #[derive(Debug, Drop)]
 pub enum PlacedExpr {
     Number(i64),
     Place(u32),
-    Single {
-        op: Single,
-        operand: Boxed<PlacedExpr>,
-    },
-    Pair {
-        op: Operator,
-        first: Boxed<PlacedExpr>,
-        second: Boxed<PlacedExpr>,
-    },
     Test {
-        op: Operator,
+        is: Relation,
         place: u32,
         number: i64,
     },
+    Form(Boxed<PlacedForm>),
+}
+
+/// An operation with its operands. The operands of one level are a chain, which is worked out from left to right.
+#[cycle(placed_expressions)]
+#[derive(Debug, Drop)]
+pub enum PlacedForm {
+    Single {
+        op: Single,
+        operand: PlacedExpr,
+    },
+    Pair {
+        op: Operator,
+        first: PlacedExpr,
+        second: PlacedExpr,
+    },
     Chain {
-        first: Boxed<PlacedExpr>,
+        first: PlacedExpr,
         rest: Items<PlacedStep>,
     },
     Select {
-        condition: Boxed<PlacedExpr>,
-        otherwise: Boxed<PlacedExpr>,
-        then: Boxed<PlacedExpr>,
+        condition: PlacedExpr,
+        otherwise: PlacedExpr,
+        then: PlacedExpr,
     },
 }
 
@@ -72,7 +85,7 @@ pub struct PlacedStep {
     pub value: PlacedExpr,
 }
 
-/// A statement. An assignment holds the type of its variable, and `other` is what stands after `ELSE`, if it is there.
+/// A statement. An assignment holds the type of its variable, and `other` is what stands after `ELSE`.
 #[cycle(placed_statements)]
 #[derive(Debug, Drop)]
 pub enum PlacedStmt {
@@ -83,7 +96,7 @@ pub enum PlacedStmt {
     },
     If {
         branches: Items<PlacedBranch>,
-        other: Option<Items<PlacedStmt>>,
+        other: Items<PlacedStmt>,
     },
     While {
         cond: PlacedExpr,

@@ -5,11 +5,13 @@ ghost use Rattle.st_ast.specs.Exec.{type_at};
 ghost use Rattle.st_ast.specs.Names.{place_of};
 ghost use Rattle.st_ast.specs.View.{view_expr, view_exprs, view_factors, view_terms, view_stmt, view_stmts, view_branches};
 ghost use Rattle.st_scan.specs.PlacedTree as to;
-ghost use Rattle.st_scan.specs.PlacedView.{expr_view, steps_view, stmt_view, stmts_view, branches_view};
+ghost use Rattle.st_scan.specs.PlacedView.{expr_view, form_view, steps_view, stmt_view, stmts_view, branches_view};
 ghost use Rattle.st_scan.specs.Placing as placing;
 ghost use Rattle.st_scan.specs.Placing.{placed, placed_exprs, placed_factors, placed_terms, placed_stm, placed_stms, placed_branches};
 
-use crate::placed::{Operator, PlacedBranch, PlacedExpr, PlacedStep, PlacedStmt, Single};
+use crate::placed::{
+    Operator, PlacedBranch, PlacedExpr, PlacedForm, PlacedStep, PlacedStmt, Relation, Single,
+};
 use crate::values::number;
 use cif_base::{Boxed, Items, Memory};
 use st_ast::{StBranch, StExpr, StFactor, StMul, StOrder, StTerm, StTy, StVar, Stmt};
@@ -58,82 +60,94 @@ fn of_term(minus: bool) -> Operator
 fn of_order(op: StOrder) -> Operator
     ensures { result ≡ placing.of_order op }
 {
-    match op {
-        StOrder::Lt => Operator::Less,
-        StOrder::Gt => Operator::Greater,
-        StOrder::Le => Operator::AtMost,
-        StOrder::Ge => Operator::AtLeast,
-    }
+    Operator::Is(match op {
+        StOrder::Lt => Relation::Less,
+        StOrder::Gt => Relation::Greater,
+        StOrder::Le => Relation::AtMost,
+        StOrder::Ge => Relation::AtLeast,
+    })
 }
 
 fn of_equality(equal: bool) -> Operator
     ensures { result ≡ placing.of_equality equal }
 {
-    if equal {
-        Operator::Equal
+    Operator::Is(if equal {
+        Relation::Equal
     } else {
-        Operator::Differ
-    }
+        Relation::Differ
+    })
 }
 
-fn chain(
-    alloc: Global,
-    first: Boxed<PlacedExpr>,
-    rest: Items<PlacedStep>,
-) -> Result<Boxed<PlacedExpr>, Memory>
+/// An operation with its operands, in a box.
+fn formed(alloc: Global, form: PlacedForm) -> Result<PlacedExpr, Memory>
+    ensures { IfOk result (λ e. expr_view e ≡ form_view form) }
+{
+    Ok(PlacedExpr::Form(Boxed::new(alloc, form)?))
+}
+
+fn chain(alloc: Global, first: PlacedExpr, rest: Items<PlacedStep>) -> Result<PlacedExpr, Memory>
     ensures { IfOk result (λ e. expr_view e ≡ to.chain (expr_view first) (steps_view rest)) }
 {
-    Boxed::new(alloc, PlacedExpr::Chain { first, rest })
+    formed(alloc, PlacedForm::Chain { first, rest })
+}
+
+/// A chain from a number on.
+fn chain_from(alloc: Global, number: i64, rest: Items<PlacedStep>) -> Result<PlacedExpr, Memory>
+    ensures { IfOk result (λ e. expr_view e ≡ to.chain (to.number number) (steps_view rest)) }
+{
+    chain(alloc, PlacedExpr::Number(number), rest)
 }
 
 /// An operation on two operands.
 fn pair(
     alloc: Global,
-    first: Boxed<PlacedExpr>,
+    first: PlacedExpr,
     op: Operator,
-    second: Boxed<PlacedExpr>,
-) -> Result<Boxed<PlacedExpr>, Memory>
+    second: PlacedExpr,
+) -> Result<PlacedExpr, Memory>
     ensures { IfOk result (λ e. expr_view e ≡ to.pair (expr_view first) op (expr_view second)) }
 {
-    if let (PlacedExpr::Place(place), PlacedExpr::Number(number)) = (first.get(), second.get()) {
+    if let (PlacedExpr::Place(place), Operator::Is(is), PlacedExpr::Number(number)) = (
+        &first, op, &second,
+    ) {
         let (place, number) = (*place, *number);
-        return Boxed::new(alloc, PlacedExpr::Test { op, place, number });
+        return Ok(PlacedExpr::Test { is, place, number });
     }
-    Boxed::new(alloc, PlacedExpr::Pair { op, first, second })
+    formed(alloc, PlacedForm::Pair { op, first, second })
 }
 
-/// A chain from a number on.
-fn chain_from(
+fn select(
     alloc: Global,
-    number: i64,
-    rest: Items<PlacedStep>,
-) -> Result<Boxed<PlacedExpr>, Memory>
-    ensures { IfOk result (λ e. expr_view e ≡ to.chain (to.number number) (steps_view rest)) }
+    condition: PlacedExpr,
+    otherwise: PlacedExpr,
+    then: PlacedExpr,
+) -> Result<PlacedExpr, Memory>
+    ensures { IfOk result (λ e. expr_view e
+        ≡ to.selected (expr_view condition) (expr_view otherwise) (expr_view then)) }
 {
-    let first = Boxed::new(alloc, PlacedExpr::Number(number))?;
-    chain(alloc, first, rest)
+    let form = PlacedForm::Select {
+        condition,
+        otherwise,
+        then,
+    };
+    formed(alloc, form)
 }
 
-/// An expression in a box, in which it is quick to check.
 #[cycle(resolve_expressions)]
-fn resolve_expr(
-    alloc: Global,
-    program: &Checked,
-    expr: &StExpr,
-) -> Result<Boxed<PlacedExpr>, Memory>
+fn resolve_expr(alloc: Global, program: &Checked, expr: &StExpr) -> Result<PlacedExpr, Memory>
     ensures { IfOk result (λ e. expr_view e ≡ placed program.now.vars (view_expr expr.now)) }
 {
     match expr {
-        StExpr::Bool(truth) => Boxed::new(alloc, PlacedExpr::Number(number(*truth))),
-        StExpr::Int(number) => Boxed::new(alloc, PlacedExpr::Number(*number)),
+        StExpr::Bool(truth) => Ok(PlacedExpr::Number(number(*truth))),
+        StExpr::Int(number) => Ok(PlacedExpr::Number(*number)),
         StExpr::Named(name) => {
             let place = find_place(alloc, program, name.as_slice())?;
-            Boxed::new(alloc, PlacedExpr::Place(place))
+            Ok(PlacedExpr::Place(place))
         }
         StExpr::Paren(inner) => resolve_expr(alloc, program, inner.get()),
-        StExpr::Neg(operand) => resolve_single(alloc, program, Single::Minus, operand.get()),
-        StExpr::Not(operand) => resolve_single(alloc, program, Single::Not, operand.get()),
-        StExpr::Abs(operand) => resolve_single(alloc, program, Single::Absolute, operand.get()),
+        StExpr::Neg(inner) => resolve_single(alloc, program, Single::Minus, inner.get()),
+        StExpr::Not(inner) => resolve_single(alloc, program, Single::Not, inner.get()),
+        StExpr::Abs(inner) => resolve_single(alloc, program, Single::Absolute, inner.get()),
         StExpr::Product { first, rest } => {
             let first = resolve_expr(alloc, program, first.get())?;
             let rest = resolve_factors(alloc, program, rest.as_slice())?;
@@ -164,30 +178,14 @@ fn resolve_expr(
             let second = resolve_expr(alloc, program, right.get())?;
             pair(alloc, first, Operator::Larger, second)
         }
-        StExpr::And(operands) => {
-            let rest = resolve_operands(alloc, program, Operator::And, operands.as_slice())?;
-            chain_from(alloc, 1, rest)
-        }
-        StExpr::Xor(operands) => {
-            let rest = resolve_operands(alloc, program, Operator::Xor, operands.as_slice())?;
-            chain_from(alloc, 0, rest)
-        }
-        StExpr::Or(operands) => {
-            let rest = resolve_operands(alloc, program, Operator::Or, operands.as_slice())?;
-            chain_from(alloc, 0, rest)
-        }
+        StExpr::And(all) => resolve_joined(alloc, program, Operator::And, 1, all.as_slice()),
+        StExpr::Xor(all) => resolve_joined(alloc, program, Operator::Xor, 0, all.as_slice()),
+        StExpr::Or(all) => resolve_joined(alloc, program, Operator::Or, 0, all.as_slice()),
         StExpr::Sel(condition, otherwise, then) => {
             let condition = resolve_expr(alloc, program, condition.get())?;
             let otherwise = resolve_expr(alloc, program, otherwise.get())?;
             let then = resolve_expr(alloc, program, then.get())?;
-            Boxed::new(
-                alloc,
-                PlacedExpr::Select {
-                    condition,
-                    otherwise,
-                    then,
-                },
-            )
+            select(alloc, condition, otherwise, then)
         }
     }
 }
@@ -198,29 +196,31 @@ fn resolve_single(
     program: &Checked,
     op: Single,
     operand: &StExpr,
-) -> Result<Boxed<PlacedExpr>, Memory>
+) -> Result<PlacedExpr, Memory>
     ensures { IfOk result (λ e. expr_view e ≡ to.single op (placed program.now.vars (view_expr operand.now))) }
 {
     let operand = resolve_expr(alloc, program, operand)?;
-    Boxed::new(alloc, PlacedExpr::Single { op, operand })
+    formed(alloc, PlacedForm::Single { op, operand })
 }
 
-/// The steps with one operation at each operand.
+/// A chain from a number on, with one operation at each operand.
 #[cycle(resolve_expressions)]
-fn resolve_operands(
+fn resolve_joined(
     alloc: Global,
     program: &Checked,
     op: Operator,
+    number: i64,
     operands: &[StExpr],
-) -> Result<Items<PlacedStep>, Memory>
-    ensures { IfOk result (λ ss. steps_view ss ≡ placed_exprs program.now.vars op (view_exprs operands.now)) }
+) -> Result<PlacedExpr, Memory>
+    ensures { IfOk result (λ e. expr_view e
+        ≡ to.chain (to.number number) (placed_exprs program.now.vars op (view_exprs operands.now))) }
 {
-    let mut found = Items::new(alloc);
+    let mut found = Vec::with_capacity(alloc, operands.len())?;
     for operand in operands {
-        let value = resolve_expr(alloc, program, operand)?.into_inner();
+        let value = resolve_expr(alloc, program, operand)?;
         found.push(PlacedStep { op, value })?;
     }
-    Ok(found)
+    chain_from(alloc, number, Items::from_vec(found))
 }
 
 #[cycle(resolve_expressions)]
@@ -231,13 +231,13 @@ fn resolve_factors(
 ) -> Result<Items<PlacedStep>, Memory>
     ensures { IfOk result (λ ss. steps_view ss ≡ placed_factors program.now.vars (view_factors factors.now)) }
 {
-    let mut found = Items::new(alloc);
+    let mut found = Vec::with_capacity(alloc, factors.len())?;
     for factor in factors {
-        let value = resolve_expr(alloc, program, &factor.value)?.into_inner();
+        let value = resolve_expr(alloc, program, &factor.value)?;
         let op = of_factor(factor.op);
         found.push(PlacedStep { op, value })?;
     }
-    Ok(found)
+    Ok(Items::from_vec(found))
 }
 
 #[cycle(resolve_expressions)]
@@ -248,23 +248,13 @@ fn resolve_terms(
 ) -> Result<Items<PlacedStep>, Memory>
     ensures { IfOk result (λ ss. steps_view ss ≡ placed_terms program.now.vars (view_terms terms.now)) }
 {
-    let mut found = Items::new(alloc);
+    let mut found = Vec::with_capacity(alloc, terms.len())?;
     for term in terms {
-        let value = resolve_expr(alloc, program, &term.value)?.into_inner();
+        let value = resolve_expr(alloc, program, &term.value)?;
         let op = of_term(term.minus);
         found.push(PlacedStep { op, value })?;
     }
-    Ok(found)
-}
-
-/// The statement of branches and of what stands after `ELSE`.
-fn choose_or(branches: Items<PlacedBranch>, body: Items<PlacedStmt>) -> PlacedStmt
-    ensures { stmt_view result ≡ to.choice (branches_view branches) (to.other (stmts_view body)) }
-{
-    PlacedStmt::If {
-        branches,
-        other: Some(body),
-    }
+    Ok(Items::from_vec(found))
 }
 
 #[cycle(resolve_statements)]
@@ -275,25 +265,20 @@ fn resolve_stmt(alloc: Global, program: &Checked, stmt: &Stmt) -> Result<Boxed<P
         Stmt::Assign { target, value } => {
             let place = find_place(alloc, program, target.as_slice())?;
             let ty = type_of(program.program().vars.as_slice(), place as usize);
-            let value = resolve_expr(alloc, program, value)?.into_inner();
+            let value = resolve_expr(alloc, program, value)?;
             Boxed::new(alloc, PlacedStmt::Assign { place, ty, value })
         }
         Stmt::If { branches, other } => {
             let branches = resolve_branches(alloc, program, branches.as_slice())?;
-            match other {
-                Some(body) => {
-                    let body = resolve_stmts(alloc, program, body.as_slice())?;
-                    Boxed::new(alloc, choose_or(branches, body))
-                }
-                None => {
-                    let other = None;
-                    Boxed::new(alloc, PlacedStmt::If { branches, other })
-                }
-            }
+            let other = match other {
+                Some(body) => resolve_stmts(alloc, program, body.as_slice())?,
+                None => Items::new(alloc),
+            };
+            Boxed::new(alloc, PlacedStmt::If { branches, other })
         }
         Stmt::While { cond, body } => {
             let body = resolve_stmts(alloc, program, body.as_slice())?;
-            let cond = resolve_expr(alloc, program, cond)?.into_inner();
+            let cond = resolve_expr(alloc, program, cond)?;
             Boxed::new(alloc, PlacedStmt::While { cond, body })
         }
     }
@@ -308,11 +293,11 @@ pub fn resolve_stmts(
 ) -> Result<Items<PlacedStmt>, Memory>
     ensures { IfOk result (λ ss. stmts_view ss ≡ placed_stms program.now.vars (view_stmts stmts.now)) }
 {
-    let mut found = Items::new(alloc);
+    let mut found = Vec::with_capacity(alloc, stmts.len())?;
     for stmt in stmts {
         found.push(resolve_stmt(alloc, program, stmt)?.into_inner())?;
     }
-    Ok(found)
+    Ok(Items::from_vec(found))
 }
 
 #[cycle(resolve_statements)]
@@ -323,11 +308,11 @@ fn resolve_branches(
 ) -> Result<Items<PlacedBranch>, Memory>
     ensures { IfOk result (λ bs. branches_view bs ≡ placed_branches program.now.vars (view_branches branches.now)) }
 {
-    let mut found = Items::new(alloc);
+    let mut found = Vec::with_capacity(alloc, branches.len())?;
     for branch in branches {
         let body = resolve_stmts(alloc, program, branch.body.as_slice())?;
-        let cond = resolve_expr(alloc, program, &branch.cond)?.into_inner();
+        let cond = resolve_expr(alloc, program, &branch.cond)?;
         found.push(PlacedBranch { cond, body })?;
     }
-    Ok(found)
+    Ok(Items::from_vec(found))
 }

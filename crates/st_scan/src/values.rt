@@ -1,12 +1,13 @@
-//! The values of expressions (IEC 61131-3, "Expressions"), where a BOOL is 0 or 1.
+//! The values of expressions (IEC 61131-3, "Expressions"), where a BOOL is 0 or 1. A value is handed on in registers and why
+//! there is none in the caller's memory, since a `Result` of both would go through memory at each step.
 
 ghost use Rattle.std.specs.Prelude.{◌≡◌, slice_index_or, pos};
 ghost use Rattle.st_ast.specs.Values.{of_bool, is_true, same_number, divided, remainder, smaller, larger};
-ghost use Rattle.st_scan.specs.PlacedValues.{value_at, steps_at, applied_to, applied};
-ghost use Rattle.st_scan.specs.PlacedView.{expr_view, steps_view};
-ghost use Rattle.st_scan.specs.Told.{told};
+ghost use Rattle.st_scan.specs.PlacedValues.{value_at, steps_at, applied_to, applied, related};
+ghost use Rattle.st_scan.specs.PlacedView.{expr_view, form_view, steps_view};
+ghost use Rattle.st_scan.specs.Told.{told, or_overflow};
 
-use crate::placed::{Operator, PlacedExpr, PlacedStep, Single};
+use crate::placed::{Operator, PlacedExpr, PlacedForm, PlacedStep, Relation, Single};
 
 /// Why an expression has no value: a result outside 64 bits, or a divisor 0.
 #[derive(Clone, Copy, Debug, PartialEq, Eq)]
@@ -16,6 +17,7 @@ pub enum ValueFault {
 }
 
 /// The number of a BOOL.
+#[inline(always)]
 pub fn number(truth: bool) -> i64
     ensures { result ≡ of_bool truth }
 {
@@ -23,6 +25,7 @@ pub fn number(truth: bool) -> i64
 }
 
 /// Whether a value stands for TRUE.
+#[inline(always)]
 pub fn is_set(value: i64) -> bool
     ensures { result ≡ is_true value }
 {
@@ -47,15 +50,41 @@ fn larger_of(x: i64, y: i64) -> i64
     if x <= y { y } else { x }
 }
 
+#[inline(always)]
+fn is_so(relation: Relation, x: i64, y: i64) -> bool
+    ensures { result ≡ related relation x y }
+{
+    match relation {
+        Relation::Less => x < y,
+        Relation::Greater => x > y,
+        Relation::AtMost => x <= y,
+        Relation::AtLeast => x >= y,
+        Relation::Equal => is_same(x, y),
+        Relation::Differ => !is_same(x, y),
+    }
+}
+
+/// A number, or an overflow where there is none.
+#[inline(always)]
+fn fitting(found: Option<i64>, fault: &mut ValueFault) -> Option<i64>
+    ensures { told result fault.new ≡ or_overflow found }
+{
+    if found.is_none() {
+        *fault = ValueFault::Overflow;
+    }
+    found
+}
+
 /// The quotient, rounded towards zero.
 #[tactic(auto, using(crate::proofs::Checked::checks))]
-fn divide(x: i64, y: i64) -> Result<i64, ValueFault>
-    ensures { told result ≡ divided x y }
+fn divide(x: i64, y: i64, fault: &mut ValueFault) -> Option<i64>
+    ensures { told result fault.new ≡ divided x y }
 {
     if is_same(y, 0) {
-        return Err(ValueFault::ZeroDivide);
+        *fault = ValueFault::ZeroDivide;
+        return None;
     }
-    x.checked_div(y).ok_or(ValueFault::Overflow)
+    fitting(x.checked_div(y), fault)
 }
 
 /// What is left by a division, with the sign of the dividend, and 0 where the divisor is 0.
@@ -66,41 +95,38 @@ fn remainder_of(x: i64, y: i64) -> i64
 }
 
 #[tactic(auto, using(crate::proofs::Checked::checks))]
-fn apply_to(op: Single, x: i64) -> Result<i64, ValueFault>
-    ensures { told result ≡ applied_to op x }
+fn apply_to(op: Single, x: i64, fault: &mut ValueFault) -> Option<i64>
+    ensures { told result fault.new ≡ applied_to op x }
 {
     match op {
-        Single::Minus => x.checked_neg().ok_or(ValueFault::Overflow),
-        Single::Not => Ok(number(!is_set(x))),
-        Single::Absolute => x.checked_abs().ok_or(ValueFault::Overflow),
+        Single::Minus => fitting(x.checked_neg(), fault),
+        Single::Not => Some(number(!is_set(x))),
+        Single::Absolute => fitting(x.checked_abs(), fault),
     }
 }
 
+#[inline(always)]
 #[tactic(auto, using(crate::proofs::Checked::checks))]
-fn apply(op: Operator, x: i64, y: i64) -> Result<i64, ValueFault>
-    ensures { told result ≡ applied op x y }
+fn apply(op: Operator, x: i64, y: i64, fault: &mut ValueFault) -> Option<i64>
+    ensures { told result fault.new ≡ applied op x y }
 {
     match op {
-        Operator::Add => x.checked_add(y).ok_or(ValueFault::Overflow),
-        Operator::Subtract => x.checked_sub(y).ok_or(ValueFault::Overflow),
-        Operator::Multiply => x.checked_mul(y).ok_or(ValueFault::Overflow),
-        Operator::Divide => divide(x, y),
-        Operator::Remainder => Ok(remainder_of(x, y)),
-        Operator::Less => Ok(number(x < y)),
-        Operator::Greater => Ok(number(x > y)),
-        Operator::AtMost => Ok(number(x <= y)),
-        Operator::AtLeast => Ok(number(x >= y)),
-        Operator::Equal => Ok(number(is_same(x, y))),
-        Operator::Differ => Ok(number(!is_same(x, y))),
-        Operator::And => Ok(number(is_set(x) & is_set(y))),
-        Operator::Xor => Ok(number(is_set(x) ^ is_set(y))),
-        Operator::Or => Ok(number(is_set(x) | is_set(y))),
-        Operator::Smaller => Ok(smaller_of(x, y)),
-        Operator::Larger => Ok(larger_of(x, y)),
+        Operator::Add => fitting(x.checked_add(y), fault),
+        Operator::Subtract => fitting(x.checked_sub(y), fault),
+        Operator::Multiply => fitting(x.checked_mul(y), fault),
+        Operator::Divide => divide(x, y, fault),
+        Operator::Remainder => Some(remainder_of(x, y)),
+        Operator::Is(relation) => Some(number(is_so(relation, x, y))),
+        Operator::And => Some(number(is_set(x) & is_set(y))),
+        Operator::Xor => Some(number(is_set(x) ^ is_set(y))),
+        Operator::Or => Some(number(is_set(x) | is_set(y))),
+        Operator::Smaller => Some(smaller_of(x, y)),
+        Operator::Larger => Some(larger_of(x, y)),
     }
 }
 
 /// The number at a place, and 0 beyond the memory.
+#[inline(always)]
 fn read(memory: &[i64], place: u32) -> i64
     ensures { result ≡ slice_index_or memory.now place (pos 0) }
 {
@@ -110,50 +136,70 @@ fn read(memory: &[i64], place: u32) -> i64
     }
 }
 
-/// The value of an expression. Every operand is evaluated, from left to right.
+/// The value of an expression, or why it has none. Every operand is evaluated, from left to right.
 #[cycle(values)]
-pub fn value(expr: &PlacedExpr, memory: &[i64]) -> Result<i64, ValueFault>
-    ensures { told result ≡ value_at (expr_view expr.now) memory.now }
+#[inline(always)]
+pub fn value(expr: &PlacedExpr, memory: &[i64], fault: &mut ValueFault) -> Option<i64>
+    ensures { told result fault.new ≡ value_at (expr_view expr.now) memory.now }
 {
     match expr {
-        PlacedExpr::Number(number) => Ok(*number),
-        PlacedExpr::Place(place) => Ok(read(memory, *place)),
-        PlacedExpr::Single { op, operand } => {
-            let x = value(operand.get(), memory)?;
-            apply_to(*op, x)
+        PlacedExpr::Number(number) => Some(*number),
+        PlacedExpr::Place(place) => Some(read(memory, *place)),
+        PlacedExpr::Test {
+            is,
+            place,
+            number: y,
+        } => Some(number(is_so(*is, read(memory, *place), *y))),
+        PlacedExpr::Form(form) => value_of(form.get(), memory, fault),
+    }
+}
+
+#[cycle(values)]
+fn value_of(form: &PlacedForm, memory: &[i64], fault: &mut ValueFault) -> Option<i64>
+    ensures { told result fault.new ≡ value_at (form_view form.now) memory.now }
+{
+    match form {
+        PlacedForm::Single { op, operand } => {
+            let x = value(operand, memory, fault)?;
+            apply_to(*op, x, fault)
         }
-        PlacedExpr::Pair { op, first, second } => {
-            let x = value(first.get(), memory)?;
-            let y = value(second.get(), memory)?;
-            apply(*op, x, y)
+        PlacedForm::Pair { op, first, second } => {
+            let x = value(first, memory, fault)?;
+            let y = value(second, memory, fault)?;
+            apply(*op, x, y, fault)
         }
-        PlacedExpr::Test { op, place, number } => apply(*op, read(memory, *place), *number),
-        PlacedExpr::Chain { first, rest } => {
-            let x = value(first.get(), memory)?;
-            apply_steps(rest.as_slice(), x, memory)
+        PlacedForm::Chain { first, rest } => {
+            let x = value(first, memory, fault)?;
+            apply_steps(rest.as_slice(), x, memory, fault)
         }
-        PlacedExpr::Select {
+        PlacedForm::Select {
             condition,
             otherwise,
             then,
         } => {
-            let chosen = is_set(value(condition.get(), memory)?);
-            let x = value(otherwise.get(), memory)?;
-            let y = value(then.get(), memory)?;
-            Ok(if chosen { y } else { x })
+            let chosen = is_set(value(condition, memory, fault)?);
+            let x = value(otherwise, memory, fault)?;
+            let y = value(then, memory, fault)?;
+            Some(if chosen { y } else { x })
         }
     }
 }
 
 /// The value of a chain, from that of its first operand.
 #[cycle(values)]
-fn apply_steps(steps: &[PlacedStep], first: i64, memory: &[i64]) -> Result<i64, ValueFault>
-    ensures { told result ≡ steps_at first (steps_view steps.now) memory.now }
+#[inline(always)]
+fn apply_steps(
+    steps: &[PlacedStep],
+    first: i64,
+    memory: &[i64],
+    fault: &mut ValueFault,
+) -> Option<i64>
+    ensures { told result fault.new ≡ steps_at first (steps_view steps.now) memory.now }
 {
     let mut so_far = first;
     for step in steps {
-        let x = value(&step.value, memory)?;
-        so_far = apply(step.op, so_far, x)?;
+        let x = value(&step.value, memory, fault)?;
+        so_far = apply(step.op, so_far, x, fault)?;
     }
-    Ok(so_far)
+    Some(so_far)
 }
