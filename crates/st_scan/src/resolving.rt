@@ -3,18 +3,20 @@
 ghost use Rattle.std.specs.Prelude.{◌≡◌, IfOk};
 ghost use Rattle.st_ast.specs.Exec.{type_at};
 ghost use Rattle.st_ast.specs.Names.{place_of};
+ghost use Rattle.st_ast.specs.Values.{of_bool};
 ghost use Rattle.st_ast.specs.View.{view_expr, view_exprs, view_factors, view_terms, view_stmt, view_stmts, view_branches};
 ghost use Rattle.st_scan.specs.PlacedTree as to;
-ghost use Rattle.st_scan.specs.PlacedView.{expr_view, form_view, steps_view, stmt_view, stmts_view, branches_view};
+ghost use Rattle.st_scan.specs.PlacedView.{expr_view, form_view, terms_view, factors_view, operands_view, cond_view, stmt_view, stmts_view, branches_view};
 ghost use Rattle.st_scan.specs.Placing as placing;
 ghost use Rattle.st_scan.specs.Placing.{placed, placed_exprs, placed_factors, placed_terms, placed_stm, placed_stms, placed_branches};
 
 use crate::placed::{
-    Operator, PlacedBranch, PlacedExpr, PlacedForm, PlacedStep, PlacedStmt, Relation, Single,
+    Join, PlacedBranch, PlacedCond, PlacedExpr, PlacedFactor, PlacedForm, PlacedStmt, PlacedTerm,
+    Relation, Single,
 };
 use crate::values::number;
 use cif_base::{Boxed, Items, Memory};
-use st_ast::{StBranch, StExpr, StFactor, StMul, StOrder, StTerm, StTy, StVar, Stmt};
+use st_ast::{StBranch, StExpr, StFactor, StOrder, StTerm, StTy, StVar, Stmt};
 use st_check::Checked;
 use std::alloc::Global;
 
@@ -37,45 +39,16 @@ fn type_of(vars: &[StVar], place: usize) -> StTy
     }
 }
 
-fn of_factor(op: StMul) -> Operator
-    ensures { result ≡ placing.of_factor op }
+/// The relation of an order, and whether it holds.
+fn of_order(op: StOrder) -> (Relation, bool)
+    ensures { to.is result.0 result.1 ≡ placing.of_order op }
 {
     match op {
-        StMul::Times => Operator::Multiply,
-        StMul::Div => Operator::Divide,
-        StMul::Mod => Operator::Remainder,
+        StOrder::Lt => (Relation::Less, true),
+        StOrder::Gt => (Relation::AtMost, false),
+        StOrder::Le => (Relation::AtMost, true),
+        StOrder::Ge => (Relation::Less, false),
     }
-}
-
-fn of_term(minus: bool) -> Operator
-    ensures { result ≡ placing.of_term minus }
-{
-    if minus {
-        Operator::Subtract
-    } else {
-        Operator::Add
-    }
-}
-
-fn of_order(op: StOrder) -> Operator
-    ensures { result ≡ placing.of_order op }
-{
-    Operator::Is(match op {
-        StOrder::Lt => Relation::Less,
-        StOrder::Gt => Relation::Greater,
-        StOrder::Le => Relation::AtMost,
-        StOrder::Ge => Relation::AtLeast,
-    })
-}
-
-fn of_equality(equal: bool) -> Operator
-    ensures { result ≡ placing.of_equality equal }
-{
-    Operator::Is(if equal {
-        Relation::Equal
-    } else {
-        Relation::Differ
-    })
 }
 
 /// An operation with its operands, in a box.
@@ -85,35 +58,45 @@ fn formed(alloc: Global, form: PlacedForm) -> Result<PlacedExpr, Memory>
     Ok(PlacedExpr::Form(Boxed::new(alloc, form)?))
 }
 
-fn chain(alloc: Global, first: PlacedExpr, rest: Items<PlacedStep>) -> Result<PlacedExpr, Memory>
-    ensures { IfOk result (λ e. expr_view e ≡ to.chain (expr_view first) (steps_view rest)) }
-{
-    formed(alloc, PlacedForm::Chain { first, rest })
-}
-
-/// A chain from a number on.
-fn chain_from(alloc: Global, number: i64, rest: Items<PlacedStep>) -> Result<PlacedExpr, Memory>
-    ensures { IfOk result (λ e. expr_view e ≡ to.chain (to.number number) (steps_view rest)) }
-{
-    chain(alloc, PlacedExpr::Number(number), rest)
-}
-
-/// An operation on two operands.
-fn pair(
+fn relation(
     alloc: Global,
     first: PlacedExpr,
-    op: Operator,
+    is: Relation,
+    holds: bool,
     second: PlacedExpr,
 ) -> Result<PlacedExpr, Memory>
-    ensures { IfOk result (λ e. expr_view e ≡ to.pair (expr_view first) op (expr_view second)) }
+    ensures { IfOk result (λ e. expr_view e ≡ to.pair (expr_view first) (to.is is holds) (expr_view second)) }
 {
-    if let (PlacedExpr::Place(place), Operator::Is(is), PlacedExpr::Number(number)) = (
-        &first, op, &second,
-    ) {
-        let (place, number) = (*place, *number);
-        return Ok(PlacedExpr::Test { is, place, number });
-    }
-    formed(alloc, PlacedForm::Pair { op, first, second })
+    let form = PlacedForm::Related {
+        is,
+        holds,
+        first,
+        second,
+    };
+    formed(alloc, form)
+}
+
+fn extreme(
+    alloc: Global,
+    first: PlacedExpr,
+    larger: bool,
+    second: PlacedExpr,
+) -> Result<PlacedExpr, Memory>
+    ensures { IfOk result (λ e. expr_view e ≡ to.pair (expr_view first) (to.of_extreme larger) (expr_view second)) }
+{
+    let form = PlacedForm::Extreme {
+        larger,
+        first,
+        second,
+    };
+    formed(alloc, form)
+}
+
+fn join_all(alloc: Global, join: Join, operands: Items<PlacedExpr>) -> Result<PlacedExpr, Memory>
+    ensures { IfOk result (λ e. expr_view e
+        ≡ to.chain (to.number (of_bool (to.joined_none join))) (operands_view join operands)) }
+{
+    formed(alloc, PlacedForm::Joined { join, operands })
 }
 
 fn select(
@@ -131,6 +114,29 @@ fn select(
         then,
     };
     formed(alloc, form)
+}
+
+/// An expression as a condition.
+fn condition(expr: PlacedExpr) -> PlacedCond
+    ensures { cond_view result ≡ expr_view expr }
+{
+    if let PlacedExpr::Form(form) = &expr
+        && let PlacedForm::Related {
+            is,
+            holds,
+            first: PlacedExpr::Place(place),
+            second: PlacedExpr::Number(number),
+        } = form.get()
+    {
+        let (is, holds, place, number) = (*is, *holds, *place, *number);
+        return PlacedCond::Test {
+            is,
+            holds,
+            place,
+            number,
+        };
+    }
+    PlacedCond::Value(expr)
 }
 
 #[cycle(resolve_expressions)]
@@ -151,36 +157,37 @@ fn resolve_expr(alloc: Global, program: &Checked, expr: &StExpr) -> Result<Place
         StExpr::Product { first, rest } => {
             let first = resolve_expr(alloc, program, first.get())?;
             let rest = resolve_factors(alloc, program, rest.as_slice())?;
-            chain(alloc, first, rest)
+            formed(alloc, PlacedForm::Product { first, rest })
         }
         StExpr::Sum { first, rest } => {
             let first = resolve_expr(alloc, program, first.get())?;
             let rest = resolve_terms(alloc, program, rest.as_slice())?;
-            chain(alloc, first, rest)
+            formed(alloc, PlacedForm::Sum { first, rest })
         }
         StExpr::Order { left, op, right } => {
             let first = resolve_expr(alloc, program, left.get())?;
             let second = resolve_expr(alloc, program, right.get())?;
-            pair(alloc, first, of_order(*op), second)
+            let (is, holds) = of_order(*op);
+            relation(alloc, first, is, holds, second)
         }
         StExpr::Equal { left, equal, right } => {
             let first = resolve_expr(alloc, program, left.get())?;
             let second = resolve_expr(alloc, program, right.get())?;
-            pair(alloc, first, of_equality(*equal), second)
+            relation(alloc, first, Relation::Equal, *equal, second)
         }
         StExpr::Min(left, right) => {
             let first = resolve_expr(alloc, program, left.get())?;
             let second = resolve_expr(alloc, program, right.get())?;
-            pair(alloc, first, Operator::Smaller, second)
+            extreme(alloc, first, false, second)
         }
         StExpr::Max(left, right) => {
             let first = resolve_expr(alloc, program, left.get())?;
             let second = resolve_expr(alloc, program, right.get())?;
-            pair(alloc, first, Operator::Larger, second)
+            extreme(alloc, first, true, second)
         }
-        StExpr::And(all) => resolve_joined(alloc, program, Operator::And, 1, all.as_slice()),
-        StExpr::Xor(all) => resolve_joined(alloc, program, Operator::Xor, 0, all.as_slice()),
-        StExpr::Or(all) => resolve_joined(alloc, program, Operator::Or, 0, all.as_slice()),
+        StExpr::And(all) => resolve_joined(alloc, program, Join::And, all.as_slice()),
+        StExpr::Xor(all) => resolve_joined(alloc, program, Join::Xor, all.as_slice()),
+        StExpr::Or(all) => resolve_joined(alloc, program, Join::Or, all.as_slice()),
         StExpr::Sel(condition, otherwise, then) => {
             let condition = resolve_expr(alloc, program, condition.get())?;
             let otherwise = resolve_expr(alloc, program, otherwise.get())?;
@@ -203,24 +210,22 @@ fn resolve_single(
     formed(alloc, PlacedForm::Single { op, operand })
 }
 
-/// A chain from a number on, with one operation at each operand.
+/// The operands of one level, joined.
 #[cycle(resolve_expressions)]
 fn resolve_joined(
     alloc: Global,
     program: &Checked,
-    op: Operator,
-    number: i64,
+    join: Join,
     operands: &[StExpr],
 ) -> Result<PlacedExpr, Memory>
-    ensures { IfOk result (λ e. expr_view e
-        ≡ to.chain (to.number number) (placed_exprs program.now.vars op (view_exprs operands.now))) }
+    ensures { IfOk result (λ e. expr_view e ≡ to.chain (to.number (of_bool (to.joined_none join)))
+        (placed_exprs program.now.vars (to.of_join join) (view_exprs operands.now))) }
 {
     let mut found = Vec::with_capacity(alloc, operands.len())?;
     for operand in operands {
-        let value = resolve_expr(alloc, program, operand)?;
-        found.push(PlacedStep { op, value })?;
+        found.push(resolve_expr(alloc, program, operand)?)?;
     }
-    chain_from(alloc, number, Items::from_vec(found))
+    join_all(alloc, join, Items::from_vec(found))
 }
 
 #[cycle(resolve_expressions)]
@@ -228,14 +233,14 @@ fn resolve_factors(
     alloc: Global,
     program: &Checked,
     factors: &[StFactor],
-) -> Result<Items<PlacedStep>, Memory>
-    ensures { IfOk result (λ ss. steps_view ss ≡ placed_factors program.now.vars (view_factors factors.now)) }
+) -> Result<Items<PlacedFactor>, Memory>
+    ensures { IfOk result (λ fs. factors_view fs ≡ placed_factors program.now.vars (view_factors factors.now)) }
 {
     let mut found = Vec::with_capacity(alloc, factors.len())?;
     for factor in factors {
         let value = resolve_expr(alloc, program, &factor.value)?;
-        let op = of_factor(factor.op);
-        found.push(PlacedStep { op, value })?;
+        let op = factor.op;
+        found.push(PlacedFactor { op, value })?;
     }
     Ok(Items::from_vec(found))
 }
@@ -245,14 +250,14 @@ fn resolve_terms(
     alloc: Global,
     program: &Checked,
     terms: &[StTerm],
-) -> Result<Items<PlacedStep>, Memory>
-    ensures { IfOk result (λ ss. steps_view ss ≡ placed_terms program.now.vars (view_terms terms.now)) }
+) -> Result<Items<PlacedTerm>, Memory>
+    ensures { IfOk result (λ ts. terms_view ts ≡ placed_terms program.now.vars (view_terms terms.now)) }
 {
     let mut found = Vec::with_capacity(alloc, terms.len())?;
     for term in terms {
         let value = resolve_expr(alloc, program, &term.value)?;
-        let op = of_term(term.minus);
-        found.push(PlacedStep { op, value })?;
+        let minus = term.minus;
+        found.push(PlacedTerm { minus, value })?;
     }
     Ok(Items::from_vec(found))
 }
@@ -278,7 +283,7 @@ fn resolve_stmt(alloc: Global, program: &Checked, stmt: &Stmt) -> Result<Boxed<P
         }
         Stmt::While { cond, body } => {
             let body = resolve_stmts(alloc, program, body.as_slice())?;
-            let cond = resolve_expr(alloc, program, cond)?;
+            let cond = condition(resolve_expr(alloc, program, cond)?);
             Boxed::new(alloc, PlacedStmt::While { cond, body })
         }
     }
@@ -311,7 +316,7 @@ fn resolve_branches(
     let mut found = Vec::with_capacity(alloc, branches.len())?;
     for branch in branches {
         let body = resolve_stmts(alloc, program, branch.body.as_slice())?;
-        let cond = resolve_expr(alloc, program, &branch.cond)?;
+        let cond = condition(resolve_expr(alloc, program, &branch.cond)?);
         found.push(PlacedBranch { cond, body })?;
     }
     Ok(Items::from_vec(found))

@@ -6,12 +6,12 @@ ghost use Rattle.st_ast.specs.Exec.{Act, Faulted, is_within, repeated};
 ghost use Rattle.st_scan.specs.Endings.{LeavesAtMost, chosen, outcome_of, stopped};
 ghost use Rattle.st_scan.specs.PlacedExec.{store_at, exec_at, exec_one_at, exec_choice_at};
 ghost use Rattle.st_scan.specs.PlacedValues.{value_at};
-ghost use Rattle.st_scan.specs.PlacedView.{expr_view, stmt_view, stmts_view, branches_view};
+ghost use Rattle.st_scan.specs.PlacedView.{cond_view, stmt_view, stmts_view, branches_view};
 ghost use Rattle.st_scan.specs.Told.{fault_of};
 
 use crate::error::ScanErr;
-use crate::placed::{PlacedBranch, PlacedExpr, PlacedStmt};
-use crate::values::{ValueFault, is_set, value};
+use crate::placed::{PlacedBranch, PlacedCond, PlacedStmt};
+use crate::values::{ValueFault, is_set, test, value};
 use st_ast::StTy;
 
 /// What became of the branches of an IF: the turns that the one that was taken left, none was taken, or the scan ended.
@@ -120,7 +120,7 @@ fn choose(branches: &[PlacedBranch], memory: &mut [i64], turns: u32, why: &mut S
 {
     for branch in branches {
         let mut fault = ValueFault::Overflow;
-        let Some(truth) = value(&branch.cond, memory, &mut fault) else {
+        let Some(truth) = test(&branch.cond, memory, &mut fault) else {
             *why = ScanErr::from(fault);
             return Chosen::Stopped;
         };
@@ -139,19 +139,19 @@ fn choose(branches: &[PlacedBranch], memory: &mut [i64], turns: u32, why: &mut S
 #[tactic(auto, using(crate::proofs::Loop::loops))]
 fn repeat(
     body: &[PlacedStmt],
-    cond: &PlacedExpr,
+    cond: &PlacedCond,
     memory: &mut [i64],
     turns: u32,
     why: &mut ScanErr,
 ) -> Option<u32>
-    ensures is { repeated (suc turns) (value_at (expr_view cond.now))
+    ensures is { repeated (suc turns) (value_at (cond_view cond.now))
         (λ l m. exec_at (stmts_view body.now) l m) turns memory.old ≡ outcome_of result why.new memory.new }
     ensures less { IfSome result (λ left. left ≤ turns) }
 {
     let mut left = turns;
     let mut fault = ValueFault::Overflow;
     'turns: loop {
-        let Some(truth) = value(cond, memory, &mut fault) else {
+        let Some(truth) = test(cond, memory, &mut fault) else {
             return stop(fault, why);
         };
         if !is_set(truth) {

@@ -1,13 +1,17 @@
 //! The values of expressions (IEC 61131-3, "Expressions"), where a BOOL is 0 or 1. A value is handed on in registers and why
 //! there is none in the caller's memory, since a `Result` of both would go through memory at each step.
 
-ghost use Rattle.std.specs.Prelude.{◌≡◌, slice_index_or, pos};
-ghost use Rattle.st_ast.specs.Values.{of_bool, is_true, same_number, divided, remainder, smaller, larger};
-ghost use Rattle.st_scan.specs.PlacedValues.{value_at, steps_at, applied_to, applied, related};
-ghost use Rattle.st_scan.specs.PlacedView.{expr_view, form_view, steps_view};
+ghost use Rattle.std.specs.Prelude.{◌≡◌, slice_index_or, pos, Ok};
+ghost use Rattle.st_ast.specs.Values.{of_bool, is_true, same_number, divided, remainder};
+ghost use Rattle.st_scan.specs.PlacedTree.{of_term, of_factor, of_extreme, joined_none};
+ghost use Rattle.st_scan.specs.PlacedValues.{value_at, steps_at, applied_to, applied, related, joined_with};
+ghost use Rattle.st_scan.specs.PlacedView.{expr_view, form_view, terms_view, factors_view, operands_view, cond_view};
 ghost use Rattle.st_scan.specs.Told.{told, or_overflow};
 
-use crate::placed::{Operator, PlacedExpr, PlacedForm, PlacedStep, Relation, Single};
+use crate::placed::{
+    Join, PlacedCond, PlacedExpr, PlacedFactor, PlacedForm, PlacedTerm, Relation, Single,
+};
+use st_ast::StMul;
 
 /// Why an expression has no value: a result outside 64 bits, or a divisor 0.
 #[derive(Clone, Copy, Debug, PartialEq, Eq)]
@@ -38,30 +42,25 @@ fn is_same(x: i64, y: i64) -> bool
     x == y
 }
 
-fn smaller_of(x: i64, y: i64) -> i64
-    ensures { result ≡ smaller x y }
-{
-    if x <= y { x } else { y }
-}
-
-fn larger_of(x: i64, y: i64) -> i64
-    ensures { result ≡ larger x y }
-{
-    if x <= y { y } else { x }
-}
-
+/// The larger of two numbers, or the smaller.
 #[inline(always)]
-fn is_so(relation: Relation, x: i64, y: i64) -> bool
-    ensures { result ≡ related relation x y }
+fn extreme(larger: bool, x: i64, y: i64) -> i64
+    ensures { Ok result ≡ applied (of_extreme larger) x y }
 {
-    match relation {
+    if larger == (x <= y) { y } else { x }
+}
+
+/// Whether one number stands so to another, or whether it doesn't.
+#[inline(always)]
+fn is_so(relation: Relation, holds: bool, x: i64, y: i64) -> bool
+    ensures { result ≡ related relation holds x y }
+{
+    let so = match relation {
         Relation::Less => x < y,
-        Relation::Greater => x > y,
         Relation::AtMost => x <= y,
-        Relation::AtLeast => x >= y,
         Relation::Equal => is_same(x, y),
-        Relation::Differ => !is_same(x, y),
-    }
+    };
+    if holds { so } else { !so }
 }
 
 /// A number, or an overflow where there is none.
@@ -105,23 +104,50 @@ fn apply_to(op: Single, x: i64, fault: &mut ValueFault) -> Option<i64>
     }
 }
 
+/// A sum, or a difference.
 #[inline(always)]
 #[tactic(auto, using(crate::proofs::Checked::checks))]
-fn apply(op: Operator, x: i64, y: i64, fault: &mut ValueFault) -> Option<i64>
-    ensures { told result fault.new ≡ applied op x y }
+fn add(minus: bool, x: i64, y: i64, fault: &mut ValueFault) -> Option<i64>
+    ensures { told result fault.new ≡ applied (of_term minus) x y }
+{
+    if minus {
+        fitting(x.checked_sub(y), fault)
+    } else {
+        fitting(x.checked_add(y), fault)
+    }
+}
+
+#[inline(always)]
+#[tactic(auto, using(crate::proofs::Checked::checks))]
+fn multiply(op: StMul, x: i64, y: i64, fault: &mut ValueFault) -> Option<i64>
+    ensures { told result fault.new ≡ applied (of_factor op) x y }
 {
     match op {
-        Operator::Add => fitting(x.checked_add(y), fault),
-        Operator::Subtract => fitting(x.checked_sub(y), fault),
-        Operator::Multiply => fitting(x.checked_mul(y), fault),
-        Operator::Divide => divide(x, y, fault),
-        Operator::Remainder => Some(remainder_of(x, y)),
-        Operator::Is(relation) => Some(number(is_so(relation, x, y))),
-        Operator::And => Some(number(is_set(x) & is_set(y))),
-        Operator::Xor => Some(number(is_set(x) ^ is_set(y))),
-        Operator::Or => Some(number(is_set(x) | is_set(y))),
-        Operator::Smaller => Some(smaller_of(x, y)),
-        Operator::Larger => Some(larger_of(x, y)),
+        StMul::Times => fitting(x.checked_mul(y), fault),
+        StMul::Div => divide(x, y, fault),
+        StMul::Mod => Some(remainder_of(x, y)),
+    }
+}
+
+#[inline(always)]
+fn join_with(join: Join, so_far: bool, next: bool) -> bool
+    ensures { result ≡ joined_with join so_far next }
+{
+    match join {
+        Join::And => so_far & next,
+        Join::Xor => so_far ^ next,
+        Join::Or => so_far | next,
+    }
+}
+
+/// What no operand comes to.
+fn of_none(join: Join) -> bool
+    ensures { result ≡ joined_none join }
+{
+    match join {
+        Join::And => true,
+        Join::Xor => false,
+        Join::Or => false,
     }
 }
 
@@ -145,11 +171,6 @@ pub fn value(expr: &PlacedExpr, memory: &[i64], fault: &mut ValueFault) -> Optio
     match expr {
         PlacedExpr::Number(number) => Some(*number),
         PlacedExpr::Place(place) => Some(read(memory, *place)),
-        PlacedExpr::Test {
-            is,
-            place,
-            number: y,
-        } => Some(number(is_so(*is, read(memory, *place), *y))),
         PlacedExpr::Form(form) => value_of(form.get(), memory, fault),
     }
 }
@@ -163,14 +184,35 @@ fn value_of(form: &PlacedForm, memory: &[i64], fault: &mut ValueFault) -> Option
             let x = value(operand, memory, fault)?;
             apply_to(*op, x, fault)
         }
-        PlacedForm::Pair { op, first, second } => {
+        PlacedForm::Sum { first, rest } => {
+            let x = value(first, memory, fault)?;
+            sum(rest.as_slice(), x, memory, fault)
+        }
+        PlacedForm::Product { first, rest } => {
+            let x = value(first, memory, fault)?;
+            product(rest.as_slice(), x, memory, fault)
+        }
+        PlacedForm::Joined { join, operands } => {
+            joined(*join, operands.as_slice(), memory, fault)
+        }
+        PlacedForm::Related {
+            is,
+            holds,
+            first,
+            second,
+        } => {
             let x = value(first, memory, fault)?;
             let y = value(second, memory, fault)?;
-            apply(*op, x, y, fault)
+            Some(number(is_so(*is, *holds, x, y)))
         }
-        PlacedForm::Chain { first, rest } => {
+        PlacedForm::Extreme {
+            larger,
+            first,
+            second,
+        } => {
             let x = value(first, memory, fault)?;
-            apply_steps(rest.as_slice(), x, memory, fault)
+            let y = value(second, memory, fault)?;
+            Some(extreme(*larger, x, y))
         }
         PlacedForm::Select {
             condition,
@@ -185,21 +227,71 @@ fn value_of(form: &PlacedForm, memory: &[i64], fault: &mut ValueFault) -> Option
     }
 }
 
-/// The value of a chain, from that of its first operand.
+/// A sum, from its first operand on.
 #[cycle(values)]
 #[inline(always)]
-fn apply_steps(
-    steps: &[PlacedStep],
+fn sum(terms: &[PlacedTerm], first: i64, memory: &[i64], fault: &mut ValueFault) -> Option<i64>
+    ensures { told result fault.new ≡ steps_at first (terms_view terms.now) memory.now }
+{
+    let mut so_far = first;
+    for term in terms {
+        let x = value(&term.value, memory, fault)?;
+        so_far = add(term.minus, so_far, x, fault)?;
+    }
+    Some(so_far)
+}
+
+/// A product, from its first operand on.
+#[cycle(values)]
+#[inline(always)]
+fn product(
+    factors: &[PlacedFactor],
     first: i64,
     memory: &[i64],
     fault: &mut ValueFault,
 ) -> Option<i64>
-    ensures { told result fault.new ≡ steps_at first (steps_view steps.now) memory.now }
+    ensures { told result fault.new ≡ steps_at first (factors_view factors.now) memory.now }
 {
     let mut so_far = first;
-    for step in steps {
-        let x = value(&step.value, memory, fault)?;
-        so_far = apply(step.op, so_far, x, fault)?;
+    for factor in factors {
+        let x = value(&factor.value, memory, fault)?;
+        so_far = multiply(factor.op, so_far, x, fault)?;
     }
     Some(so_far)
+}
+
+/// The operands of one level as a BOOL.
+#[cycle(values)]
+#[inline(always)]
+fn joined(
+    join: Join,
+    operands: &[PlacedExpr],
+    memory: &[i64],
+    fault: &mut ValueFault,
+) -> Option<i64>
+    ensures { told result fault.new
+        ≡ steps_at (of_bool (joined_none join)) (operands_view join operands.now) memory.now }
+{
+    let mut so_far = of_none(join);
+    for operand in operands {
+        let x = value(operand, memory, fault)?;
+        so_far = join_with(join, so_far, is_set(x));
+    }
+    Some(number(so_far))
+}
+
+/// The value of a condition, or why it has none.
+#[inline(always)]
+pub fn test(cond: &PlacedCond, memory: &[i64], fault: &mut ValueFault) -> Option<i64>
+    ensures { told result fault.new ≡ value_at (cond_view cond.now) memory.now }
+{
+    match cond {
+        PlacedCond::Test {
+            is,
+            holds,
+            place,
+            number: y,
+        } => Some(number(is_so(*is, *holds, read(memory, *place), *y))),
+        PlacedCond::Value(expr) => value(expr, memory, fault),
+    }
 }

@@ -5,7 +5,7 @@ use Rattle.st_ast.specs.Exec.{and_then, repeated}
 use Rattle.st_scan.specs.Endings.{outcome_of}
 use Rattle.st_scan.specs.PlacedValues.{value_at}
 use Rattle.st_scan.specs.PlacedExec.{exec_at}
-use Rattle.st_scan.specs.PlacedView.{expr_view, stmts_view}
+use Rattle.st_scan.specs.PlacedView.{cond_view, stmts_view}
 use Rattle.st_scan.proofs.Loop.{loop-turn, loop-stopped}
 use Rattle.st_scan.proofs.statements.+run.Goals as goal
 
@@ -23,7 +23,7 @@ repeat-turns-preserved t c =
     let v = c.in-Some.truth in
     let fits : FitsSigned w64 v = search rules in
     let goes : is_true v ≡ true = grind (arith, to_z-of_z, c.is_set.ensures) in
-    let cond = value_at (expr_view c.args.cond.now) in
+    let cond = value_at (cond_view c.args.cond.now) in
     let body = stmts_view c.args.body.now in
     record {
       less = omega (arith, c.in_ok-left.ensures.less, c.turns.invariant.less);
