@@ -1,6 +1,8 @@
 -- What statements do with their names resolved is what they do by name.
-use Rattle.std.proofs.Common.{◌≡◌, ℕ, zero, suc, ℤ, Bool, true, false, ◌&&◌, ◌||◌, List, refl, ap, ◌∙◌}
-use Rattle.std.specs.Prelude.{Result, Ok, Err, if◌then◌else◌}
+use Rattle.std.proofs.Common.{◌≡◌, ℕ, zero, suc, ℤ, Bool, true, false, ◌&&◌, ◌||◌, List, refl, ap, ◌∙◌, pos, negsuc, sym, inl, inr}
+use Rattle.std.specs.Prelude.{Result, Ok, Err, int_lt, int_le, nat_lt, nat_le, not, if◌then◌else◌}
+use Rattle.std.proofs.lemmas.Bool.{lt-ltb, le-ltb}
+use Rattle.std.proofs.lemmas.Bool.Decides.{leb_tells}
 use Rattle.st_ast.specs.declared.tree.StMul.{StMul}
 use Rattle.st_ast.specs.declared.tree.StMul.TheVariants as mul
 use Rattle.st_ast.specs.declared.tree.StOrder.{StOrder}
@@ -12,12 +14,11 @@ use Rattle.st_ast.specs.Exec.{Outcome, Ended, Faulted, OutOfTurns, Act, and_then
 use Rattle.st_ast.specs.Scan.{store_row, turns_of_scan, scan_of}
 use Rattle.st_ast.specs.View.{view_stmts, view}
 use Rattle.st_ast.specs.declared.tree.Program.{Program}
-use Rattle.st_scan.specs.declared.placed.Operator.{Operator}
-use Rattle.st_scan.specs.declared.placed.Operator.TheVariants as op
-use Rattle.st_scan.specs.Placing.{of_factor, of_term, of_order, of_equality, placed, placed_exprs, placed_factors, placed_terms, placed_stm, placed_stms, placed_branches, placed_other}
+use Rattle.st_scan.specs.Placing.{of_order, of_equality, placed, placed_exprs, placed_factors, placed_terms, placed_stm, placed_stms, placed_branches, placed_other}
 use Rattle.st_scan.specs.PlacedTree as to
+use Rattle.st_scan.specs.PlacedTree.{Operator, of_factor, of_term}
 use Rattle.st_scan.specs.PlacedValues.{value_at, steps_at, applied}
-use Rattle.st_scan.specs.PlacedExec.{exec_at, exec_one_at, exec_other_at, exec_choice_at}
+use Rattle.st_scan.specs.PlacedExec.{exec_at, exec_one_at, exec_choice_at}
 
 after : {X : Type 0} (r : Result ℤ Fault) (fails : Fault → X) (f g : ℤ → X) → ((v : ℤ) → f v ≡ g v) → with_value r fails f ≡ with_value r fails g
 after (Ok v) fails f g same = same v
@@ -47,25 +48,44 @@ term-same : (minus : Bool) (x y : ℤ) → applied (of_term minus) x y ≡ check
 term-same false x y = refl
 term-same true x y = refl
 
+not_at_most : (a b : ℕ) → not (nat_le a b) ≡ nat_lt b a
+not_at_most a b = elim (leb_tells a b) [ inl p ↦ ap not p.0 ∙ sym (le-ltb b a p.1) | inr p ↦ ap not p.0 ∙ sym (lt-ltb b a p.1) ]
+
+not_less : (a b : ℕ) → not (nat_lt a b) ≡ nat_le b a
+not_less a b = elim (leb_tells b a) [ inl p ↦ ap not (le-ltb a b p.1) ∙ sym p.0 | inr p ↦ ap not (lt-ltb a b p.1) ∙ sym p.0 ]
+
+-- a relation that does not hold is one of the operands the other way round
+turned : (x y : ℤ) → not (int_le x y) ≡ int_lt y x
+turned (pos a) (pos b) = not_at_most a b
+turned (pos a) (negsuc b) = refl
+turned (negsuc a) (pos b) = refl
+turned (negsuc a) (negsuc b) = not_at_most b a
+
+turned_at_most : (x y : ℤ) → not (int_lt x y) ≡ int_le y x
+turned_at_most (pos a) (pos b) = not_less a b
+turned_at_most (pos a) (negsuc b) = refl
+turned_at_most (negsuc a) (pos b) = refl
+turned_at_most (negsuc a) (negsuc b) = not_less b a
+
 order-same : (f : StOrder) (x y : ℤ) → applied (of_order f) x y ≡ Ok (of_bool (holds f x y))
 order-same cmp.Lt x y = refl
-order-same cmp.Gt x y = refl
+order-same cmp.Gt x y = ap (λ b. Ok (of_bool b)) (turned x y)
 order-same cmp.Le x y = refl
-order-same cmp.Ge x y = refl
+order-same cmp.Ge x y = ap (λ b. Ok (of_bool b)) (turned_at_most x y)
 
 equality-same : (same : Bool) (x y : ℤ) → applied (of_equality same) x y ≡ Ok (of_bool (are_equal same x y))
 equality-same true x y = refl
 equality-same false x y = refl
 
-and-same : (b : Bool) (x : ℤ) → applied op.And (of_bool b) x ≡ Ok (of_bool (b && is_true x))
+and-same : (b : Bool) (x : ℤ) → applied to.all (of_bool b) x ≡ Ok (of_bool (b && is_true x))
 and-same true x = refl
 and-same false x = refl
 
-xor-same : (b : Bool) (x : ℤ) → applied op.Xor (of_bool b) x ≡ Ok (of_bool (differ b (is_true x)))
+xor-same : (b : Bool) (x : ℤ) → applied to.odd (of_bool b) x ≡ Ok (of_bool (differ b (is_true x)))
 xor-same true x = refl
 xor-same false x = refl
 
-or-same : (b : Bool) (x : ℤ) → applied op.Or (of_bool b) x ≡ Ok (of_bool (b || is_true x))
+or-same : (b : Bool) (x : ℤ) → applied to.any (of_bool b) x ≡ Ok (of_bool (b || is_true x))
 or-same true x = refl
 or-same false x = refl
 
@@ -84,9 +104,9 @@ mutual
   value-same vars (sum e rest) m = with_value-same _ _ (λ e. Err e) _ _ (value-same vars e m) (λ x. sum-same vars x rest m)
   value-same vars (order a f b) m = both-same _ _ _ _ _ _ (value-same vars a m) (value-same vars b m) (order-same f)
   value-same vars (equal a same b) m = both-same _ _ _ _ _ _ (value-same vars a m) (value-same vars b m) (equality-same same)
-  value-same vars (all_of es) m = joined-same vars op.And _ and-same true es m
-  value-same vars (odd_of es) m = joined-same vars op.Xor _ xor-same false es m
-  value-same vars (any_of es) m = joined-same vars op.Or _ or-same false es m
+  value-same vars (all_of es) m = joined-same vars to.all _ and-same true es m
+  value-same vars (odd_of es) m = joined-same vars to.odd _ xor-same false es m
+  value-same vars (any_of es) m = joined-same vars to.any _ or-same false es m
   value-same vars (absolute e) m = with_value-same _ _ (λ e. Err e) _ _ (value-same vars e m) (λ x. refl)
   value-same vars (least a b) m = both-same _ _ _ _ _ _ (value-same vars a m) (value-same vars b m) (λ x y. refl)
   value-same vars (greatest a b) m = both-same _ _ _ _ _ _ (value-same vars a m) (value-same vars b m) (λ x y. refl)
@@ -135,7 +155,7 @@ mutual
   exec_one-same vars (choice bs o) n m = exec_choice-same vars bs _ _ (λ l k. exec_other-same vars o l k) n m
   exec_one-same vars (loop c ss) n m = repeated-same (suc n) _ _ _ _ (λ k. value-same vars c k) (λ l k. exec-same vars ss l k) n m
 
-  exec_other-same : (vars : List StVar) (o : Other) (n : ℕ) (m : Memory) → exec_other_at (placed_other vars o) n m ≡ exec_other vars o n m
+  exec_other-same : (vars : List StVar) (o : Other) (n : ℕ) (m : Memory) → exec_at (placed_other vars o) n m ≡ exec_other vars o n m
   exec_other-same vars no_other n m = refl
   exec_other-same vars (other ss) n m = exec-same vars ss n m
 

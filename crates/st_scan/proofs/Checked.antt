@@ -1,11 +1,12 @@
 -- What a checked sum or difference tells.
 use Rattle.std.proofs.Common.{◌≡◌, ◌<◌, ◌^◌, pos, negsuc, ℤ, refl, ap, arith, Option, Some, None, Bool, true, false, ◌⊎◌, inl, inr}
-use Rattle.std.specs.Prelude.{Result, Ok, Err}
+use Rattle.std.specs.Prelude.{Ok}
 use Rattle.std.specs.Int.{w64}
 use Rattle.std.specs.Int.RustNames.{FitsSigned}
 use Rattle.std.specs.Option.{SomeIff}
 use Rattle.std.proofs.lemmas.Bool.Decides.{nat_tests}
-use Rattle.st_ast.specs.Values.{Fault, overflow, fits, checked}
+use Rattle.st_ast.specs.Values.{fits, checked}
+use Rattle.st_scan.specs.Told.{or_overflow}
 
 pub fits-true : (z : ℤ) → FitsSigned w64 z → fits z ≡ true
 fits-true (pos n) h = let k : n < 2 ^ 63 = h.sfits in grind (arith, nat_tests)
@@ -18,11 +19,6 @@ fits-sound (negsuc n) e = let k : n < 2 ^ 63 = grind (arith, nat_tests) in recor
 cases_Bool : (b : Bool) → (b ≡ true) ⊎ (b ≡ false)
 cases_Bool true = inl refl
 cases_Bool false = inr refl
-
--- a number, or an overflow where there is none
-abbrev pub or_overflow : Option ℤ → Result ℤ Fault
-or_overflow (Some x) = Ok x
-or_overflow None = Err overflow
 
 pub checked-is : (r : Option ℤ) (z : ℤ) → SomeIff r (FitsSigned w64 z) z → or_overflow r ≡ checked z
 checked-is None z h =

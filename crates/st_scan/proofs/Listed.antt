@@ -10,11 +10,11 @@ use Rattle.st_ast.specs.declared.tree.StBranch.{StBranch}
 use Rattle.st_ast.specs.View.{view_expr, view_exprs, view_factor, view_factors, view_term, view_terms, view_stmt, view_stmts, view_branch, view_branches}
 use Rattle.st_scan.specs.PlacedTree as to
 use Rattle.st_scan.specs.PlacedView.{branches_of}
-use Rattle.st_scan.specs.declared.placed.Operator.{Operator}
-use Rattle.st_scan.specs.Placing.{of_factor, of_term, placed, placed_exprs, placed_factors, placed_terms, placed_stm, placed_stms, placed_branches}
+use Rattle.st_scan.specs.PlacedTree.{Operator, of_factor, of_term}
+use Rattle.st_scan.specs.Placing.{placed, placed_exprs, placed_factors, placed_terms, placed_stm, placed_stms, placed_branches}
 
-abbrev pub operand_placed : List StVar → Operator → StExpr → Operator × to.Expr
-operand_placed vars op e = (op, placed vars (view_expr e))
+abbrev pub operand_placed : List StVar → StExpr → to.Expr
+operand_placed vars e = placed vars (view_expr e)
 
 abbrev pub factor_placed : List StVar → StFactor → Operator × to.Expr
 factor_placed vars f = (of_factor (view_factor f).0, placed vars (view_factor f).1)
@@ -33,12 +33,12 @@ pub finished : {A B C : Type 0} (f : A → B) (g : C → B) (found : List A) (al
 finished f g found all i h is =
     sym (append-nil (map f found)) ∙ sym (ap (λ r. map f found ++ map g r) (drop_all i all h)) ∙ is
 
-each-operand : (vars : List StVar) (op : Operator) (es : List StExpr) → to.steps_of (map (operand_placed vars op) es) ≡ placed_exprs vars op (view_exprs es)
+each-operand : (vars : List StVar) (op : Operator) (es : List StExpr) → to.same_steps op (map (operand_placed vars) es) ≡ placed_exprs vars op (view_exprs es)
 each-operand vars op [] = refl
 each-operand vars op (e ∷ es) = ap (to.steps op (placed vars (view_expr e))) (each-operand vars op es)
 
-pub operands-placed : (vars : List StVar) (op : Operator) (es : List StExpr) (found : List (Operator × to.Expr)) → found ≡ map (operand_placed vars op) es → to.steps_of found ≡ placed_exprs vars op (view_exprs es)
-operands-placed vars op es found is = ap to.steps_of is ∙ each-operand vars op es
+pub operands-placed : (vars : List StVar) (op : Operator) (es : List StExpr) (found : List to.Expr) → found ≡ map (operand_placed vars) es → to.same_steps op found ≡ placed_exprs vars op (view_exprs es)
+operands-placed vars op es found is = ap (to.same_steps op) is ∙ each-operand vars op es
 
 each-factor : (vars : List StVar) (fs : List StFactor) → to.steps_of (map (factor_placed vars) fs) ≡ placed_factors vars (view_factors fs)
 each-factor vars [] = refl

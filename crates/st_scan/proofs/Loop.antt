@@ -1,15 +1,15 @@
 -- A loop, turn by turn: what it does from a test of its condition on.
 use Rattle.std.proofs.Common.{◌≡◌, ℕ, zero, suc, ◌≤◌, ◌<◌, ◌-◌, ℤ, Bool, true, false, refl, ap, sym, ◌∙◌, arith}
-use Rattle.std.specs.Prelude.{Result, Ok, Err, slice_set, if◌then◌else◌}
+use Rattle.std.specs.Prelude.{Result, Ok, Err, None, slice_set, if◌then◌else◌}
 use Rattle.st_ast.specs.declared.tree.StTy.{StTy}
 use Rattle.st_ast.specs.Values.{Fault, subrange_left, Memory, is_true, with_value}
 use Rattle.st_ast.specs.Exec.{Outcome, Ended, Faulted, OutOfTurns, Act, and_then, is_within, take_turn, repeated}
 use Rattle.st_scan.specs.declared.error.ScanErr.{ScanErr}
 use Rattle.st_scan.specs.declared.error.ScanErr.TheVariants.{Overflow, ZeroDivide, SubrangeLeft, Budget}
 use Rattle.st_scan.specs.Endings.{stopped, outcome_of}
-use Rattle.st_scan.specs.PlacedTree.{Stm, Stms, Branches, Other, assign, choice, loop, no_stms, stms, no_branches, branches, no_other, other}
+use Rattle.st_scan.specs.PlacedTree.{Stm, Stms, Branches, assign, choice, loop, no_stms, stms, no_branches, branches}
 use Rattle.st_scan.specs.PlacedValues.{value_at}
-use Rattle.st_scan.specs.PlacedExec.{store_at, exec_at, exec_one_at, exec_other_at, exec_choice_at}
+use Rattle.st_scan.specs.PlacedExec.{store_at, exec_at, exec_one_at, exec_choice_at}
 
 -- an outcome that leaves at most so many turns
 abbrev pub IsWithin : ℕ → Outcome → Type 0
@@ -60,12 +60,8 @@ mutual
 
   exec_one_at-shrinks : (s : Stm) → Shrinks (λ n m. exec_one_at s n m)
   exec_one_at-shrinks (assign k t e) n m = within-with_value (value_at e m) _ n (λ v. store_at-shrinks k t v n m)
-  exec_one_at-shrinks (choice bs o) n m = exec_choice_at-shrinks bs _ (exec_other_at-shrinks o) n m
+  exec_one_at-shrinks (choice bs o) n m = exec_choice_at-shrinks bs _ (exec_at-shrinks o) n m
   exec_one_at-shrinks (loop c ss) n m = repeated-shrinks (suc n) _ _ (exec_at-shrinks ss) n m
-
-  exec_other_at-shrinks : (o : Other) → Shrinks (λ n m. exec_other_at o n m)
-  exec_other_at-shrinks no_other n m = omega arith
-  exec_other_at-shrinks (other ss) n m = exec_at-shrinks ss n m
 
   exec_choice_at-shrinks : (bs : Branches) (last : Act) → Shrinks last → Shrinks (λ n m. exec_choice_at bs last n m)
   exec_choice_at-shrinks no_branches last s n m = s n m
@@ -129,7 +125,7 @@ loop-turn cond ss (suc n) m v is true_is some =
 
 -- a body that is stopped stops its loop
 pub loop-stopped : (cond : Memory → Result ℤ Fault) (ss : Stms) (n : ℕ) (m k : Memory) (v : ℤ) (e : ScanErr) → cond m ≡ Ok v → is_true v ≡ true → 0 < n
-    → exec_at ss (n - 1) m ≡ outcome_of (Err e) k → repeated (suc n) cond (λ i j. exec_at ss i j) n m ≡ outcome_of (Err e) k
+    → exec_at ss (n - 1) m ≡ outcome_of None e k → repeated (suc n) cond (λ i j. exec_at ss i j) n m ≡ outcome_of None e k
 loop-stopped cond ss n m k v e is true_is some stops =
     loop-turn cond ss n m v is true_is some
     ∙ ap (λ o. and_then o (λ i j. repeated (suc i) cond (λ x y. exec_at ss x y) i j)) stops

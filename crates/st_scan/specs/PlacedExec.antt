@@ -3,7 +3,7 @@ use Rattle.std.specs.Prelude.{ℕ, suc, ℤ, slice_set, if◌then◌else◌}
 use Rattle.st_ast.specs.Values.{subrange_left, is_true, with_value}
 use Rattle.st_ast.specs.Exec.{Ended, Faulted, Act, and_then, is_within, repeated}
 use Rattle.st_ast.specs.declared.tree.StTy.{StTy}
-use Rattle.st_scan.specs.PlacedTree.{Stm, Stms, Branches, Other, assign, choice, loop, no_stms, stms, no_branches, branches, no_other, other}
+use Rattle.st_scan.specs.PlacedTree.{Stm, Stms, Branches, assign, choice, loop, no_stms, stms, no_branches, branches}
 use Rattle.st_scan.specs.PlacedValues.{value_at}
 
 -- a value outside the subrange of its variable is a fault
@@ -17,12 +17,8 @@ abbrev mutual
 
   pub exec_one_at : Stm → Act
   exec_one_at (assign k t e) n m = with_value (value_at e m) Faulted (λ v. store_at k t v n m)
-  exec_one_at (choice bs o) n m = exec_choice_at bs (λ l k. exec_other_at o l k) n m
+  exec_one_at (choice bs other) n m = exec_choice_at bs (λ l k. exec_at other l k) n m
   exec_one_at (loop c ss) n m = repeated (suc n) (value_at c) (λ l k. exec_at ss l k) n m
-
-  pub exec_other_at : Other → Act
-  exec_other_at no_other n m = Ended n m
-  exec_other_at (other ss) n m = exec_at ss n m
 
   -- the first branch whose condition is TRUE, and the last part where none is
   pub exec_choice_at : Branches → Act → Act

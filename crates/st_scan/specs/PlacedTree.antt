@@ -1,8 +1,42 @@
 -- Helper of the code: statements whose names are resolved, as plain data. `PlacedView` ties it to the types of `src/`.
-use Rattle.std.specs.Prelude.{ℕ, ℤ, List, [], ◌∷◌}
+use Rattle.std.specs.Prelude.{ℕ, ℤ, Bool, true, false, List, [], ◌∷◌}
+use Rattle.st_ast.specs.declared.tree.StMul.{StMul}
+use Rattle.st_ast.specs.declared.tree.StMul.TheVariants as mul
 use Rattle.st_ast.specs.declared.tree.StTy.{StTy}
-use Rattle.st_scan.specs.declared.placed.Operator.{Operator}
+use Rattle.st_scan.specs.declared.placed.Join.{Join}
+use Rattle.st_scan.specs.declared.placed.Join.TheVariants as join
+use Rattle.st_scan.specs.declared.placed.Relation.{Relation}
 use Rattle.st_scan.specs.declared.placed.Single.{Single}
+
+-- an operation on two operands
+pub data Operator : Type 0 where
+  add subtract multiply divide remainder all odd any smaller larger : Operator
+  -- whether a relation holds, or whether it doesn't
+  is : Relation → (holds : Bool) → Operator
+
+abbrev pub of_term : Bool → Operator
+of_term false = add
+of_term true = subtract
+
+abbrev pub of_factor : StMul → Operator
+of_factor mul.Times = multiply
+of_factor mul.Div = divide
+of_factor mul.Mod = remainder
+
+abbrev pub of_join : Join → Operator
+of_join join.And = all
+of_join join.Xor = odd
+of_join join.Or = any
+
+abbrev pub of_extreme : Bool → Operator
+of_extreme true = larger
+of_extreme false = smaller
+
+-- what no operand comes to
+abbrev pub joined_none : Join → Bool
+joined_none join.And = true
+joined_none join.Xor = false
+joined_none join.Or = false
 
 mutual
   pub data Expr : Type 0 where
@@ -20,10 +54,10 @@ mutual
     steps : Operator → Expr → Steps → Steps
 
 mutual
-  -- an assignment has the place and the type of its variable
+  -- An assignment has the place and the type of its variable. Where there is no ELSE, nothing stands after it.
   pub data Stm : Type 0 where
     assign : ℕ → StTy → Expr → Stm
-    choice : Branches → Other → Stm
+    choice : Branches → Stms → Stm
     loop : Expr → Stms → Stm
 
   pub data Stms : Type 0 where
@@ -34,14 +68,14 @@ mutual
     no_branches : Branches
     branches : Expr → Stms → Branches → Branches
 
-  -- what stands after ELSE
-  pub data Other : Type 0 where
-    no_other : Other
-    other : Stms → Other
-
 abbrev pub steps_of : List (Operator × Expr) → Steps
 steps_of [] = no_steps
 steps_of (s ∷ ss) = steps s.0 s.1 (steps_of ss)
+
+-- each operand with the same operation before it
+abbrev pub same_steps : Operator → List Expr → Steps
+same_steps f [] = no_steps
+same_steps f (e ∷ es) = steps f e (same_steps f es)
 
 abbrev pub stms_of : List Stm → Stms
 stms_of [] = no_stms

@@ -1,12 +1,14 @@
 -- Helper of the code: the values of expressions whose names are resolved, by the words of `st_ast`. A place beyond the
 -- memory has the value 0.
-use Rattle.std.specs.Prelude.{ℤ, pos, neg_ℤ, nat_abs, true, false, not, ◌&&◌, ◌||◌, Result, Ok, Err, slice_index_or, if◌then◌else◌}
-use Rattle.st_ast.specs.Values.{Fault, Memory, of_bool, is_true, checked, with_value, both, holds, added, are_equal, multiplied, smaller, larger, differ}
+use Rattle.std.specs.Prelude.{ℤ, pos, neg_ℤ, nat_abs, int_lt, int_le, Bool, true, false, not, ◌&&◌, ◌||◌, Result, Ok, Err, slice_index_or, if◌then◌else◌}
+use Rattle.st_ast.specs.Values.{Fault, Memory, of_bool, is_true, checked, with_value, both, same_number, added, multiplied, smaller, larger, differ}
 use Rattle.st_ast.specs.declared.tree.StMul.TheVariants as mul
-use Rattle.st_ast.specs.declared.tree.StOrder.TheVariants as cmp
-use Rattle.st_scan.specs.PlacedTree.{Expr, Steps, number, placed, single, pair, chain, selected, no_steps, steps}
-use Rattle.st_scan.specs.declared.placed.Operator.{Operator}
-use Rattle.st_scan.specs.declared.placed.Operator.TheVariants as op
+use Rattle.st_scan.specs.PlacedTree.{Operator, Expr, Steps, number, placed, single, pair, chain, selected, no_steps, steps}
+use Rattle.st_scan.specs.PlacedTree as op
+use Rattle.st_scan.specs.declared.placed.Relation.{Relation}
+use Rattle.st_scan.specs.declared.placed.Relation.TheVariants as rel
+use Rattle.st_scan.specs.declared.placed.Join.{Join}
+use Rattle.st_scan.specs.declared.placed.Join.TheVariants as join
 use Rattle.st_scan.specs.declared.placed.Single.{Single}
 use Rattle.st_scan.specs.declared.placed.Single.TheVariants as one
 
@@ -15,23 +17,33 @@ applied_to one.Minus x = checked (neg_ℤ x)
 applied_to one.Not x = Ok (of_bool (not (is_true x)))
 applied_to one.Absolute x = checked (pos (nat_abs x))
 
+abbrev pub stands : Relation → ℤ → ℤ → Bool
+stands rel.Less x y = int_lt x y
+stands rel.AtMost x y = int_le x y
+stands rel.Equal x y = same_number x y
+
+-- whether a relation holds, or whether it doesn't
+abbrev pub related : Relation → Bool → ℤ → ℤ → Bool
+related r true x y = stands r x y
+related r false x y = not (stands r x y)
+
+abbrev pub joined_with : Join → Bool → Bool → Bool
+joined_with join.And a b = a && b
+joined_with join.Xor a b = differ a b
+joined_with join.Or a b = a || b
+
 abbrev pub applied : Operator → ℤ → ℤ → Result ℤ Fault
-applied op.Add x y = checked (added false x y)
-applied op.Subtract x y = checked (added true x y)
-applied op.Multiply x y = multiplied mul.Times x y
-applied op.Divide x y = multiplied mul.Div x y
-applied op.Remainder x y = multiplied mul.Mod x y
-applied op.Less x y = Ok (of_bool (holds cmp.Lt x y))
-applied op.Greater x y = Ok (of_bool (holds cmp.Gt x y))
-applied op.AtMost x y = Ok (of_bool (holds cmp.Le x y))
-applied op.AtLeast x y = Ok (of_bool (holds cmp.Ge x y))
-applied op.Equal x y = Ok (of_bool (are_equal true x y))
-applied op.Differ x y = Ok (of_bool (are_equal false x y))
-applied op.And x y = Ok (of_bool (is_true x && is_true y))
-applied op.Xor x y = Ok (of_bool (differ (is_true x) (is_true y)))
-applied op.Or x y = Ok (of_bool (is_true x || is_true y))
-applied op.Smaller x y = Ok (smaller x y)
-applied op.Larger x y = Ok (larger x y)
+applied op.add x y = checked (added false x y)
+applied op.subtract x y = checked (added true x y)
+applied op.multiply x y = multiplied mul.Times x y
+applied op.divide x y = multiplied mul.Div x y
+applied op.remainder x y = multiplied mul.Mod x y
+applied (op.is r holds) x y = Ok (of_bool (related r holds x y))
+applied op.all x y = Ok (of_bool (joined_with join.And (is_true x) (is_true y)))
+applied op.odd x y = Ok (of_bool (joined_with join.Xor (is_true x) (is_true y)))
+applied op.any x y = Ok (of_bool (joined_with join.Or (is_true x) (is_true y)))
+applied op.smaller x y = Ok (smaller x y)
+applied op.larger x y = Ok (larger x y)
 
 abbrev mutual
   pub value_at : Expr → Memory → Result ℤ Fault

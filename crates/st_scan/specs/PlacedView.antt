@@ -1,55 +1,81 @@
 -- Helper of the code: what tree of plain data a value of the types of `src/placed.rt` stands for. Each step sees one
 -- level, with its parts seen.
-use Rattle.std.specs.Prelude.{List, [], ◌∷◌, map, Option, Some, None}
-use Rattle.st_scan.specs.PlacedTree.{Expr, Steps, number, placed, single, pair, chain, selected, steps_of, Stm, Stms, Branches, Other, assign, choice, loop, stms_of, no_branches, branches, no_other, other}
-use Rattle.st_scan.specs.declared.placed.Operator.{Operator}
+use Rattle.std.specs.Prelude.{List, [], ◌∷◌, map}
+use Rattle.st_ast.specs.Values.{of_bool}
+use Rattle.st_scan.specs.PlacedTree as op
+use Rattle.st_scan.specs.PlacedTree.{Operator, of_term, of_factor, of_join, of_extreme, joined_none, Expr, Steps, number, placed, single, pair, chain, selected, steps_of, same_steps, Stm, Stms, Branches, assign, choice, loop, stms_of, no_branches, branches}
+use Rattle.st_scan.specs.declared.placed.Join.{Join}
 use Rattle.st_scan.specs.declared.placed.PlacedExpr.{PlacedExpr}
-use Rattle.st_scan.specs.declared.placed.PlacedExpr.TheOpen.{PlacedExpr-F, PlacedStep-F}
+use Rattle.st_scan.specs.declared.placed.PlacedExpr.TheOpen.{PlacedExpr-F, PlacedForm-F, PlacedTerm-F, PlacedFactor-F}
 use Rattle.st_scan.specs.declared.placed.PlacedExpr.TheOpen as E
-use Rattle.st_scan.specs.declared.placed.PlacedExpr.TheFolds.{fold-PlacedExpr, fold-PlacedStep}
-use Rattle.st_scan.specs.declared.placed.PlacedStep.{PlacedStep}
+use Rattle.st_scan.specs.declared.placed.PlacedExpr.TheFolds.{fold-PlacedExpr, fold-PlacedForm, fold-PlacedTerm, fold-PlacedFactor}
+use Rattle.st_scan.specs.declared.placed.PlacedForm.{PlacedForm}
+use Rattle.st_scan.specs.declared.placed.PlacedTerm.{PlacedTerm}
+use Rattle.st_scan.specs.declared.placed.PlacedFactor.{PlacedFactor}
+use Rattle.st_scan.specs.declared.placed.PlacedCond.{PlacedCond}
+use Rattle.st_scan.specs.declared.placed.PlacedCond.TheVariants as cond
 use Rattle.st_scan.specs.declared.placed.PlacedStmt.{PlacedStmt}
 use Rattle.st_scan.specs.declared.placed.PlacedStmt.TheOpen.{PlacedStmt-F, PlacedBranch-F}
 use Rattle.st_scan.specs.declared.placed.PlacedStmt.TheOpen as S
 use Rattle.st_scan.specs.declared.placed.PlacedStmt.TheFolds.{fold-PlacedStmt, fold-PlacedBranch}
 use Rattle.st_scan.specs.declared.placed.PlacedBranch.{PlacedBranch}
 
-abbrev pub expr_step : PlacedExpr-F Expr (Operator × Expr) → Expr
+abbrev pub expr_step : PlacedExpr-F Expr Expr (Operator × Expr) (Operator × Expr) → Expr
 expr_step (E.Number z) = number z
 expr_step (E.Place k) = placed k
-expr_step (E.Single op e) = single op e
-expr_step (E.Pair op a b) = pair a op b
-expr_step (E.Test op k z) = pair (placed k) op (number z)
-expr_step (E.Chain e rest) = chain e (steps_of rest)
-expr_step (E.Select c a b) = selected c a b
+expr_step (E.Form e) = e
 
-abbrev pub step_step : PlacedStep-F Expr (Operator × Expr) → Operator × Expr
-step_step s = (s.op, s.value)
+abbrev pub form_step : PlacedForm-F Expr Expr (Operator × Expr) (Operator × Expr) → Expr
+form_step (E.Single f e) = single f e
+form_step (E.Sum e rest) = chain e (steps_of rest)
+form_step (E.Product e rest) = chain e (steps_of rest)
+form_step (E.Joined j es) = chain (number (of_bool (joined_none j))) (same_steps (of_join j) es)
+form_step (E.Related r holds a b) = pair a (op.is r holds) b
+form_step (E.Extreme larger a b) = pair a (of_extreme larger) b
+form_step (E.Select c a b) = selected c a b
+
+abbrev pub term_step : PlacedTerm-F Expr Expr (Operator × Expr) (Operator × Expr) → Operator × Expr
+term_step t = (of_term t.minus, t.value)
+
+abbrev pub factor_step : PlacedFactor-F Expr Expr (Operator × Expr) (Operator × Expr) → Operator × Expr
+factor_step f = (of_factor f.op, f.value)
 
 abbrev pub expr_view : PlacedExpr → Expr
-expr_view = fold-PlacedExpr _ _ expr_step step_step
+expr_view = fold-PlacedExpr _ _ _ _ expr_step form_step factor_step term_step
 
-abbrev pub step_view : PlacedStep → Operator × Expr
-step_view = fold-PlacedStep _ _ expr_step step_step
+abbrev pub form_view : PlacedForm → Expr
+form_view = fold-PlacedForm _ _ _ _ expr_step form_step factor_step term_step
 
-abbrev pub steps_view : List PlacedStep → Steps
-steps_view ss = steps_of (map step_view ss)
+abbrev pub term_view : PlacedTerm → Operator × Expr
+term_view = fold-PlacedTerm _ _ _ _ expr_step form_step factor_step term_step
+
+abbrev pub factor_view : PlacedFactor → Operator × Expr
+factor_view = fold-PlacedFactor _ _ _ _ expr_step form_step factor_step term_step
+
+abbrev pub terms_view : List PlacedTerm → Steps
+terms_view ts = steps_of (map term_view ts)
+
+abbrev pub factors_view : List PlacedFactor → Steps
+factors_view fs = steps_of (map factor_view fs)
+
+abbrev pub operands_view : Join → List PlacedExpr → Steps
+operands_view j es = same_steps (of_join j) (map expr_view es)
+
+abbrev pub cond_view : PlacedCond → Expr
+cond_view (cond.Test r holds k z) = pair (placed k) (op.is r holds) (number z)
+cond_view (cond.Value e) = expr_view e
 
 abbrev pub branches_of : List (Expr × Stms) → Branches
 branches_of [] = no_branches
 branches_of (b ∷ bs) = branches b.0 b.1 (branches_of bs)
 
-abbrev pub other_of : Option (List Stm) → Other
-other_of None = no_other
-other_of (Some ss) = other (stms_of ss)
-
 abbrev pub stmt_step : PlacedStmt-F Stm (Expr × Stms) → Stm
 stmt_step (S.Assign k t e) = assign k t (expr_view e)
-stmt_step (S.If bs o) = choice (branches_of bs) (other_of o)
-stmt_step (S.While c ss) = loop (expr_view c) (stms_of ss)
+stmt_step (S.If bs o) = choice (branches_of bs) (stms_of o)
+stmt_step (S.While c ss) = loop (cond_view c) (stms_of ss)
 
 abbrev pub branch_step : PlacedBranch-F Stm (Expr × Stms) → Expr × Stms
-branch_step b = (expr_view b.cond, stms_of b.body)
+branch_step b = (cond_view b.cond, stms_of b.body)
 
 abbrev pub stmt_view : PlacedStmt → Stm
 stmt_view = fold-PlacedStmt _ _ stmt_step branch_step

@@ -5,34 +5,22 @@ use Rattle.st_ast.specs.Names.{place_of}
 use Rattle.st_ast.specs.Tree.{Expr, Exprs, Factors, Terms, truth, number, named, paren, negation, complement, product, sum, order, equal, all_of, odd_of, any_of, absolute, least, greatest, selection, no_exprs, exprs, no_factors, factors, no_terms, terms, Stm, Stms, Branches, Other, assign, choice, loop, no_stms, stms, no_branches, branches, no_other, other}
 use Rattle.st_ast.specs.Values.{of_bool}
 use Rattle.st_ast.specs.Exec.{type_at}
-use Rattle.st_ast.specs.declared.tree.StMul.{StMul}
-use Rattle.st_ast.specs.declared.tree.StMul.TheVariants as mul
 use Rattle.st_ast.specs.declared.tree.StOrder.{StOrder}
 use Rattle.st_ast.specs.declared.tree.StOrder.TheVariants as cmp
 use Rattle.st_ast.specs.declared.tree.StVar.{StVar}
 use Rattle.st_scan.specs.PlacedTree as to
-use Rattle.st_scan.specs.declared.placed.Operator.{Operator}
-use Rattle.st_scan.specs.declared.placed.Operator.TheVariants as op
+use Rattle.st_scan.specs.PlacedTree.{Operator, of_factor, of_term}
+use Rattle.st_scan.specs.declared.placed.Relation.TheVariants as rel
 use Rattle.st_scan.specs.declared.placed.Single.TheVariants as one
 
-abbrev pub of_factor : StMul → Operator
-of_factor mul.Times = op.Multiply
-of_factor mul.Div = op.Divide
-of_factor mul.Mod = op.Remainder
-
-abbrev pub of_term : Bool → Operator
-of_term false = op.Add
-of_term true = op.Subtract
-
 abbrev pub of_order : StOrder → Operator
-of_order cmp.Lt = op.Less
-of_order cmp.Gt = op.Greater
-of_order cmp.Le = op.AtMost
-of_order cmp.Ge = op.AtLeast
+of_order cmp.Lt = to.is rel.Less true
+of_order cmp.Gt = to.is rel.AtMost false
+of_order cmp.Le = to.is rel.AtMost true
+of_order cmp.Ge = to.is rel.Less false
 
 abbrev pub of_equality : Bool → Operator
-of_equality true = op.Equal
-of_equality false = op.Differ
+of_equality same = to.is rel.Equal same
 
 abbrev mutual
   pub placed : List StVar → Expr → to.Expr
@@ -46,12 +34,12 @@ abbrev mutual
   placed vars (sum e rest) = to.chain (placed vars e) (placed_terms vars rest)
   placed vars (order a f b) = to.pair (placed vars a) (of_order f) (placed vars b)
   placed vars (equal a same b) = to.pair (placed vars a) (of_equality same) (placed vars b)
-  placed vars (all_of es) = to.chain (to.number (pos 1)) (placed_exprs vars op.And es)
-  placed vars (odd_of es) = to.chain (to.number (pos 0)) (placed_exprs vars op.Xor es)
-  placed vars (any_of es) = to.chain (to.number (pos 0)) (placed_exprs vars op.Or es)
+  placed vars (all_of es) = to.chain (to.number (pos 1)) (placed_exprs vars to.all es)
+  placed vars (odd_of es) = to.chain (to.number (pos 0)) (placed_exprs vars to.odd es)
+  placed vars (any_of es) = to.chain (to.number (pos 0)) (placed_exprs vars to.any es)
   placed vars (absolute e) = to.single one.Absolute (placed vars e)
-  placed vars (least a b) = to.pair (placed vars a) op.Smaller (placed vars b)
-  placed vars (greatest a b) = to.pair (placed vars a) op.Larger (placed vars b)
+  placed vars (least a b) = to.pair (placed vars a) to.smaller (placed vars b)
+  placed vars (greatest a b) = to.pair (placed vars a) to.larger (placed vars b)
   placed vars (selection g a b) = to.selected (placed vars g) (placed vars a) (placed vars b)
 
   -- each operand with the same operator before it
@@ -81,6 +69,6 @@ abbrev mutual
   placed_branches vars no_branches = to.no_branches
   placed_branches vars (branches c ss bs) = to.branches (placed vars c) (placed_stms vars ss) (placed_branches vars bs)
 
-  pub placed_other : List StVar → Other → to.Other
-  placed_other vars no_other = to.no_other
-  placed_other vars (other ss) = to.other (placed_stms vars ss)
+  pub placed_other : List StVar → Other → to.Stms
+  placed_other vars no_other = to.no_stms
+  placed_other vars (other ss) = placed_stms vars ss

@@ -83,18 +83,20 @@ impl<'a> Machine<'a> {
             scan_of (view self.old.program) self.old.memory row.now ≡ stopped e) }
         ensures kept { OnErr result (self.new.memory ≡ self.old.memory) }
     {
+        let mut why = ScanErr::Budget;
         match execute(
             self.program,
             self.body.as_slice(),
             row,
             self.memory.as_slice(),
             self.work.as_mut_slice(),
+            &mut why,
         ) {
-            Ok(_) => {
+            Some(_) => {
                 std::mem::swap(&mut self.memory, &mut self.work);
                 Ok(())
             }
-            Err(error) => Err(error),
+            None => Err(why),
         }
     }
 
@@ -188,12 +190,13 @@ fn execute(
     row: &[i64],
     memory: &[i64],
     work: &mut [i64],
-) -> Result<u32, ScanErr>
+    why: &mut ScanErr,
+) -> Option<u32>
     requires resolved { stmts_view body.now ≡ placed_stms program.now.vars (view_stmts program.now.body) }
     requires memory { length memory.now ≡ length program.now.vars }
     requires work { length work.old ≡ length program.now.vars }
-    ensures { scan_of (view program.now) memory.now row.now ≡ outcome_of result work.new }
+    ensures { scan_of (view program.now) memory.now row.now ≡ outcome_of result why.new work.new }
 {
     store(program.program().vars.as_slice(), row, memory, work);
-    run(body, work, TURNS)
+    run(body, work, TURNS, why)
 }

@@ -1,7 +1,7 @@
 //! Expressions and statements whose names are resolved: a variable stands as its place among the declared ones.
 
 use cif_base::{Boxed, Items};
-use st_ast::StTy;
+use st_ast::{StMul, StTy};
 
 /// An operation on one operand.
 #[derive(Clone, Copy, Debug, PartialEq, Eq)]
@@ -11,68 +11,100 @@ pub enum Single {
     Absolute,
 }
 
-/// An operation on two operands.
+/// How one number stands to another. The other relations are these three not holding, or the operands the other way round.
 #[derive(Clone, Copy, Debug, PartialEq, Eq)]
-pub enum Operator {
-    Add,
-    Subtract,
-    Multiply,
-    Divide,
-    Remainder,
+pub enum Relation {
     Less,
-    Greater,
     AtMost,
-    AtLeast,
     Equal,
-    Differ,
+}
+
+/// What joins the operands of one level to a BOOL.
+#[derive(Clone, Copy, Debug, PartialEq, Eq)]
+pub enum Join {
     And,
     Xor,
     Or,
-    Smaller,
-    Larger,
 }
 
-/// An expression. A literal is its number, and parentheses are gone. The operands of one level are a chain, which is worked
-/// out from left to right. `Test` is a pair of a variable and a number, which programs have most, in one piece of memory.
+/// An expression. A literal is its number, and parentheses are gone. A number and a variable take no memory of their own.
 #[cycle(placed_expressions)]
 #[derive(Debug, Drop)]
 pub enum PlacedExpr {
     Number(i64),
     Place(u32),
+    Form(Boxed<PlacedForm>),
+}
+
+/// An operation with its operands.
+#[cycle(placed_expressions)]
+#[derive(Debug, Drop)]
+pub enum PlacedForm {
     Single {
         op: Single,
-        operand: Boxed<PlacedExpr>,
+        operand: PlacedExpr,
     },
-    Pair {
-        op: Operator,
-        first: Boxed<PlacedExpr>,
-        second: Boxed<PlacedExpr>,
+    Sum {
+        first: PlacedExpr,
+        rest: Items<PlacedTerm>,
     },
-    Test {
-        op: Operator,
-        place: u32,
-        number: i64,
+    Product {
+        first: PlacedExpr,
+        rest: Items<PlacedFactor>,
     },
-    Chain {
-        first: Boxed<PlacedExpr>,
-        rest: Items<PlacedStep>,
+    Joined {
+        join: Join,
+        operands: Items<PlacedExpr>,
+    },
+    /// Whether the relation holds, or whether it doesn't.
+    Related {
+        is: Relation,
+        holds: bool,
+        first: PlacedExpr,
+        second: PlacedExpr,
+    },
+    /// The larger of two values, or the smaller.
+    Extreme {
+        larger: bool,
+        first: PlacedExpr,
+        second: PlacedExpr,
     },
     Select {
-        condition: Boxed<PlacedExpr>,
-        otherwise: Boxed<PlacedExpr>,
-        then: Boxed<PlacedExpr>,
+        condition: PlacedExpr,
+        otherwise: PlacedExpr,
+        then: PlacedExpr,
     },
 }
 
-/// A further operand of a chain, with the operation that takes it.
+/// A further operand of a sum.
 #[cycle(placed_expressions)]
 #[derive(Debug, Drop)]
-pub struct PlacedStep {
-    pub op: Operator,
+pub struct PlacedTerm {
+    pub minus: bool,
     pub value: PlacedExpr,
 }
 
-/// A statement. An assignment holds the type of its variable, and `other` is what stands after `ELSE`, if it is there.
+/// A further operand of a product.
+#[cycle(placed_expressions)]
+#[derive(Debug, Drop)]
+pub struct PlacedFactor {
+    pub op: StMul,
+    pub value: PlacedExpr,
+}
+
+/// A condition. What programs have most, a variable beside a number, stands in place.
+#[derive(Debug, Drop)]
+pub enum PlacedCond {
+    Test {
+        is: Relation,
+        holds: bool,
+        place: u32,
+        number: i64,
+    },
+    Value(PlacedExpr),
+}
+
+/// A statement. An assignment holds the type of its variable, and `other` is what stands after `ELSE`.
 #[cycle(placed_statements)]
 #[derive(Debug, Drop)]
 pub enum PlacedStmt {
@@ -83,10 +115,10 @@ pub enum PlacedStmt {
     },
     If {
         branches: Items<PlacedBranch>,
-        other: Option<Items<PlacedStmt>>,
+        other: Items<PlacedStmt>,
     },
     While {
-        cond: PlacedExpr,
+        cond: PlacedCond,
         body: Items<PlacedStmt>,
     },
 }
@@ -95,6 +127,6 @@ pub enum PlacedStmt {
 #[cycle(placed_statements)]
 #[derive(Debug, Drop)]
 pub struct PlacedBranch {
-    pub cond: PlacedExpr,
+    pub cond: PlacedCond,
     pub body: Items<PlacedStmt>,
 }

@@ -3,16 +3,20 @@
 ghost use Rattle.std.specs.Prelude.{◌≡◌, IfOk};
 ghost use Rattle.st_ast.specs.Exec.{type_at};
 ghost use Rattle.st_ast.specs.Names.{place_of};
+ghost use Rattle.st_ast.specs.Values.{of_bool};
 ghost use Rattle.st_ast.specs.View.{view_expr, view_exprs, view_factors, view_terms, view_stmt, view_stmts, view_branches};
 ghost use Rattle.st_scan.specs.PlacedTree as to;
-ghost use Rattle.st_scan.specs.PlacedView.{expr_view, steps_view, stmt_view, stmts_view, branches_view};
+ghost use Rattle.st_scan.specs.PlacedView.{expr_view, form_view, terms_view, factors_view, operands_view, cond_view, stmt_view, stmts_view, branches_view};
 ghost use Rattle.st_scan.specs.Placing as placing;
 ghost use Rattle.st_scan.specs.Placing.{placed, placed_exprs, placed_factors, placed_terms, placed_stm, placed_stms, placed_branches};
 
-use crate::placed::{Operator, PlacedBranch, PlacedExpr, PlacedStep, PlacedStmt, Single};
+use crate::placed::{
+    Join, PlacedBranch, PlacedCond, PlacedExpr, PlacedFactor, PlacedForm, PlacedStmt, PlacedTerm,
+    Relation, Single,
+};
 use crate::values::number;
 use cif_base::{Boxed, Items, Memory};
-use st_ast::{StBranch, StExpr, StFactor, StMul, StOrder, StTerm, StTy, StVar, Stmt};
+use st_ast::{StBranch, StExpr, StFactor, StOrder, StTerm, StTy, StVar, Stmt};
 use st_check::Checked;
 use std::alloc::Global;
 
@@ -35,159 +39,160 @@ fn type_of(vars: &[StVar], place: usize) -> StTy
     }
 }
 
-fn of_factor(op: StMul) -> Operator
-    ensures { result ≡ placing.of_factor op }
+/// The relation of an order, and whether it holds.
+fn of_order(op: StOrder) -> (Relation, bool)
+    ensures { to.is result.0 result.1 ≡ placing.of_order op }
 {
     match op {
-        StMul::Times => Operator::Multiply,
-        StMul::Div => Operator::Divide,
-        StMul::Mod => Operator::Remainder,
+        StOrder::Lt => (Relation::Less, true),
+        StOrder::Gt => (Relation::AtMost, false),
+        StOrder::Le => (Relation::AtMost, true),
+        StOrder::Ge => (Relation::Less, false),
     }
 }
 
-fn of_term(minus: bool) -> Operator
-    ensures { result ≡ placing.of_term minus }
+/// An operation with its operands, in a box.
+fn formed(alloc: Global, form: PlacedForm) -> Result<PlacedExpr, Memory>
+    ensures { IfOk result (λ e. expr_view e ≡ form_view form) }
 {
-    if minus {
-        Operator::Subtract
-    } else {
-        Operator::Add
-    }
+    Ok(PlacedExpr::Form(Boxed::new(alloc, form)?))
 }
 
-fn of_order(op: StOrder) -> Operator
-    ensures { result ≡ placing.of_order op }
-{
-    match op {
-        StOrder::Lt => Operator::Less,
-        StOrder::Gt => Operator::Greater,
-        StOrder::Le => Operator::AtMost,
-        StOrder::Ge => Operator::AtLeast,
-    }
-}
-
-fn of_equality(equal: bool) -> Operator
-    ensures { result ≡ placing.of_equality equal }
-{
-    if equal {
-        Operator::Equal
-    } else {
-        Operator::Differ
-    }
-}
-
-fn chain(
+fn relation(
     alloc: Global,
-    first: Boxed<PlacedExpr>,
-    rest: Items<PlacedStep>,
-) -> Result<Boxed<PlacedExpr>, Memory>
-    ensures { IfOk result (λ e. expr_view e ≡ to.chain (expr_view first) (steps_view rest)) }
+    first: PlacedExpr,
+    is: Relation,
+    holds: bool,
+    second: PlacedExpr,
+) -> Result<PlacedExpr, Memory>
+    ensures { IfOk result (λ e. expr_view e ≡ to.pair (expr_view first) (to.is is holds) (expr_view second)) }
 {
-    Boxed::new(alloc, PlacedExpr::Chain { first, rest })
+    let form = PlacedForm::Related {
+        is,
+        holds,
+        first,
+        second,
+    };
+    formed(alloc, form)
 }
 
-/// An operation on two operands.
-fn pair(
+fn extreme(
     alloc: Global,
-    first: Boxed<PlacedExpr>,
-    op: Operator,
-    second: Boxed<PlacedExpr>,
-) -> Result<Boxed<PlacedExpr>, Memory>
-    ensures { IfOk result (λ e. expr_view e ≡ to.pair (expr_view first) op (expr_view second)) }
+    first: PlacedExpr,
+    larger: bool,
+    second: PlacedExpr,
+) -> Result<PlacedExpr, Memory>
+    ensures { IfOk result (λ e. expr_view e ≡ to.pair (expr_view first) (to.of_extreme larger) (expr_view second)) }
 {
-    if let (PlacedExpr::Place(place), PlacedExpr::Number(number)) = (first.get(), second.get()) {
-        let (place, number) = (*place, *number);
-        return Boxed::new(alloc, PlacedExpr::Test { op, place, number });
+    let form = PlacedForm::Extreme {
+        larger,
+        first,
+        second,
+    };
+    formed(alloc, form)
+}
+
+fn join_all(alloc: Global, join: Join, operands: Items<PlacedExpr>) -> Result<PlacedExpr, Memory>
+    ensures { IfOk result (λ e. expr_view e
+        ≡ to.chain (to.number (of_bool (to.joined_none join))) (operands_view join operands)) }
+{
+    formed(alloc, PlacedForm::Joined { join, operands })
+}
+
+fn select(
+    alloc: Global,
+    condition: PlacedExpr,
+    otherwise: PlacedExpr,
+    then: PlacedExpr,
+) -> Result<PlacedExpr, Memory>
+    ensures { IfOk result (λ e. expr_view e
+        ≡ to.selected (expr_view condition) (expr_view otherwise) (expr_view then)) }
+{
+    let form = PlacedForm::Select {
+        condition,
+        otherwise,
+        then,
+    };
+    formed(alloc, form)
+}
+
+/// An expression as a condition.
+fn condition(expr: PlacedExpr) -> PlacedCond
+    ensures { cond_view result ≡ expr_view expr }
+{
+    if let PlacedExpr::Form(form) = &expr
+        && let PlacedForm::Related {
+            is,
+            holds,
+            first: PlacedExpr::Place(place),
+            second: PlacedExpr::Number(number),
+        } = form.get()
+    {
+        let (is, holds, place, number) = (*is, *holds, *place, *number);
+        return PlacedCond::Test {
+            is,
+            holds,
+            place,
+            number,
+        };
     }
-    Boxed::new(alloc, PlacedExpr::Pair { op, first, second })
+    PlacedCond::Value(expr)
 }
 
-/// A chain from a number on.
-fn chain_from(
-    alloc: Global,
-    number: i64,
-    rest: Items<PlacedStep>,
-) -> Result<Boxed<PlacedExpr>, Memory>
-    ensures { IfOk result (λ e. expr_view e ≡ to.chain (to.number number) (steps_view rest)) }
-{
-    let first = Boxed::new(alloc, PlacedExpr::Number(number))?;
-    chain(alloc, first, rest)
-}
-
-/// An expression in a box, in which it is quick to check.
 #[cycle(resolve_expressions)]
-fn resolve_expr(
-    alloc: Global,
-    program: &Checked,
-    expr: &StExpr,
-) -> Result<Boxed<PlacedExpr>, Memory>
+fn resolve_expr(alloc: Global, program: &Checked, expr: &StExpr) -> Result<PlacedExpr, Memory>
     ensures { IfOk result (λ e. expr_view e ≡ placed program.now.vars (view_expr expr.now)) }
 {
     match expr {
-        StExpr::Bool(truth) => Boxed::new(alloc, PlacedExpr::Number(number(*truth))),
-        StExpr::Int(number) => Boxed::new(alloc, PlacedExpr::Number(*number)),
+        StExpr::Bool(truth) => Ok(PlacedExpr::Number(number(*truth))),
+        StExpr::Int(number) => Ok(PlacedExpr::Number(*number)),
         StExpr::Named(name) => {
             let place = find_place(alloc, program, name.as_slice())?;
-            Boxed::new(alloc, PlacedExpr::Place(place))
+            Ok(PlacedExpr::Place(place))
         }
         StExpr::Paren(inner) => resolve_expr(alloc, program, inner.get()),
-        StExpr::Neg(operand) => resolve_single(alloc, program, Single::Minus, operand.get()),
-        StExpr::Not(operand) => resolve_single(alloc, program, Single::Not, operand.get()),
-        StExpr::Abs(operand) => resolve_single(alloc, program, Single::Absolute, operand.get()),
+        StExpr::Neg(inner) => resolve_single(alloc, program, Single::Minus, inner.get()),
+        StExpr::Not(inner) => resolve_single(alloc, program, Single::Not, inner.get()),
+        StExpr::Abs(inner) => resolve_single(alloc, program, Single::Absolute, inner.get()),
         StExpr::Product { first, rest } => {
             let first = resolve_expr(alloc, program, first.get())?;
             let rest = resolve_factors(alloc, program, rest.as_slice())?;
-            chain(alloc, first, rest)
+            formed(alloc, PlacedForm::Product { first, rest })
         }
         StExpr::Sum { first, rest } => {
             let first = resolve_expr(alloc, program, first.get())?;
             let rest = resolve_terms(alloc, program, rest.as_slice())?;
-            chain(alloc, first, rest)
+            formed(alloc, PlacedForm::Sum { first, rest })
         }
         StExpr::Order { left, op, right } => {
             let first = resolve_expr(alloc, program, left.get())?;
             let second = resolve_expr(alloc, program, right.get())?;
-            pair(alloc, first, of_order(*op), second)
+            let (is, holds) = of_order(*op);
+            relation(alloc, first, is, holds, second)
         }
         StExpr::Equal { left, equal, right } => {
             let first = resolve_expr(alloc, program, left.get())?;
             let second = resolve_expr(alloc, program, right.get())?;
-            pair(alloc, first, of_equality(*equal), second)
+            relation(alloc, first, Relation::Equal, *equal, second)
         }
         StExpr::Min(left, right) => {
             let first = resolve_expr(alloc, program, left.get())?;
             let second = resolve_expr(alloc, program, right.get())?;
-            pair(alloc, first, Operator::Smaller, second)
+            extreme(alloc, first, false, second)
         }
         StExpr::Max(left, right) => {
             let first = resolve_expr(alloc, program, left.get())?;
             let second = resolve_expr(alloc, program, right.get())?;
-            pair(alloc, first, Operator::Larger, second)
+            extreme(alloc, first, true, second)
         }
-        StExpr::And(operands) => {
-            let rest = resolve_operands(alloc, program, Operator::And, operands.as_slice())?;
-            chain_from(alloc, 1, rest)
-        }
-        StExpr::Xor(operands) => {
-            let rest = resolve_operands(alloc, program, Operator::Xor, operands.as_slice())?;
-            chain_from(alloc, 0, rest)
-        }
-        StExpr::Or(operands) => {
-            let rest = resolve_operands(alloc, program, Operator::Or, operands.as_slice())?;
-            chain_from(alloc, 0, rest)
-        }
+        StExpr::And(all) => resolve_joined(alloc, program, Join::And, all.as_slice()),
+        StExpr::Xor(all) => resolve_joined(alloc, program, Join::Xor, all.as_slice()),
+        StExpr::Or(all) => resolve_joined(alloc, program, Join::Or, all.as_slice()),
         StExpr::Sel(condition, otherwise, then) => {
             let condition = resolve_expr(alloc, program, condition.get())?;
             let otherwise = resolve_expr(alloc, program, otherwise.get())?;
             let then = resolve_expr(alloc, program, then.get())?;
-            Boxed::new(
-                alloc,
-                PlacedExpr::Select {
-                    condition,
-                    otherwise,
-                    then,
-                },
-            )
+            select(alloc, condition, otherwise, then)
         }
     }
 }
@@ -198,29 +203,29 @@ fn resolve_single(
     program: &Checked,
     op: Single,
     operand: &StExpr,
-) -> Result<Boxed<PlacedExpr>, Memory>
+) -> Result<PlacedExpr, Memory>
     ensures { IfOk result (λ e. expr_view e ≡ to.single op (placed program.now.vars (view_expr operand.now))) }
 {
     let operand = resolve_expr(alloc, program, operand)?;
-    Boxed::new(alloc, PlacedExpr::Single { op, operand })
+    formed(alloc, PlacedForm::Single { op, operand })
 }
 
-/// The steps with one operation at each operand.
+/// The operands of one level, joined.
 #[cycle(resolve_expressions)]
-fn resolve_operands(
+fn resolve_joined(
     alloc: Global,
     program: &Checked,
-    op: Operator,
+    join: Join,
     operands: &[StExpr],
-) -> Result<Items<PlacedStep>, Memory>
-    ensures { IfOk result (λ ss. steps_view ss ≡ placed_exprs program.now.vars op (view_exprs operands.now)) }
+) -> Result<PlacedExpr, Memory>
+    ensures { IfOk result (λ e. expr_view e ≡ to.chain (to.number (of_bool (to.joined_none join)))
+        (placed_exprs program.now.vars (to.of_join join) (view_exprs operands.now))) }
 {
-    let mut found = Items::new(alloc);
+    let mut found = Vec::with_capacity(alloc, operands.len())?;
     for operand in operands {
-        let value = resolve_expr(alloc, program, operand)?.into_inner();
-        found.push(PlacedStep { op, value })?;
+        found.push(resolve_expr(alloc, program, operand)?)?;
     }
-    Ok(found)
+    join_all(alloc, join, Items::from_vec(found))
 }
 
 #[cycle(resolve_expressions)]
@@ -228,16 +233,16 @@ fn resolve_factors(
     alloc: Global,
     program: &Checked,
     factors: &[StFactor],
-) -> Result<Items<PlacedStep>, Memory>
-    ensures { IfOk result (λ ss. steps_view ss ≡ placed_factors program.now.vars (view_factors factors.now)) }
+) -> Result<Items<PlacedFactor>, Memory>
+    ensures { IfOk result (λ fs. factors_view fs ≡ placed_factors program.now.vars (view_factors factors.now)) }
 {
-    let mut found = Items::new(alloc);
+    let mut found = Vec::with_capacity(alloc, factors.len())?;
     for factor in factors {
-        let value = resolve_expr(alloc, program, &factor.value)?.into_inner();
-        let op = of_factor(factor.op);
-        found.push(PlacedStep { op, value })?;
+        let value = resolve_expr(alloc, program, &factor.value)?;
+        let op = factor.op;
+        found.push(PlacedFactor { op, value })?;
     }
-    Ok(found)
+    Ok(Items::from_vec(found))
 }
 
 #[cycle(resolve_expressions)]
@@ -245,26 +250,16 @@ fn resolve_terms(
     alloc: Global,
     program: &Checked,
     terms: &[StTerm],
-) -> Result<Items<PlacedStep>, Memory>
-    ensures { IfOk result (λ ss. steps_view ss ≡ placed_terms program.now.vars (view_terms terms.now)) }
+) -> Result<Items<PlacedTerm>, Memory>
+    ensures { IfOk result (λ ts. terms_view ts ≡ placed_terms program.now.vars (view_terms terms.now)) }
 {
-    let mut found = Items::new(alloc);
+    let mut found = Vec::with_capacity(alloc, terms.len())?;
     for term in terms {
-        let value = resolve_expr(alloc, program, &term.value)?.into_inner();
-        let op = of_term(term.minus);
-        found.push(PlacedStep { op, value })?;
+        let value = resolve_expr(alloc, program, &term.value)?;
+        let minus = term.minus;
+        found.push(PlacedTerm { minus, value })?;
     }
-    Ok(found)
-}
-
-/// The statement of branches and of what stands after `ELSE`.
-fn choose_or(branches: Items<PlacedBranch>, body: Items<PlacedStmt>) -> PlacedStmt
-    ensures { stmt_view result ≡ to.choice (branches_view branches) (to.other (stmts_view body)) }
-{
-    PlacedStmt::If {
-        branches,
-        other: Some(body),
-    }
+    Ok(Items::from_vec(found))
 }
 
 #[cycle(resolve_statements)]
@@ -275,25 +270,20 @@ fn resolve_stmt(alloc: Global, program: &Checked, stmt: &Stmt) -> Result<Boxed<P
         Stmt::Assign { target, value } => {
             let place = find_place(alloc, program, target.as_slice())?;
             let ty = type_of(program.program().vars.as_slice(), place as usize);
-            let value = resolve_expr(alloc, program, value)?.into_inner();
+            let value = resolve_expr(alloc, program, value)?;
             Boxed::new(alloc, PlacedStmt::Assign { place, ty, value })
         }
         Stmt::If { branches, other } => {
             let branches = resolve_branches(alloc, program, branches.as_slice())?;
-            match other {
-                Some(body) => {
-                    let body = resolve_stmts(alloc, program, body.as_slice())?;
-                    Boxed::new(alloc, choose_or(branches, body))
-                }
-                None => {
-                    let other = None;
-                    Boxed::new(alloc, PlacedStmt::If { branches, other })
-                }
-            }
+            let other = match other {
+                Some(body) => resolve_stmts(alloc, program, body.as_slice())?,
+                None => Items::new(alloc),
+            };
+            Boxed::new(alloc, PlacedStmt::If { branches, other })
         }
         Stmt::While { cond, body } => {
             let body = resolve_stmts(alloc, program, body.as_slice())?;
-            let cond = resolve_expr(alloc, program, cond)?.into_inner();
+            let cond = condition(resolve_expr(alloc, program, cond)?);
             Boxed::new(alloc, PlacedStmt::While { cond, body })
         }
     }
@@ -308,11 +298,11 @@ pub fn resolve_stmts(
 ) -> Result<Items<PlacedStmt>, Memory>
     ensures { IfOk result (λ ss. stmts_view ss ≡ placed_stms program.now.vars (view_stmts stmts.now)) }
 {
-    let mut found = Items::new(alloc);
+    let mut found = Vec::with_capacity(alloc, stmts.len())?;
     for stmt in stmts {
         found.push(resolve_stmt(alloc, program, stmt)?.into_inner())?;
     }
-    Ok(found)
+    Ok(Items::from_vec(found))
 }
 
 #[cycle(resolve_statements)]
@@ -323,11 +313,11 @@ fn resolve_branches(
 ) -> Result<Items<PlacedBranch>, Memory>
     ensures { IfOk result (λ bs. branches_view bs ≡ placed_branches program.now.vars (view_branches branches.now)) }
 {
-    let mut found = Items::new(alloc);
+    let mut found = Vec::with_capacity(alloc, branches.len())?;
     for branch in branches {
         let body = resolve_stmts(alloc, program, branch.body.as_slice())?;
-        let cond = resolve_expr(alloc, program, &branch.cond)?.into_inner();
+        let cond = condition(resolve_expr(alloc, program, &branch.cond)?);
         found.push(PlacedBranch { cond, body })?;
     }
-    Ok(found)
+    Ok(Items::from_vec(found))
 }

@@ -1,12 +1,17 @@
-//! The values of expressions (IEC 61131-3, "Expressions"), where a BOOL is 0 or 1.
+//! The values of expressions (IEC 61131-3, "Expressions"), where a BOOL is 0 or 1. A value is handed on in registers and why
+//! there is none in the caller's memory, since a `Result` of both would go through memory at each step.
 
-ghost use Rattle.std.specs.Prelude.{◌≡◌, slice_index_or, pos};
-ghost use Rattle.st_ast.specs.Values.{of_bool, is_true, same_number, divided, remainder, smaller, larger};
-ghost use Rattle.st_scan.specs.PlacedValues.{value_at, steps_at, applied_to, applied};
-ghost use Rattle.st_scan.specs.PlacedView.{expr_view, steps_view};
-ghost use Rattle.st_scan.specs.Told.{told};
+ghost use Rattle.std.specs.Prelude.{◌≡◌, slice_index_or, pos, Ok};
+ghost use Rattle.st_ast.specs.Values.{of_bool, is_true, same_number, divided, remainder};
+ghost use Rattle.st_scan.specs.PlacedTree.{of_term, of_factor, of_extreme, joined_none};
+ghost use Rattle.st_scan.specs.PlacedValues.{value_at, steps_at, applied_to, applied, related, joined_with};
+ghost use Rattle.st_scan.specs.PlacedView.{expr_view, form_view, terms_view, factors_view, operands_view, cond_view};
+ghost use Rattle.st_scan.specs.Told.{told, or_overflow};
 
-use crate::placed::{Operator, PlacedExpr, PlacedStep, Single};
+use crate::placed::{
+    Join, PlacedCond, PlacedExpr, PlacedFactor, PlacedForm, PlacedTerm, Relation, Single,
+};
+use st_ast::StMul;
 
 /// Why an expression has no value: a result outside 64 bits, or a divisor 0.
 #[derive(Clone, Copy, Debug, PartialEq, Eq)]
@@ -16,6 +21,7 @@ pub enum ValueFault {
 }
 
 /// The number of a BOOL.
+#[inline(always)]
 pub fn number(truth: bool) -> i64
     ensures { result ≡ of_bool truth }
 {
@@ -23,6 +29,7 @@ pub fn number(truth: bool) -> i64
 }
 
 /// Whether a value stands for TRUE.
+#[inline(always)]
 pub fn is_set(value: i64) -> bool
     ensures { result ≡ is_true value }
 {
@@ -35,27 +42,48 @@ fn is_same(x: i64, y: i64) -> bool
     x == y
 }
 
-fn smaller_of(x: i64, y: i64) -> i64
-    ensures { result ≡ smaller x y }
+/// The larger of two numbers, or the smaller.
+#[inline(always)]
+fn extreme(larger: bool, x: i64, y: i64) -> i64
+    ensures { Ok result ≡ applied (of_extreme larger) x y }
 {
-    if x <= y { x } else { y }
+    if larger == (x <= y) { y } else { x }
 }
 
-fn larger_of(x: i64, y: i64) -> i64
-    ensures { result ≡ larger x y }
+/// Whether one number stands so to another, or whether it doesn't.
+#[inline(always)]
+fn is_so(relation: Relation, holds: bool, x: i64, y: i64) -> bool
+    ensures { result ≡ related relation holds x y }
 {
-    if x <= y { y } else { x }
+    let so = match relation {
+        Relation::Less => x < y,
+        Relation::AtMost => x <= y,
+        Relation::Equal => is_same(x, y),
+    };
+    if holds { so } else { !so }
+}
+
+/// A number, or an overflow where there is none.
+#[inline(always)]
+fn fitting(found: Option<i64>, fault: &mut ValueFault) -> Option<i64>
+    ensures { told result fault.new ≡ or_overflow found }
+{
+    if found.is_none() {
+        *fault = ValueFault::Overflow;
+    }
+    found
 }
 
 /// The quotient, rounded towards zero.
 #[tactic(auto, using(crate::proofs::Checked::checks))]
-fn divide(x: i64, y: i64) -> Result<i64, ValueFault>
-    ensures { told result ≡ divided x y }
+fn divide(x: i64, y: i64, fault: &mut ValueFault) -> Option<i64>
+    ensures { told result fault.new ≡ divided x y }
 {
     if is_same(y, 0) {
-        return Err(ValueFault::ZeroDivide);
+        *fault = ValueFault::ZeroDivide;
+        return None;
     }
-    x.checked_div(y).ok_or(ValueFault::Overflow)
+    fitting(x.checked_div(y), fault)
 }
 
 /// What is left by a division, with the sign of the dividend, and 0 where the divisor is 0.
@@ -66,41 +94,65 @@ fn remainder_of(x: i64, y: i64) -> i64
 }
 
 #[tactic(auto, using(crate::proofs::Checked::checks))]
-fn apply_to(op: Single, x: i64) -> Result<i64, ValueFault>
-    ensures { told result ≡ applied_to op x }
+fn apply_to(op: Single, x: i64, fault: &mut ValueFault) -> Option<i64>
+    ensures { told result fault.new ≡ applied_to op x }
 {
     match op {
-        Single::Minus => x.checked_neg().ok_or(ValueFault::Overflow),
-        Single::Not => Ok(number(!is_set(x))),
-        Single::Absolute => x.checked_abs().ok_or(ValueFault::Overflow),
+        Single::Minus => fitting(x.checked_neg(), fault),
+        Single::Not => Some(number(!is_set(x))),
+        Single::Absolute => fitting(x.checked_abs(), fault),
     }
 }
 
+/// A sum, or a difference.
+#[inline(always)]
 #[tactic(auto, using(crate::proofs::Checked::checks))]
-fn apply(op: Operator, x: i64, y: i64) -> Result<i64, ValueFault>
-    ensures { told result ≡ applied op x y }
+fn add(minus: bool, x: i64, y: i64, fault: &mut ValueFault) -> Option<i64>
+    ensures { told result fault.new ≡ applied (of_term minus) x y }
+{
+    if minus {
+        fitting(x.checked_sub(y), fault)
+    } else {
+        fitting(x.checked_add(y), fault)
+    }
+}
+
+#[inline(always)]
+#[tactic(auto, using(crate::proofs::Checked::checks))]
+fn multiply(op: StMul, x: i64, y: i64, fault: &mut ValueFault) -> Option<i64>
+    ensures { told result fault.new ≡ applied (of_factor op) x y }
 {
     match op {
-        Operator::Add => x.checked_add(y).ok_or(ValueFault::Overflow),
-        Operator::Subtract => x.checked_sub(y).ok_or(ValueFault::Overflow),
-        Operator::Multiply => x.checked_mul(y).ok_or(ValueFault::Overflow),
-        Operator::Divide => divide(x, y),
-        Operator::Remainder => Ok(remainder_of(x, y)),
-        Operator::Less => Ok(number(x < y)),
-        Operator::Greater => Ok(number(x > y)),
-        Operator::AtMost => Ok(number(x <= y)),
-        Operator::AtLeast => Ok(number(x >= y)),
-        Operator::Equal => Ok(number(is_same(x, y))),
-        Operator::Differ => Ok(number(!is_same(x, y))),
-        Operator::And => Ok(number(is_set(x) & is_set(y))),
-        Operator::Xor => Ok(number(is_set(x) ^ is_set(y))),
-        Operator::Or => Ok(number(is_set(x) | is_set(y))),
-        Operator::Smaller => Ok(smaller_of(x, y)),
-        Operator::Larger => Ok(larger_of(x, y)),
+        StMul::Times => fitting(x.checked_mul(y), fault),
+        StMul::Div => divide(x, y, fault),
+        StMul::Mod => Some(remainder_of(x, y)),
+    }
+}
+
+#[inline(always)]
+fn join_with(join: Join, so_far: bool, next: bool) -> bool
+    ensures { result ≡ joined_with join so_far next }
+{
+    match join {
+        Join::And => so_far & next,
+        Join::Xor => so_far ^ next,
+        Join::Or => so_far | next,
+    }
+}
+
+/// What no operand comes to.
+fn of_none(join: Join) -> bool
+    ensures { result ≡ joined_none join }
+{
+    match join {
+        Join::And => true,
+        Join::Xor => false,
+        Join::Or => false,
     }
 }
 
 /// The number at a place, and 0 beyond the memory.
+#[inline(always)]
 fn read(memory: &[i64], place: u32) -> i64
     ensures { result ≡ slice_index_or memory.now place (pos 0) }
 {
@@ -110,50 +162,136 @@ fn read(memory: &[i64], place: u32) -> i64
     }
 }
 
-/// The value of an expression. Every operand is evaluated, from left to right.
+/// The value of an expression, or why it has none. Every operand is evaluated, from left to right.
 #[cycle(values)]
-pub fn value(expr: &PlacedExpr, memory: &[i64]) -> Result<i64, ValueFault>
-    ensures { told result ≡ value_at (expr_view expr.now) memory.now }
+#[inline(always)]
+pub fn value(expr: &PlacedExpr, memory: &[i64], fault: &mut ValueFault) -> Option<i64>
+    ensures { told result fault.new ≡ value_at (expr_view expr.now) memory.now }
 {
     match expr {
-        PlacedExpr::Number(number) => Ok(*number),
-        PlacedExpr::Place(place) => Ok(read(memory, *place)),
-        PlacedExpr::Single { op, operand } => {
-            let x = value(operand.get(), memory)?;
-            apply_to(*op, x)
+        PlacedExpr::Number(number) => Some(*number),
+        PlacedExpr::Place(place) => Some(read(memory, *place)),
+        PlacedExpr::Form(form) => value_of(form.get(), memory, fault),
+    }
+}
+
+#[cycle(values)]
+fn value_of(form: &PlacedForm, memory: &[i64], fault: &mut ValueFault) -> Option<i64>
+    ensures { told result fault.new ≡ value_at (form_view form.now) memory.now }
+{
+    match form {
+        PlacedForm::Single { op, operand } => {
+            let x = value(operand, memory, fault)?;
+            apply_to(*op, x, fault)
         }
-        PlacedExpr::Pair { op, first, second } => {
-            let x = value(first.get(), memory)?;
-            let y = value(second.get(), memory)?;
-            apply(*op, x, y)
+        PlacedForm::Sum { first, rest } => {
+            let x = value(first, memory, fault)?;
+            sum(rest.as_slice(), x, memory, fault)
         }
-        PlacedExpr::Test { op, place, number } => apply(*op, read(memory, *place), *number),
-        PlacedExpr::Chain { first, rest } => {
-            let x = value(first.get(), memory)?;
-            apply_steps(rest.as_slice(), x, memory)
+        PlacedForm::Product { first, rest } => {
+            let x = value(first, memory, fault)?;
+            product(rest.as_slice(), x, memory, fault)
         }
-        PlacedExpr::Select {
+        PlacedForm::Joined { join, operands } => {
+            joined(*join, operands.as_slice(), memory, fault)
+        }
+        PlacedForm::Related {
+            is,
+            holds,
+            first,
+            second,
+        } => {
+            let x = value(first, memory, fault)?;
+            let y = value(second, memory, fault)?;
+            Some(number(is_so(*is, *holds, x, y)))
+        }
+        PlacedForm::Extreme {
+            larger,
+            first,
+            second,
+        } => {
+            let x = value(first, memory, fault)?;
+            let y = value(second, memory, fault)?;
+            Some(extreme(*larger, x, y))
+        }
+        PlacedForm::Select {
             condition,
             otherwise,
             then,
         } => {
-            let chosen = is_set(value(condition.get(), memory)?);
-            let x = value(otherwise.get(), memory)?;
-            let y = value(then.get(), memory)?;
-            Ok(if chosen { y } else { x })
+            let chosen = is_set(value(condition, memory, fault)?);
+            let x = value(otherwise, memory, fault)?;
+            let y = value(then, memory, fault)?;
+            Some(if chosen { y } else { x })
         }
     }
 }
 
-/// The value of a chain, from that of its first operand.
+/// A sum, from its first operand on.
 #[cycle(values)]
-fn apply_steps(steps: &[PlacedStep], first: i64, memory: &[i64]) -> Result<i64, ValueFault>
-    ensures { told result ≡ steps_at first (steps_view steps.now) memory.now }
+#[inline(always)]
+fn sum(terms: &[PlacedTerm], first: i64, memory: &[i64], fault: &mut ValueFault) -> Option<i64>
+    ensures { told result fault.new ≡ steps_at first (terms_view terms.now) memory.now }
 {
     let mut so_far = first;
-    for step in steps {
-        let x = value(&step.value, memory)?;
-        so_far = apply(step.op, so_far, x)?;
+    for term in terms {
+        let x = value(&term.value, memory, fault)?;
+        so_far = add(term.minus, so_far, x, fault)?;
     }
-    Ok(so_far)
+    Some(so_far)
+}
+
+/// A product, from its first operand on.
+#[cycle(values)]
+#[inline(always)]
+fn product(
+    factors: &[PlacedFactor],
+    first: i64,
+    memory: &[i64],
+    fault: &mut ValueFault,
+) -> Option<i64>
+    ensures { told result fault.new ≡ steps_at first (factors_view factors.now) memory.now }
+{
+    let mut so_far = first;
+    for factor in factors {
+        let x = value(&factor.value, memory, fault)?;
+        so_far = multiply(factor.op, so_far, x, fault)?;
+    }
+    Some(so_far)
+}
+
+/// The operands of one level as a BOOL.
+#[cycle(values)]
+#[inline(always)]
+fn joined(
+    join: Join,
+    operands: &[PlacedExpr],
+    memory: &[i64],
+    fault: &mut ValueFault,
+) -> Option<i64>
+    ensures { told result fault.new
+        ≡ steps_at (of_bool (joined_none join)) (operands_view join operands.now) memory.now }
+{
+    let mut so_far = of_none(join);
+    for operand in operands {
+        let x = value(operand, memory, fault)?;
+        so_far = join_with(join, so_far, is_set(x));
+    }
+    Some(number(so_far))
+}
+
+/// The value of a condition, or why it has none.
+#[inline(always)]
+pub fn test(cond: &PlacedCond, memory: &[i64], fault: &mut ValueFault) -> Option<i64>
+    ensures { told result fault.new ≡ value_at (cond_view cond.now) memory.now }
+{
+    match cond {
+        PlacedCond::Test {
+            is,
+            holds,
+            place,
+            number: y,
+        } => Some(number(is_so(*is, *holds, read(memory, *place), *y))),
+        PlacedCond::Value(expr) => value(expr, memory, fault),
+    }
 }

@@ -1,41 +1,34 @@
-use Rattle.std.proofs.Common.{◌≡◌, ℕ, suc, true, ap, sym, ◌∙◌, arith, FitsSigned, w64, rules}
-use Rattle.std.specs.Prelude.{Result, Ok, Err}
-use Rattle.std.specs.Result.{IsErrAnd}
+use Rattle.std.proofs.Common.{◌≡◌, suc, true, ap, sym, ◌∙◌, arith, FitsSigned, w64, rules}
 use Rattle.std.proofs.lemmas.Int.{to_z-of_z}
-use Rattle.st_ast.specs.Values.{Memory, is_true}
+use Rattle.st_ast.specs.Values.{is_true}
 use Rattle.st_ast.specs.Exec.{and_then, repeated}
-use Rattle.st_scan.specs.declared.error.ScanErr.{ScanErr}
 use Rattle.st_scan.specs.Endings.{outcome_of}
 use Rattle.st_scan.specs.PlacedValues.{value_at}
 use Rattle.st_scan.specs.PlacedExec.{exec_at}
-use Rattle.st_scan.specs.PlacedView.{expr_view, stmts_view}
+use Rattle.st_scan.specs.PlacedView.{cond_view, stmts_view}
 use Rattle.st_scan.proofs.Loop.{loop-turn, loop-stopped}
 use Rattle.st_scan.proofs.statements.+run.Goals as goal
 
-handed_on : (r : Result ℕ ScanErr) (e : ScanErr) (m : Memory) → IsErrAnd r (λ s. s ≡ e) → outcome_of (Err e) m ≡ outcome_of r m
-handed_on (Ok l) e m h = absurd h
-handed_on (Err s) e m h = ap (λ x. outcome_of (Err x) m) (sym h)
-
 pub repeat-returns-in_err-left-clause-is : goal.repeat-returns-in_err-left-clause-is
 repeat-returns-in_err-left-clause-is t c =
-    let v = c.in_ok-value.field-0 in
+    let v = c.in-Some.truth in
     let fits : FitsSigned w64 v = search rules in
     let goes : is_true v ≡ true = grind (arith, to_z-of_z, c.is_set.ensures) in
     sym c.turns.invariant.rest
-    ∙ loop-stopped _ (stmts_view c.args.body.now) c.turns.left c.turns.memory c.run.new.memory v _ (sym c.in_ok-value.ensures) goes (omega arith) c.in_err-left.ensures.is
-    ∙ handed_on _ _ c.run.new.memory c.from_residual-in_err-left.ensures.1
+    ∙ loop-stopped _ (stmts_view c.args.body.now) c.turns.left c.turns.memory c.run.new.memory v c.run.new.why (sym c.in-Some.ensures) goes (omega arith) c.in_err-left.ensures.is
+    ∙ ap (λ r. outcome_of r c.run.new.why c.run.new.memory) (sym c.from_residual.ensures)
 
 pub repeat-turns-preserved : goal.repeat-turns-preserved
 repeat-turns-preserved t c =
-    let v = c.in_ok-value.field-0 in
+    let v = c.in-Some.truth in
     let fits : FitsSigned w64 v = search rules in
     let goes : is_true v ≡ true = grind (arith, to_z-of_z, c.is_set.ensures) in
-    let cond = value_at (expr_view c.args.cond.now) in
+    let cond = value_at (cond_view c.args.cond.now) in
     let body = stmts_view c.args.body.now in
     record {
       less = omega (arith, c.in_ok-left.ensures.less, c.turns.invariant.less);
       rest =
-          sym (loop-turn cond body c.turns.left c.turns.memory v (sym c.in_ok-value.ensures) goes (omega arith)
+          sym (loop-turn cond body c.turns.left c.turns.memory v (sym c.in-Some.ensures) goes (omega arith)
           ∙ ap (λ o. and_then o (λ l k. repeated (suc l) cond (λ i j. exec_at body i j) l k)) c.in_ok-left.ensures.is)
           ∙ c.turns.invariant.rest;
     }

@@ -2,7 +2,7 @@ use Rattle.std.proofs.Common.{◌≡◌, ◌≤◌, suc, drop}
 use Rattle.st_ast.specs.Exec.{Act, repeated}
 use Rattle.st_scan.specs.PlacedValues.{value_at}
 use Rattle.st_scan.specs.PlacedExec.{exec_at, exec_choice_at}
-use Rattle.st_scan.specs.PlacedView.{expr_view, stmts_view, branches_view}
+use Rattle.st_scan.specs.PlacedView.{cond_view, stmts_view, branches_view}
 use Rattle.st_scan.proofs.statements.+run.Given as goal
 
 abbrev pub invariant-run-loop-stmt : goal.invariant-run-loop-stmt
@@ -18,8 +18,8 @@ invariant-choose-loop-branch l =
 abbrev pub invariant-repeat-turns : goal.invariant-repeat-turns
 invariant-repeat-turns l = record {
   less : l.left ≤ l.turns;
-  rest : repeated (suc l.left) (value_at (expr_view l.cond)) (λ i j. exec_at (stmts_view l.body) i j) l.left l.memory
-      ≡ repeated (suc l.turns) (value_at (expr_view l.cond)) (λ i j. exec_at (stmts_view l.body) i j) l.turns l.initial.memory;
+  rest : repeated (suc l.left) (value_at (cond_view l.cond)) (λ i j. exec_at (stmts_view l.body) i j) l.left l.memory
+      ≡ repeated (suc l.turns) (value_at (cond_view l.cond)) (λ i j. exec_at (stmts_view l.body) i j) l.turns l.initial.memory;
 }
 
 abbrev pub decreases-repeat-turns : goal.decreases-repeat-turns
