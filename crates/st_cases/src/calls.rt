@@ -1,6 +1,5 @@
 //! The calls that a case may make.
 
-use crate::deep::{deep_case, literal_case};
 use crate::graphs::order_case;
 use crate::naming::name_case;
 use crate::nets::net_copies_case;
@@ -20,8 +19,6 @@ impl Calls for StCalls {
             "print" => print_case(fields, page),
             "check" => check_case(fields, page),
             "scan" => scan_case(fields, page),
-            "deep" => deep_case(fields, page),
-            "literal" => literal_case(fields, page),
             "rows" => rows_case(fields, page),
             "table" => table_case(fields, page),
             "name" => name_case(fields, page),

@@ -6,9 +6,6 @@
 //!
 //! - `read`, `print`, `check PROGRAM | NAME ..`, `scan PROGRAM | VALUE .. | ..`: a program of Structured Text, and a machine before
 //!   and after each scan, `-` for a row without values;
-//! - `deep PARENTHESES IFS`: a scan of a program whose one value stands in so many parentheses, and whose one assignment in so many
-//!   IFs, which may be more than a text may have;
-//! - `literal NUMBER`: the printed program whose one value is that number, also one that no text says;
 //! - `rows TEXT | PROGRAM`: a rows file;
 //! - `table PROGRAM | VALUE .. | ..`: the output table of a program whose outputs have these values after each scan, `-` for none;
 //! - `name LETTER NUMBER | TEXT`: the name of a variable that stands for what has that number and that path;
@@ -22,7 +19,6 @@
 
 mod calls;
 mod counting;
-mod deep;
 mod graphs;
 mod naming;
 mod nets;
