@@ -39,12 +39,12 @@ then-same OutOfTurns f g same = refl
 and_then-same : (o p : Outcome) (f g : Act) → o ≡ p → ((n : ℕ) (m : Memory) → f n m ≡ g n m) → and_then o f ≡ and_then p g
 and_then-same o p f g e same = ap (λ q. and_then q f) e ∙ then-same p f g same
 
-factor-same : (f : StMul) (x y : ℤ) → applied (of_factor f) x y ≡ multiplied f x y
+factor-same : (f : StMul) (x y : ℤ) → applied (of_factor f) x y ≡ multiplied 64 f x y
 factor-same mul.Times x y = refl
 factor-same mul.Div x y = refl
 factor-same mul.Mod x y = refl
 
-term-same : (minus : Bool) (x y : ℤ) → applied (of_term minus) x y ≡ checked (added minus x y)
+term-same : (minus : Bool) (x y : ℤ) → applied (of_term minus) x y ≡ checked 64 (added minus x y)
 term-same false x y = refl
 term-same true x y = refl
 

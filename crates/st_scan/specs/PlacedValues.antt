@@ -1,5 +1,5 @@
--- Helper of the code: the values of expressions whose names are resolved, by the words of `st_ast`. A place beyond the
--- memory has the value 0.
+-- Helper of the code: the values of expressions whose names are resolved, by the words of `st_ast`, in programs of 64 bits. A
+-- place beyond the memory has the value 0.
 use Rattle.std.specs.Prelude.{ℤ, pos, neg_ℤ, nat_abs, int_lt, int_le, Bool, true, false, not, ◌&&◌, ◌||◌, Result, Ok, Err, slice_index_or, if◌then◌else◌}
 use Rattle.st_ast.specs.Values.{Fault, Memory, of_bool, is_true, checked, with_value, both, same_number, added, multiplied, smaller, larger, differ}
 use Rattle.st_ast.specs.declared.tree.StMul.TheVariants as mul
@@ -13,9 +13,9 @@ use Rattle.st_scan.specs.declared.placed.Single.{Single}
 use Rattle.st_scan.specs.declared.placed.Single.TheVariants as one
 
 abbrev pub applied_to : Single → ℤ → Result ℤ Fault
-applied_to one.Minus x = checked (neg_ℤ x)
+applied_to one.Minus x = checked 64 (neg_ℤ x)
 applied_to one.Not x = Ok (of_bool (not (is_true x)))
-applied_to one.Absolute x = checked (pos (nat_abs x))
+applied_to one.Absolute x = checked 64 (pos (nat_abs x))
 
 abbrev pub stands : Relation → ℤ → ℤ → Bool
 stands rel.Less x y = int_lt x y
@@ -33,11 +33,11 @@ joined_with join.Xor a b = differ a b
 joined_with join.Or a b = a || b
 
 abbrev pub applied : Operator → ℤ → ℤ → Result ℤ Fault
-applied op.add x y = checked (added false x y)
-applied op.subtract x y = checked (added true x y)
-applied op.multiply x y = multiplied mul.Times x y
-applied op.divide x y = multiplied mul.Div x y
-applied op.remainder x y = multiplied mul.Mod x y
+applied op.add x y = checked 64 (added false x y)
+applied op.subtract x y = checked 64 (added true x y)
+applied op.multiply x y = multiplied 64 mul.Times x y
+applied op.divide x y = multiplied 64 mul.Div x y
+applied op.remainder x y = multiplied 64 mul.Mod x y
 applied (op.is r holds) x y = Ok (of_bool (related r holds x y))
 applied op.all x y = Ok (of_bool (joined_with join.And (is_true x) (is_true y)))
 applied op.odd x y = Ok (of_bool (joined_with join.Xor (is_true x) (is_true y)))
@@ -47,7 +47,7 @@ applied op.larger x y = Ok (larger x y)
 
 abbrev mutual
   pub value_at : Expr → Memory → Result ℤ Fault
-  value_at (number z) m = Ok z
+  value_at (number z) m = checked 64 z
   value_at (placed k) m = Ok (slice_index_or m k (pos 0))
   value_at (single f e) m = with_value (value_at e m) (λ e. Err e) (λ x. applied_to f x)
   value_at (pair a f b) m = both (λ x y. applied f x y) (value_at a m) (value_at b m)
