@@ -4,8 +4,16 @@
 
 mod drafting;
 mod error;
+mod finding;
 mod laws;
+mod looked;
+mod looking;
+mod names;
 mod scope;
+mod scopes;
+mod table;
 
 pub use error::ScopeErr;
+pub use looked::Slot;
+pub use scopes::{Found, Scopes};
 pub use scope::{ParamSort, Scope, ScopeName, Sort, What};
