@@ -20,7 +20,7 @@ use Rattle.cif_scope.specs.declared.scopes.Found.{Found}
 use Rattle.cif_scope.specs.declared.scopes.Scopes.{Scopes}
 use Rattle.cif_scope.specs.Tables.{IsBody, Beside, IsWhat, IsTable}
 use Rattle.cif_scope.specs.Looks.{slot_at, what_at, here_or, look_out, look_inside, definition_at, inside_instance, step_from, Definitions, definition_in, step, steps, first_part, look, passed_at, passed_slot, passed, as_found, followed, find}
-use Rattle.cif_scope.specs.Scopes.{IsIndexed, Defines, IsDefinitionOf, AreDefinitions, AreScopesOf, IsEntry, IsPassed, Finds}
+use Rattle.cif_scope.specs.Scopes.{IsIndexed, Defines, IsDefinitionOf, AreDefinitions, AreNumbered, IsEntry, IsPassed, Finds}
 use Rattle.cif_scope.proofs.Places.{beside-at, beside-append}
 use Rattle.cif_scope.proofs.BodyLaws.{body-written, body-root, body-passes, table-height, scope-written, outer-of}
 use Rattle.cif_scope.proofs.LookLaws.{Agrees, Slotted, slot-is, what-is, look-is, Owned, own-is}
@@ -58,7 +58,7 @@ blocked-stays tb defs pass [] = refl
 blocked-stays tb defs pass (p ∷ ps) = blocked-stays tb defs pass ps
 
 module _ (t : Source) (tb : Table) (table : IsTable t tb.scopes) (ix : IsIndexed tb) where
-  what-of : (k s : ℕ) (c : Component) (e : Entry) → IsBody t k (as_written c) → IsEntry c e s → (w : What) × (what_at tb k s ≡ Some w) × IsWhat t (as_written c) e w
+  pub what-of : (k s : ℕ) (c : Component) (e : Entry) → IsBody t k (as_written c) → IsEntry c e s → (w : What) × (what_at tb k s ≡ Some w) × IsWhat t (as_written c) e w
   what-of k s c e h g = what-is t tb table ix k s (as_written c) e h (g.0, ap (λ es. slice_get es s) (scope-written c) ∙ g.1)
 
   -- ---- the first part
@@ -319,7 +319,7 @@ module _ (t : Source) (tb : Table) (table : IsTable t tb.scopes) (ix : IsIndexed
 
 -- what the search gives is what is found
 pub result-finds : (s : Scopes) (k : ℕ) (nm : Name) (defs : Definitions) (r : Result (Option Found) Memory) → defs ≡ s.definitions → IfOk r (λ f. f ≡ find s.table defs k nm)
-    → (t : Source) (c : Component) → AreScopesOf t s → IsBody t k c → IfOk r (λ f. Finds t (found c nm) f)
+    → (t : Source) (c : Component) → AreNumbered t s → IsBody t k c → IfOk r (λ f. Finds t (found c nm) f)
 result-finds s k nm defs (Ok f) e h t c are own =
     subst (λ g. Finds t (found c nm) g) (sym (h ∙ ap (λ ds. find s.table ds k nm) e)) (finds-is t s.table are.table are.indexed s.definitions are.definitions c k nm own)
 result-finds s k nm defs (Err x) e h t c are own = tt

@@ -7,3 +7,5 @@ pub mod BodyLaws
 pub mod LookLaws
 pub mod WrittenLaws
 pub mod FindLaws
+pub mod IndexLaws
+pub mod DefinitionLaws

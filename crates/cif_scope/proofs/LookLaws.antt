@@ -157,7 +157,7 @@ params-found p k (q ∷ ps) z h = go (p (param_name q, parameter k q)) h (params
 abbrev text_named : Ident × Entry → Text
 text_named e = e.0.text
 
-same-text : (x y : Text) → same_text x y ≡ true → x ≡ y
+pub same-text : (x y : Text) → same_text x y ≡ true → x ≡ y
 same-text x y h = same_equal x y (sym (same_is x y) ∙ h)
 
 found-member : (x : Text) (es : Entries) (z : Ident × Entry) → find (called x) es ≡ Some z → Member x (map text_named es)
@@ -172,7 +172,7 @@ distinct-apart : (x : Text) (xs ys : List Text) → AreDistinct (xs ++ ys) → M
 distinct-apart x [] ys d m n = m
 distinct-apart x (y ∷ xs) ys d m n = elim m [ inl e ↦ d.0 (append-right y xs ys (subst (λ z. Member z ys) e n)) | inr w ↦ distinct-apart x xs ys d.1 w n ]
 
-beside-texts : (t : Source) (c : Component) (es : Entries) (ns : List ScopeName) → Beside (IsName t c) es ns → map text_of ns ≡ map text_named es
+pub beside-texts : (t : Source) (c : Component) (es : Entries) (ns : List ScopeName) → Beside (IsName t c) es ns → map text_of ns ≡ map text_named es
 beside-texts t c [] [] h = refl
 beside-texts t c [] (n ∷ ns) h = absurd h
 beside-texts t c (e ∷ es) [] h = absurd h

@@ -4,3 +4,5 @@ pub mod Tables
 pub mod Few
 pub mod Looks
 pub mod Scopes
+pub mod Indexes
+pub mod Written

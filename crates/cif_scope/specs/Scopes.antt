@@ -47,10 +47,14 @@ pub record KeepsScoping (t : Source) : Type 0 where
   pub fitting : (at : ℕ) → WrongKindDue t at → ⊥
   pub acyclic : (at : ℕ) → DefinitionCycleDue t at → ⊥
 
-pub record AreScopesOf (t : Source) (s : Scopes) : Type 0 where
+-- the scopes of all bodies, whatever rules the source breaks besides that on names declared twice
+pub record AreNumbered (t : Source) (s : Scopes) : Type 0 where
   pub table : IsTable t s.table.scopes
   pub indexed : IsIndexed s.table
   pub definitions : AreDefinitions t s.definitions
+
+pub record AreScopesOf (t : Source) (s : Scopes) : Type 0 where
+  pub numbers : AreNumbered t s
   pub rules : KeepsScoping t
 
 -- the slot of the scope of c in which the entry stands

@@ -1,6 +1,6 @@
 //! The scopes of all bodies, from the tree.
 
-ghost use Rattle.std.specs.Prelude.{◌≡◌, ℕ, ◌+◌, ◌++◌, ◌∷◌, [], map, flat_map, length, IfOk, OnOk, Some, None};
+ghost use Rattle.std.specs.Prelude.{◌≡◌, ℕ, ◌+◌, ◌<◌, ◌^◌, ◌++◌, ◌∷◌, [], map, flat_map, length, IfOk, OnOk, Some, None};
 ghost use Rattle.cif_ast.specs.View.{view_item, view_items, view_body};
 ghost use Rattle.cif_source.specs.Source.{decl_tree, param_tree, location_tree, automaton_tree, source_item, source_items, source_body, source_of};
 ghost use Rattle.cif_scope.specs.Drafts as drafts;
@@ -11,8 +11,9 @@ use cif_base::{Items, Memory};
 use std::alloc::Global;
 
 /// A number below 2^32. No source has so many things that it isn't.
-fn number(count: usize) -> Result<u32, Memory>
-    ensures { IfOk result (λ n. n ≡ count) }
+pub fn number(count: usize) -> Result<u32, Memory>
+    ensures is { IfOk result (λ n. n ≡ count) }
+    ensures few { OnOk result (count < 2 ^ 32) }
 {
     if count < 4_294_967_296 {
         Ok(count as u32)

@@ -7,7 +7,7 @@ ghost use Rattle.cif_source.specs.Lookup.{found};
 ghost use Rattle.cif_scope.specs.declared.scope.ScopeName.{ScopeName};
 ghost use Rattle.cif_scope.specs.Looks as looks;
 ghost use Rattle.cif_scope.specs.Tables.{IsBody};
-ghost use Rattle.cif_scope.specs.Scopes.{AreScopesOf, Finds};
+ghost use Rattle.cif_scope.specs.Scopes.{AreNumbered, Finds};
 
 use crate::looked::{Looked, Slot};
 use crate::looking::definition_of;
@@ -136,7 +136,7 @@ impl Scopes {
     /// What a name in a body finds, or `None` where it finds nothing.
     pub fn find(&self, alloc: Global, scope: u32, name: &Name) -> Result<Option<Found>, Memory>
         requires { scope < length self.now.table.scopes }
-        ensures { (t : Source) (c : Component) → AreScopesOf t self.now → IsBody t scope c
+        ensures { (t : Source) (c : Component) → AreNumbered t self.now → IsBody t scope c
             → IfOk result (λ f. Finds t (found c name.now) f) }
     {
         self.table

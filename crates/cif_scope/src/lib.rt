@@ -2,18 +2,23 @@
 //! "Scoping").
 #![tactic(auto)]
 
+mod defining;
 mod drafting;
 mod error;
 mod finding;
+mod indexing;
 mod laws;
 mod looked;
 mod looking;
 mod names;
+mod resolving;
 mod scope;
 mod scopes;
 mod table;
+mod written;
 
 pub use error::ScopeErr;
 pub use looked::Slot;
+pub use resolving::number_scopes;
 pub use scope::{ParamSort, Scope, ScopeName, Sort, What};
 pub use scopes::{Found, Scopes};

@@ -9,7 +9,7 @@ use Rattle.cif_scope.proofs.drafting.+drafts.Goals as goal
 
 pub add_group-returns : goal.add_group-returns
 add_group-returns t c =
-    group-written _ _ _ _ _ _ _ _ _ _ _ (source_items (view_items c.args.items.now)) c.len-at.ensures c.in_ok-own.ensures c.in_ok-push.ensures.ok c.in_ok-names.ensures
+    group-written _ _ _ _ _ _ _ _ _ _ _ (source_items (view_items c.args.items.now)) c.len-at.ensures c.in_ok-own.ensures.is c.in_ok-push.ensures.ok c.in_ok-names.ensures
     c.in_ok-add_items.ensures.names c.in_ok-add_items.ensures.scopes c.set.ensures
 
 pub add_items-loop-item-preserved : goal.add_items-loop-item-preserved
