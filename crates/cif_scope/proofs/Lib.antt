@@ -1,0 +1,11 @@
+pub mod DraftLemmas
+pub mod Places
+pub mod TableLaws
+pub mod FewLaws
+pub mod KeyLaws
+pub mod BodyLaws
+pub mod LookLaws
+pub mod WrittenLaws
+pub mod FindLaws
+pub mod IndexLaws
+pub mod DefinitionLaws

@@ -1,0 +1,7 @@
+use Rattle.std.proofs.Common.{take}
+use Rattle.cif_scope.specs.Indexes.{IsIndexOf}
+use Rattle.cif_scope.proofs.IndexLaws.{IsPartIndex}
+use Rattle.cif_scope.proofs.indexing.indexed.Given as goal
+
+abbrev pub invariant-loop-name : goal.invariant-loop-name
+invariant-loop-name l = IsPartIndex (take l.name-index l.names) l.keys

@@ -1,0 +1,8 @@
+pub mod Places
+pub mod Drafts
+pub mod Tables
+pub mod Few
+pub mod Looks
+pub mod Scopes
+pub mod Indexes
+pub mod Written
