@@ -79,7 +79,7 @@ not-root [] x r h = cc
 not-root (y ∷ p) x r h = cc
 
 -- the name does not stand among the others
-other-name : (n m : Ident) (ns : List Ident) → has_twice (n ∷ ns) ≡ false → Member m ns → n.text ≡ m.text → ⊥
+pub other-name : (n m : Ident) (ns : List Ident) → has_twice (n ∷ ns) ≡ false → Member m ns → n.text ≡ m.text → ⊥
 other-name n m ns h k same =
     false-true h (or-left _ _ (member-passes (λ (y : Ident). same_text n.text y.text) ns m k (ap (same_text n.text) (sym same) ∙ nat_list_eq_equiv.refl n.text)))
 
