@@ -52,7 +52,7 @@ member-any P x (y ∷ ys) m p =
       | inr w ↦ let rest = member-any P x ys w p in (suc rest.0, rest.1, omega (arith, rest.2), rest.3, rest.4)
     ]
 
-all-from : {A : Type 0} (p : A → Bool) (xs : List A) → ((x : A) → Member x xs → p x ≡ true) → list_all p xs ≡ true
+pub all-from : {A : Type 0} (p : A → Bool) (xs : List A) → ((x : A) → Member x xs → p x ≡ true) → list_all p xs ≡ true
 all-from p [] h = refl
 all-from p (x ∷ xs) h = ap (λ b. b && list_all p xs) (h x (inl refl)) ∙ all-from p xs (λ y m. h y (inr m))
 
