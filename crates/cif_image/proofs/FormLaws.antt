@@ -37,7 +37,7 @@ nothing : {A : Type 0} (xs : List A) → is_nothing xs ≡ true → xs ≡ []
 nothing [] h = refl
 nothing (x ∷ xs) h = absurd (false-true refl h)
 
-enumerated : {A : Type 0} (n : ℕ) (z : ℕ × A) (xs : List A) → Member z (enumerate_from n xs) → Member z.1 xs × (z.0 < n + length xs)
+pub enumerated : {A : Type 0} (n : ℕ) (z : ℕ × A) (xs : List A) → Member z (enumerate_from n xs) → Member z.1 xs × (z.0 < n + length xs)
 enumerated n z [] m = absurd m
 enumerated n z (x ∷ xs) m =
     elim m [
@@ -47,28 +47,39 @@ enumerated n z (x ∷ xs) m =
 
 -- ---- bodies have no parameters
 
-abbrev has_no_params : Component → Bool
-has_no_params c = is_nothing (params_of c)
+-- a component that is written where it stands, as are those around it
+abbrev pub is_plain_part : Component → Bool
+is_plain_part (whole is) = true
+is_plain_part (part o n b) = is_plain_part o
+is_plain_part (blank o n ps b) = false
+is_plain_part (copy o n ps b g i) = false
 
-joined : (xs ys : List Component) → list_all has_no_params xs ≡ true → list_all has_no_params ys ≡ true → list_all has_no_params (xs ++ ys) ≡ true
+joined : (xs ys : List Component) → list_all is_plain_part xs ≡ true → list_all is_plain_part ys ≡ true → list_all is_plain_part (xs ++ ys) ≡ true
 joined [] ys h g = g
-joined (x ∷ xs) ys h g = ap (λ b. b && list_all has_no_params (xs ++ ys)) (and-left (has_no_params x) (list_all has_no_params xs) h) ∙ joined xs ys (and-right (has_no_params x) (list_all has_no_params xs) h) g
+joined (x ∷ xs) ys h g = ap (λ b. b && list_all is_plain_part (xs ++ ys)) (and-left (is_plain_part x) (list_all is_plain_part xs) h) ∙ joined xs ys (and-right (is_plain_part x) (list_all is_plain_part xs) h) g
 
 mutual
-  items-plain : (is : Source) (c : Component) → list_all stands_alone (list_of_items is) ≡ true → list_all is_written_out (bodies_in c is) ≡ true → list_all has_no_params (bodies_in c is) ≡ true
-  items-plain no_source c h g = refl
-  items-plain (source (decl_item d) is) c h g = items-plain is c h g
-  items-plain (source (definition_item m ps b) is) c h g = absurd (false-true refl h)
-  items-plain (source (instance_item i) is) c h g = absurd (false-true refl h)
-  items-plain (source (component_item m b) is) c h g =
+  items-plain : (is : Source) (c : Component) → is_plain_part c ≡ true → list_all stands_alone (list_of_items is) ≡ true → list_all is_written_out (bodies_in c is) ≡ true → list_all is_plain_part (bodies_in c is) ≡ true
+  items-plain no_source c p h g = refl
+  items-plain (source (decl_item d) is) c p h g = items-plain is c p h g
+  items-plain (source (definition_item m ps b) is) c p h g = absurd (false-true refl h)
+  items-plain (source (instance_item i) is) c p h g = absurd (false-true refl h)
+  items-plain (source (component_item m b) is) c p h g =
       let rest = both-pass is_written_out (bodies_under (part c m b) b) (bodies_in c is) (and-right (list_all stands_alone (items_in b)) (list_all is_written_out (bodies_under (part c m b) b ++ bodies_in c is)) g) in
-      joined (bodies_under (part c m b) b) (bodies_in c is)
-      (body-plain b (part c m b) (and-left (list_all stands_alone (items_in b)) (list_all is_written_out (bodies_under (part c m b) b ++ bodies_in c is)) g) rest.0)
-      (items-plain is c h rest.1)
+      ap (λ x. x && list_all is_plain_part (bodies_under (part c m b) b ++ bodies_in c is)) p
+      ∙ joined (bodies_under (part c m b) b) (bodies_in c is)
+      (body-plain b (part c m b) p (and-left (list_all stands_alone (items_in b)) (list_all is_written_out (bodies_under (part c m b) b ++ bodies_in c is)) g) rest.0)
+      (items-plain is c p h rest.1)
 
-  body-plain : (b : SourceBody) (c : Component) → list_all stands_alone (items_in b) ≡ true → list_all is_written_out (bodies_under c b) ≡ true → list_all has_no_params (bodies_under c b) ≡ true
-  body-plain (group_body is) c h g = items-plain is c h g
-  body-plain (automaton_body a) c h g = refl
+  body-plain : (b : SourceBody) (c : Component) → is_plain_part c ≡ true → list_all stands_alone (items_in b) ≡ true → list_all is_written_out (bodies_under c b) ≡ true → list_all is_plain_part (bodies_under c b) ≡ true
+  body-plain (group_body is) c p h g = items-plain is c p h g
+  body-plain (automaton_body a) c p h g = refl
+
+plain-params : (c : Component) → is_plain_part c ≡ true → params_of c ≡ []
+plain-params (whole is) h = refl
+plain-params (part o n b) h = refl
+plain-params (blank o n ps b) h = absurd (false-true refl h)
+plain-params (copy o n ps b g i) h = absurd (false-true refl h)
 
 -- ---- what is declared
 
@@ -159,14 +170,17 @@ module _ (t : Source) (flat : is_flat t ≡ true) where
   edges-sync : every_edge (λ e. list_all only_syncs e.uses) t ≡ true
   edges-sync = and-right (every_decl is_no_channel t) (every_edge (λ e. list_all only_syncs e.uses) t) channel-free
 
-  -- a body has no parameters
-  pub no-params : (c : Component) → Member c (bodies t) → params_of c ≡ []
-  no-params c m =
+  -- a body is written where it stands
+  pub only-parts : (c : Component) → Member c (bodies t) → is_plain_part c ≡ true
+  only-parts c m =
       elim m [
-        | inl w ↦ ap params_of w
-        | inr w ↦ nothing (params_of c) (all-member has_no_params (bodies_in (whole t) t) c
-          (items-plain t (whole t) (and-left (list_all stands_alone (list_of_items t)) (list_all is_written_out (bodies_in (whole t) t)) no-definitions) (and-right (list_all stands_alone (list_of_items t)) (list_all is_written_out (bodies_in (whole t) t)) no-definitions)) w)
+        | inl w ↦ ap is_plain_part w
+        | inr w ↦ all-member is_plain_part (bodies_in (whole t) t) c
+          (items-plain t (whole t) refl (and-left (list_all stands_alone (list_of_items t)) (list_all is_written_out (bodies_in (whole t) t)) no-definitions) (and-right (list_all stands_alone (list_of_items t)) (list_all is_written_out (bodies_in (whole t) t)) no-definitions)) w
       ]
+
+  pub no-params : (c : Component) → Member c (bodies t) → params_of c ≡ []
+  no-params c m = plain-params c (only-parts c m)
 
   -- each declaration is an event
   pub only-events : (c : Component) → Member c (bodies t) → (d : DeclTree) → Member d (decls_of c) → IsEvent d
