@@ -1,0 +1,1 @@
+-- What a name finds, by numbers.
