@@ -36,7 +36,7 @@ append-filtered f (x ∷ xs) ys =
       | Some y ↦ ap (λ zs. y ∷ zs) (append-filtered f xs ys)
     ])
 
-append-kept : {A : Type 0} (p : A → Bool) (xs ys : List A) → filter p (xs ++ ys) ≡ filter p xs ++ filter p ys
+pub append-kept : {A : Type 0} (p : A → Bool) (xs ys : List A) → filter p (xs ++ ys) ≡ filter p xs ++ filter p ys
 append-kept p [] ys = refl
 append-kept p (x ∷ xs) ys =
     (elim (p x) as (λ b. cond b (x ∷ filter p (xs ++ ys)) (filter p (xs ++ ys)) ≡ cond b (x ∷ filter p xs) (filter p xs) ++ filter p ys) [
