@@ -38,8 +38,8 @@ group-written front pushed after out at own x outer params given names is e-at e
     let long : length pushed ≡ length front + 1 = ap (λ (l : List Scope). length l) e-pushed ∙ length-append front (x ∷ []) in
     let all-names : names ≡ params ++ names_in (length front + 1) 0 is = e-names ∙ ap (λ n. given ++ names_in n 0 is) long ∙ ap (λ (ns : List ScopeName). ns ++ names_in (length front + 1) 0 is) e-given in
     let inside : after ≡ (front ++ x ∷ []) ++ scopes_in (length front) (length front + 1) is =
-        e-after ∙ ap (λ (l : List Scope). l ++ scopes_in own (length pushed) is) e-pushed ∙ ap (λ n. (front ++ x ∷ []) ++ scopes_in n (length pushed) is) (e-own ∙ e-at)
-        ∙ ap (λ n. (front ++ x ∷ []) ++ scopes_in (length front) n is) long in
+    e-after ∙ ap (λ (l : List Scope). l ++ scopes_in own (length pushed) is) e-pushed ∙ ap (λ n. (front ++ x ∷ []) ++ scopes_in n (length pushed) is) (e-own ∙ e-at)
+    ∙ ap (λ n. (front ++ x ∷ []) ++ scopes_in (length front) n is) long in
     e-out ∙ ap (λ n. slice_set after n (scope outer names)) e-at ∙ ap (λ (l : List Scope). slice_set l (length front) (scope outer names)) inside
     ∙ set-behind front (scopes_in (length front) (length front + 1) is) x (scope outer names)
     ∙ ap (λ (ns : List ScopeName). front ++ scope outer ns ∷ scopes_in (length front) (length front + 1) is) all-names

@@ -3,4 +3,7 @@ pub mod Places
 pub mod TableLaws
 pub mod FewLaws
 pub mod KeyLaws
+pub mod BodyLaws
+pub mod LookLaws
+pub mod WrittenLaws
 pub mod FindLaws

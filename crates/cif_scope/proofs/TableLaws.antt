@@ -123,30 +123,38 @@ module _ (t : Source) where
     scopes-at c o k (instance_item i) own s = tt
     scopes-at c o k (component_item n (automaton_body a)) own s = (record { outer = (o, refl, own); names = automaton-is (part c n (automaton_body a)) a }, tt)
     scopes-at c o k (component_item n (group_body is)) own s =
-        let d : Component = part c n (group_body is) in
-        (record {
-          outer = (o, refl, own);
-          names = items-are d (k + 1) 0 is (sits-tail (bodies t) k d (bodies_in d is) s) (sits-whole (instances_of d))
-        }, scopes-in d k (k + 1) is (sits-head (bodies t) k d (bodies_in d is) s) (sits-tail (bodies t) k d (bodies_in d is) s))
+        let d : Component = part c n (group_body is) in (
+          record {
+            outer = (o, refl, own);
+            names = items-are d (k + 1) 0 is (sits-tail (bodies t) k d (bodies_in d is) s) (sits-whole (instances_of d));
+          },
+          scopes-in d k (k + 1) is (sits-head (bodies t) k d (bodies_in d is) s) (sits-tail (bodies t) k d (bodies_in d is) s),
+        )
     scopes-at c o k (definition_item n ps (automaton_body a)) own s =
-        let d : Component = blank c n ps (automaton_body a) in
-        (record {
-          outer = (o, refl, own);
-          names = beside-append (IsName t d) (param_entries ps) (body_entries (automaton_body a)) (param_names ps) (automaton_names a) (params-from d 0 ps) (automaton-is d a)
-        }, tt)
+        let d : Component = blank c n ps (automaton_body a) in (
+          record {
+            outer = (o, refl, own);
+            names = beside-append (IsName t d) (param_entries ps) (body_entries (automaton_body a)) (param_names ps) (automaton_names a) (params-from d 0 ps) (automaton-is d a);
+          },
+          tt,
+        )
     scopes-at c o k (definition_item n ps (group_body is)) own s =
-        let d : Component = blank c n ps (group_body is) in
-        (record {
-          outer = (o, refl, own);
-          names = beside-append (IsName t d) (param_entries ps) (body_entries (group_body is)) (param_names ps) (names_in (k + 1) 0 is) (params-from d 0 ps)
-              (items-are d (k + 1) 0 is (sits-tail (bodies t) k d (bodies_in d is) s) (sits-whole (instances_of d)))
-        }, scopes-in d k (k + 1) is (sits-head (bodies t) k d (bodies_in d is) s) (sits-tail (bodies t) k d (bodies_in d is) s))
+        let d : Component = blank c n ps (group_body is) in (
+          record {
+            outer = (o, refl, own);
+            names = beside-append (IsName t d) (param_entries ps) (body_entries (group_body is)) (param_names ps) (names_in (k + 1) 0 is) (params-from d 0 ps)
+                (items-are d (k + 1) 0 is (sits-tail (bodies t) k d (bodies_in d is) s) (sits-whole (instances_of d)));
+          },
+          scopes-in d k (k + 1) is (sits-head (bodies t) k d (bodies_in d is) s) (sits-tail (bodies t) k d (bodies_in d is) s),
+        )
 
 -- the scopes of a source are a table of its bodies
 pub scopes-table : (t : Source) → IsTable t (scopes_of t)
 scopes-table t =
-    let c : Component = whole t in
-    (record {
-      outer = refl;
-      names = items-are t c 1 0 t (sits-tail (bodies t) 0 c (bodies_in c t) (sits-whole (bodies t))) (sits-whole (instances_of c))
-    }, scopes-in t c 0 1 t refl (sits-tail (bodies t) 0 c (bodies_in c t) (sits-whole (bodies t))))
+    let c : Component = whole t in (
+      record {
+        outer = (refl, refl);
+        names = items-are t c 1 0 t (sits-tail (bodies t) 0 c (bodies_in c t) (sits-whole (bodies t))) (sits-whole (instances_of c));
+      },
+      scopes-in t c 0 1 t refl (sits-tail (bodies t) 0 c (bodies_in c t) (sits-whole (bodies t))),
+    )

@@ -76,16 +76,23 @@ at_own tb k (Some s) = unless_parameter k s (what_at tb k s)
 abbrev pub look_inside : Table → ℕ → Text → Looked
 look_inside tb k x = at_own tb k (slot_at tb k x)
 
+-- for each body the bodies of the definitions of its instances, as far as they are found
+abbrev pub Definitions : Type 0
+Definitions = List (List (Option ℕ))
+
+abbrev pub definition_in : List (Option ℕ) → ℕ → Option ℕ
+definition_in ds r = elim (slice_get ds r) [ None ↦ None | Some d ↦ d ]
+
 -- the body of the definition of an instance
-abbrev pub definition_at : List (List ℕ) → ℕ → ℕ → Option ℕ
-definition_at defs k r = elim (slice_get defs k) [ None ↦ None | Some ds ↦ slice_get ds r ]
+abbrev pub definition_at : Definitions → ℕ → ℕ → Option ℕ
+definition_at defs k r = elim (slice_get defs k) [ None ↦ None | Some ds ↦ definition_in ds r ]
 
 abbrev pub inside_instance : Table → Option ℕ → Text → Looked
 inside_instance tb None x = Missing
 inside_instance tb (Some j) x = look_inside tb j x
 
 -- one further part of a name, from what is said of the part before it; instances are passed where that is asked for
-abbrev pub step_from : Table → List (List ℕ) → Bool → ℕ → Option What → Text → Looked
+abbrev pub step_from : Table → Definitions → Bool → ℕ → Option What → Text → Looked
 step_from tb defs pass k None x = Blocked
 step_from tb defs pass k (Some (what.Component j)) x = look_inside tb j x
 step_from tb defs pass k (Some (what.Instance r)) x = if pass then inside_instance tb (definition_at defs k r) x else Blocked
@@ -95,13 +102,13 @@ step_from tb defs pass k (Some (what.Literal j)) x = Blocked
 step_from tb defs pass k (Some (what.Location j)) x = Blocked
 step_from tb defs pass k (Some (what.Definition j n)) x = Blocked
 
-abbrev pub step : Table → List (List ℕ) → Bool → Looked → Text → Looked
+abbrev pub step : Table → Definitions → Bool → Looked → Text → Looked
 step tb defs pass (At k s) x = step_from tb defs pass k (what_at tb k s) x
 step tb defs pass Missing x = Missing
 step tb defs pass Blocked x = Blocked
 
 -- further parts
-abbrev pub steps : Table → List (List ℕ) → Bool → Looked → List Ident → Looked
+abbrev pub steps : Table → Definitions → Bool → Looked → List Ident → Looked
 steps tb defs pass l [] = l
 steps tb defs pass l (p ∷ ps) = steps tb defs pass (step tb defs pass l p.text) ps
 
@@ -109,21 +116,27 @@ abbrev pub first_part : Table → Bool → ℕ → Text → Looked
 first_part tb from_root k x = if from_root then here_or 0 (slot_at tb 0 x) Missing else look_out tb (length tb.scopes) k x
 
 -- a name in body k
-abbrev pub look : Table → List (List ℕ) → Bool → ℕ → Name → Looked
+abbrev pub look : Table → Definitions → Bool → ℕ → Name → Looked
 look tb defs pass k nm = elim nm.parts [ [] ↦ Missing | p ∷ ps ↦ steps tb defs pass (first_part tb nm.from_root k p.text) ps ]
 
 -- the slot of an instance that is passed
+abbrev pub passed_at : ℕ → ℕ → Option What → List Slot
+passed_at k s None = []
+passed_at k s (Some (what.Instance r)) = record { body = k; slot = s } ∷ []
+passed_at k s (Some (what.Declared d)) = []
+passed_at k s (Some (what.Literal j)) = []
+passed_at k s (Some (what.Location j)) = []
+passed_at k s (Some (what.Component j)) = []
+passed_at k s (Some (what.Definition j n)) = []
+passed_at k s (Some (what.Parameter p)) = []
+
 abbrev pub passed_slot : Table → Looked → List Slot
-passed_slot tb (At k s) = elim (what_at tb k s) [
-  | None ↦ []
-  | Some (what.Instance r) ↦ record { body = k; slot = s } ∷ []
-  | Some _ ↦ []
-]
+passed_slot tb (At k s) = passed_at k s (what_at tb k s)
 passed_slot tb Missing = []
 passed_slot tb Blocked = []
 
 -- the instances that further parts pass
-abbrev pub passed : Table → List (List ℕ) → Looked → List Ident → List Slot
+abbrev pub passed : Table → Definitions → Looked → List Ident → List Slot
 passed tb defs l [] = []
 passed tb defs l (p ∷ ps) = passed_slot tb l ++ passed tb defs (step tb defs true l p.text) ps
 
@@ -136,9 +149,9 @@ as_found (At k s) through = Some (record { body = k; slot = s; through = through
 as_found Missing through = None
 as_found Blocked through = None
 
-abbrev pub followed : Table → List (List ℕ) → Looked → List Ident → Option Found
+abbrev pub followed : Table → Definitions → Looked → List Ident → Option Found
 followed tb defs l ps = as_found (steps tb defs true l ps) (passed tb defs l ps)
 
 -- what a name in body k finds, through instances too
-abbrev pub find : Table → List (List ℕ) → ℕ → Name → Option Found
+abbrev pub find : Table → Definitions → ℕ → Name → Option Found
 find tb defs k nm = elim nm.parts [ [] ↦ None | p ∷ ps ↦ followed tb defs (first_part tb nm.from_root k p.text) ps ]

@@ -14,30 +14,30 @@ use Rattle.cif_scope.specs.declared.table.Table.{Table}
 use Rattle.cif_scope.specs.declared.scopes.Found.{Found}
 use Rattle.cif_scope.specs.declared.scopes.Scopes.{Scopes}
 use Rattle.cif_scope.specs.Tables.{IsBody, Beside, IsTable}
-use Rattle.cif_scope.specs.Looks.{texts_of}
+use Rattle.cif_scope.specs.Looks.{texts_of, Definitions}
 
 -- each scope's names by their slots, of which none stands twice
 pub record IsIndexed (tb : Table) : Type 0 where
   pub names : tb.names ≡ map texts_of tb.scopes
   pub distinct : (k : ℕ) (s : Scope) → slice_get tb.scopes k ≡ Some s → AreDistinct (texts_of s)
 
--- body k is that of the definition found
-abbrev pub Defines : Source → Reached → ℕ → Type 0
-Defines t (reached (o, definition n ps b)) k = IsBody t k (blank o n ps b)
-Defines t (reached (o, declared d)) k = ⊥
-Defines t (reached (o, literal j ls)) k = ⊥
-Defines t (reached (o, location j)) k = ⊥
-Defines t (reached (o, inner n b)) k = ⊥
-Defines t (reached (o, instance i)) k = ⊥
-Defines t (reached (o, parameter j p)) k = ⊥
-Defines t missing k = ⊥
-Defines t blocked k = ⊥
+-- the body of the definition found, where one is found
+abbrev pub Defines : Source → Reached → Option ℕ → Type 0
+Defines t (reached (o, definition n ps b)) d = (k : ℕ) × (d ≡ Some k) × IsBody t k (blank o n ps b)
+Defines t (reached (o, declared x)) d = d ≡ None
+Defines t (reached (o, literal j ls)) d = d ≡ None
+Defines t (reached (o, location j)) d = d ≡ None
+Defines t (reached (o, inner n b)) d = d ≡ None
+Defines t (reached (o, instance i)) d = d ≡ None
+Defines t (reached (o, parameter j p)) d = d ≡ None
+Defines t missing d = d ≡ None
+Defines t blocked d = d ≡ None
 
-abbrev pub IsDefinitionOf : Source → Component → InstanceTree → ℕ → Type 0
-IsDefinitionOf t c i k = Defines t (definition_found c i) k
+abbrev pub IsDefinitionOf : Source → Component → InstanceTree → Option ℕ → Type 0
+IsDefinitionOf t c i d = Defines t (definition_found c i) d
 
 -- for each body the definitions of its instances, as bodies
-abbrev pub AreDefinitions : Source → List (List ℕ) → Type 0
+abbrev pub AreDefinitions : Source → Definitions → Type 0
 AreDefinitions t defs = Beside (λ c ds. Beside (IsDefinitionOf t c) (instances_of c) ds) (bodies t) defs
 
 -- none of the rules on scopes is broken

@@ -56,9 +56,9 @@ IsWhat t c (parameter k p) w = w ≡ what.Parameter (param_sort p)
 abbrev pub IsName : Source → Component → Ident × Entry → ScopeName → Type 0
 IsName t c e s = (s.name ≡ e.0) × IsWhat t c e.1 s.what
 
--- the number of the body in which c stands
+-- the number of the body in which c stands; only the specification stands in none
 abbrev pub IsOuter : Source → Component → Option ℕ → Type 0
-IsOuter t (whole is) o = o ≡ None
+IsOuter t (whole is) o = (o ≡ None) × (is ≡ t)
 IsOuter t (part p n b) o = (k : ℕ) × (o ≡ Some k) × IsBody t k p
 IsOuter t (blank p n ps b) o = (k : ℕ) × (o ≡ Some k) × IsBody t k p
 IsOuter t (copy p n ps b g i) o = ⊥

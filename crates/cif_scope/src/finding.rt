@@ -35,7 +35,7 @@ impl Table {
     fn follow(
         &self,
         alloc: Global,
-        definitions: &[Items<u32>],
+        definitions: &[Items<Option<u32>>],
         from: Looked,
         parts: &[Ident],
     ) -> Result<Option<Found>, Memory>
@@ -60,7 +60,7 @@ impl Table {
     fn find(
         &self,
         alloc: Global,
-        definitions: &[Items<u32>],
+        definitions: &[Items<Option<u32>>],
         scope: u32,
         name: &Name,
     ) -> Result<Option<Found>, Memory>
@@ -134,12 +134,7 @@ impl Scopes {
     }
 
     /// What a name in a body finds, or `None` where it finds nothing.
-    pub fn find(
-        &self,
-        alloc: Global,
-        scope: u32,
-        name: &Name,
-    ) -> Result<Option<Found>, Memory>
+    pub fn find(&self, alloc: Global, scope: u32, name: &Name) -> Result<Option<Found>, Memory>
         requires { scope < length self.now.table.scopes }
         ensures { (t : Source) (c : Component) → AreScopesOf t self.now → IsBody t scope c
             → IfOk result (λ f. Finds t (found c name.now) f) }

@@ -15,5 +15,5 @@ mod table;
 
 pub use error::ScopeErr;
 pub use looked::Slot;
-pub use scopes::{Found, Scopes};
 pub use scope::{ParamSort, Scope, ScopeName, Sort, What};
+pub use scopes::{Found, Scopes};

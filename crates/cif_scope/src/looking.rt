@@ -71,7 +71,7 @@ impl Table {
     /// A name in the body of an instance's definition.
     fn inside_instance(
         &self,
-        definitions: &[Items<u32>],
+        definitions: &[Items<Option<u32>>],
         body: u32,
         instance: u32,
         text: &Text,
@@ -87,7 +87,7 @@ impl Table {
     /// One further part of a name. Instances are passed where `passes` says so.
     pub fn step(
         &self,
-        definitions: &[Items<u32>],
+        definitions: &[Items<Option<u32>>],
         passes: bool,
         from: Looked,
         text: &Text,
@@ -122,7 +122,7 @@ impl Table {
     /// The further parts of a name.
     fn steps(
         &self,
-        definitions: &[Items<u32>],
+        definitions: &[Items<Option<u32>>],
         passes: bool,
         from: Looked,
         parts: &[Ident],
@@ -139,7 +139,7 @@ impl Table {
     /// Where a name in a body leads.
     pub fn look(
         &self,
-        definitions: &[Items<u32>],
+        definitions: &[Items<Option<u32>>],
         passes: bool,
         body: u32,
         name: &Name,
@@ -157,9 +157,10 @@ impl Table {
 }
 
 /// The body of the definition of an instance.
-pub fn definition_of(definitions: &[Items<u32>], body: u32, instance: u32) -> Option<u32>
+pub fn definition_of(definitions: &[Items<Option<u32>>], body: u32, instance: u32) -> Option<u32>
     ensures { result ≡ looks.definition_at definitions.now body instance }
 {
     let of_body = definitions.get(body as usize)?;
-    of_body.get(instance as usize).copied()
+    let found = of_body.get(instance as usize)?;
+    *found
 }

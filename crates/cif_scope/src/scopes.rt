@@ -10,7 +10,7 @@ use cif_base::Items;
 #[derive(Drop)]
 pub struct Scopes {
     pub(crate) table: Table,
-    pub(crate) definitions: Items<Items<u32>>,
+    pub(crate) definitions: Items<Items<Option<u32>>>,
 }
 
 /// What a name finds: the slot of a body whose scope declares it, and the instances that the name passes, in order.

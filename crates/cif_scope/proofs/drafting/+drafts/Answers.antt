@@ -15,7 +15,7 @@ add_group-returns t c =
 pub add_items-loop-item-preserved : goal.add_items-loop-item-preserved
 add_items-loop-item-preserved t c =
     let here : drop c.loop-item.item-index c.args.items.now ≡ c.item-item.result ∷ drop (c.loop-item.item-index + 1) c.args.items.now =
-        drop-item c.args.items.now c.loop-item.item-index c.item-item.result c.loop-item-test.true c.item-item.is in
+    drop-item c.args.items.now c.loop-item.item-index c.item-item.result c.loop-item-test.true c.item-item.is in
     record {
       scopes = scopes-step c.args.own c.loop-item.scopes _ (source_item (view_item c.item-item.result)) (source_items (view_items (drop (c.loop-item.item-index + 1) c.args.items.now))) c.in_ok-add_item.ensures.scopes
           ∙ ap (λ (l : List Item). c.loop-item.scopes ++ scopes_in c.args.own (length c.loop-item.scopes) (source_items (view_items l))) (sym here)

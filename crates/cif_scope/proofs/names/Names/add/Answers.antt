@@ -9,6 +9,6 @@ returns c =
     let key : c.in_ok-key.key.items ≡ c.args.name.now = c.in_ok-key.ensures.items ∙ c.as_slice.ensures in
     let view : map (λ k. k.items) c.self.inside.keys.keys ≡ c.args.self.now = c.self.view_is in
     let new : slot_in (map (λ k. k.items) c.self.inside.keys.keys) c.in_ok-key.key.items ≡ None =
-        ap (λ (ns : List (List ℕ)). slot_in ns c.in_ok-key.key.items) view ∙ ap (λ (x : List ℕ). slot_in c.args.self.now x) key ∙ c.requires in
+    ap (λ (ns : List (List ℕ)). slot_in ns c.in_ok-key.key.items) view ∙ ap (λ (x : List ℕ). slot_in c.args.self.now x) key ∙ c.requires in
     added-is (λ k. k.items) c.self.inside.keys.keys c.in_ok-key.key c.insert.new.self.keys c.in_ok-insert.ensures.keys new
     ∙ ap (λ (ns : List (List ℕ)). ns ++ c.in_ok-key.key.items ∷ []) view ∙ ap (λ (x : List ℕ). c.args.self.now ++ x ∷ []) key
