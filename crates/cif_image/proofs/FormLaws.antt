@@ -29,7 +29,7 @@ any-member P xs a = (a.1, at xs a.0 a.1 a.2 a.3, a.4)
     at (y ∷ ys) zero x lt is = inl (sym is)
     at (y ∷ ys) (suc k) x lt is = inr (at ys k x (omega (arith, lt)) is)
 
-flat-nothing : {A B : Type 0} (f : A → List B) (xs : List A) → ((x : A) → Member x xs → f x ≡ []) → flat_map f xs ≡ []
+pub flat-nothing : {A B : Type 0} (f : A → List B) (xs : List A) → ((x : A) → Member x xs → f x ≡ []) → flat_map f xs ≡ []
 flat-nothing f [] h = refl
 flat-nothing f (x ∷ xs) h = ap (λ ys. ys ++ flat_map f xs) (h x (inl refl)) ∙ flat-nothing f xs (λ y m. h y (inr m))
 

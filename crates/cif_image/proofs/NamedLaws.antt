@@ -81,13 +81,20 @@ event-entry (definition n ps b) a p = absurd (false-true refl a)
 event-entry (instance i) a p = absurd (false-true refl a)
 event-entry (parameter k q) a p = absurd (false-true p refl)
 
-position-below : {A : Type 0} (p : A → Bool) (xs : List A) → list_any p xs ≡ true → position_or_len p xs < length xs
+pub position-below : {A : Type 0} (p : A → Bool) (xs : List A) → list_any p xs ≡ true → position_or_len p xs < length xs
 position-below p [] h = absurd (false-true refl h)
 position-below p (x ∷ xs) h =
     (elim (p x) as (λ b. (b || list_any p xs) ≡ true → cond (not b) (1 + position_or_len p xs) 0 < suc (length xs)) [
       | true ↦ λ g. omega arith
       | false ↦ λ g. omega (arith, position-below p xs g)
     ]) h
+
+-- what stands in a component that is written where it stands is no argument
+pub plain-thing : (x : ScopeEntry) → is_plain_part x.0 ≡ true → stands_for_argument x ≡ false
+plain-thing (whole is, e) h = refl
+plain-thing (part o n b, e) h = refl
+plain-thing (blank o n ps b, e) h = refl
+plain-thing (copy o n ps b g i, e) h = absurd (false-true refl h)
 
 module _ (t : Source) (flat : is_flat t ≡ true) (listed : components_of t ≡ bodies t) (few : length (components_of t) ≤ most_objects) where
   home : (c : Component) → Member c (bodies t) → Member c (components_of t)
@@ -109,13 +116,6 @@ module _ (t : Source) (flat : is_flat t ≡ true) (listed : components_of t ≡ 
 
   pub found-fine : (c : Component) → Member c (bodies t) → (nm : Name) (y : ScopeEntry) → found c nm ≡ reached y → Ok t few y × (is_parameter y.1 ≡ false)
   found-fine c m nm y h = parts-fine c m nm.from_root nm.parts nm.at y h
-
-  -- where it stands has an argument in no source without definitions
-  plain-thing : (x : ScopeEntry) → is_plain_part x.0 ≡ true → stands_for_argument x ≡ false
-  plain-thing (whole is, e) h = refl
-  plain-thing (part o n b, e) h = refl
-  plain-thing (blank o n ps b, e) h = refl
-  plain-thing (copy o n ps b g i, e) h = absurd (false-true refl h)
 
   module _ (known : (at : ℕ) → UnknownDue t at → ⊥) (sorts : (at : ℕ) → WrongKindDue t at → ⊥) where
     pub leads : (c : Component) → Member c (bodies t) → (nm : Name) → Member (record { name = nm; asks = event_asked }) (uses c) → LeadsToEvent t c nm

@@ -28,7 +28,7 @@ abbrev pub is_well_named : Ident × Entry → Bool
 is_well_named (n, declared (event_decl k h m)) = same_text n.text m.text
 is_well_named (n, _) = true
 
-append-filtered : {A B : Type 0} (f : A → Option B) (xs ys : List A) → filter_map f (xs ++ ys) ≡ filter_map f xs ++ filter_map f ys
+pub append-filtered : {A B : Type 0} (f : A → Option B) (xs ys : List A) → filter_map f (xs ++ ys) ≡ filter_map f xs ++ filter_map f ys
 append-filtered f [] ys = refl
 append-filtered f (x ∷ xs) ys =
     (elim (f x) as (λ o. cons_option o (filter_map f (xs ++ ys)) ≡ cons_option o (filter_map f xs) ++ filter_map f ys) [
@@ -44,7 +44,7 @@ append-kept p (x ∷ xs) ys =
       | false ↦ append-kept p xs ys
     ])
 
-literals-nothing : (ls : List Ident) (xs : List (ℕ × Ident)) → filter_map as_event (map (λ x. (x.1, literal x.0 ls)) xs) ≡ []
+pub literals-nothing : (ls : List Ident) (xs : List (ℕ × Ident)) → filter_map as_event (map (λ x. (x.1, literal x.0 ls)) xs) ≡ []
 literals-nothing ls [] = refl
 literals-nothing ls (x ∷ xs) = literals-nothing ls xs
 
@@ -82,7 +82,7 @@ items-events (i ∷ is) =
     ∙ ap (λ xs. filter is_event (item_decls i) ++ xs) (items-events is)
     ∙ sym (append-kept is_event (item_decls i) (flat_map item_decls is))
 
-locations-nothing : (ls : List (ℕ × LocationTree)) → filter_map as_event (filter_map location_entry ls) ≡ []
+pub locations-nothing : (ls : List (ℕ × LocationTree)) → filter_map as_event (filter_map location_entry ls) ≡ []
 locations-nothing [] = refl
 locations-nothing ((k, l) ∷ ls) =
     (elim l.name as (λ o. filter_map as_event (cons_option (elim o [ None ↦ None | Some n ↦ Some (n, location k) ]) (filter_map location_entry ls)) ≡ []) [
@@ -105,7 +105,7 @@ body-events (automaton_body a) =
 
 -- ---- they stand under their own names
 
-all-joined : {A : Type 0} (p : A → Bool) (xs ys : List A) → list_all p xs ≡ true → list_all p ys ≡ true → list_all p (xs ++ ys) ≡ true
+pub all-joined : {A : Type 0} (p : A → Bool) (xs ys : List A) → list_all p xs ≡ true → list_all p ys ≡ true → list_all p (xs ++ ys) ≡ true
 all-joined p [] ys h g = g
 all-joined p (x ∷ xs) ys h g = ap (λ b. b && list_all p (xs ++ ys)) (and-left (p x) (list_all p xs) h) ∙ all-joined p xs ys (and-right (p x) (list_all p xs) h) g
 
