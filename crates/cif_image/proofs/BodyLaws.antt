@@ -86,23 +86,24 @@ other-name n m ns h k same =
 -- a component with what stands in it, before the rest of the items
 apart : (c d : Component) (n : Ident) (b : SourceBody) (is : Source) → path_of d ≡ path_of c ++ n.text ∷ [] → has_twice (n ∷ declared_in is) ≡ false
     → AreDistinct (map path_of (bodies_under d b)) → AreDistinct (map path_of (bodies_in c is)) → AreDistinct (map path_of (d ∷ bodies_under d b ++ bodies_in c is))
-apart c d n b is here single own rest =
-    (λ m. elim (append-cases (path_of d) (map path_of (bodies_under d b)) (map path_of (bodies_in c is)) (subst (Member (path_of d)) (map-append path_of (bodies_under d b) (bodies_in c is)) m)) [
-      | inl w ↦
-          let e = member-map path_of (path_of d) (bodies_under d b) w in
-          let g = under b d e.0 e.1 in
-          not-longer (path_of c) n.text g.0 g.1 (sym here ∙ e.2 ∙ g.2 ∙ ap (λ p. p ++ g.0 ∷ g.1) here ∙ longer (path_of c) n.text g.0 g.1)
-      | inr w ↦
-          let e = member-map path_of (path_of d) (bodies_in c is) w in
-          let g = goes-on is c e.0 e.1 in
-          other-name n g.0 (declared_in is) single g.1 (same-head (path_of c) n.text g.0.text [] g.2.0 (sym here ∙ e.2 ∙ g.2.1))
-    ],
-    subst AreDistinct (sym (map-append path_of (bodies_under d b) (bodies_in c is))) (append-distinct (map path_of (bodies_under d b)) (map path_of (bodies_in c is)) own rest (λ p k l.
-        let e = member-map path_of p (bodies_under d b) k in
+apart c d n b is here single own rest = (
+  λ m. elim (append-cases (path_of d) (map path_of (bodies_under d b)) (map path_of (bodies_in c is)) (subst (Member (path_of d)) (map-append path_of (bodies_under d b) (bodies_in c is)) m)) [
+    | inl w ↦
+        let e = member-map path_of (path_of d) (bodies_under d b) w in
         let g = under b d e.0 e.1 in
-        let f = member-map path_of p (bodies_in c is) l in
-        let i = goes-on is c f.0 f.1 in
-        other-name n i.0 (declared_in is) single i.1 (same-head (path_of c) n.text i.0.text (g.0 ∷ g.1) i.2.0 (sym (longer (path_of c) n.text g.0 g.1) ∙ ap (λ q. q ++ g.0 ∷ g.1) (sym here) ∙ sym g.2 ∙ sym e.2 ∙ f.2 ∙ i.2.1)))))
+        not-longer (path_of c) n.text g.0 g.1 (sym here ∙ e.2 ∙ g.2 ∙ ap (λ p. p ++ g.0 ∷ g.1) here ∙ longer (path_of c) n.text g.0 g.1)
+    | inr w ↦
+        let e = member-map path_of (path_of d) (bodies_in c is) w in
+        let g = goes-on is c e.0 e.1 in
+        other-name n g.0 (declared_in is) single g.1 (same-head (path_of c) n.text g.0.text [] g.2.0 (sym here ∙ e.2 ∙ g.2.1))
+  ],
+  subst AreDistinct (sym (map-append path_of (bodies_under d b) (bodies_in c is))) (append-distinct (map path_of (bodies_under d b)) (map path_of (bodies_in c is)) own rest (λ p k l.
+      let e = member-map path_of p (bodies_under d b) k in
+      let g = under b d e.0 e.1 in
+      let f = member-map path_of p (bodies_in c is) l in
+      let i = goes-on is c f.0 f.1 in
+      other-name n i.0 (declared_in is) single i.1 (same-head (path_of c) n.text i.0.text (g.0 ∷ g.1) i.2.0 (sym (longer (path_of c) n.text g.0 g.1) ∙ ap (λ q. q ++ g.0 ∷ g.1) (sym here) ∙ sym g.2 ∙ sym e.2 ∙ f.2 ∙ i.2.1)))),
+)
 
 not-twice-tail : (i : SourceItem) (is : Source) → has_twice (declared_in (source i is)) ≡ false → has_twice (declared_in is) ≡ false
 not-twice-tail i is h = not-twice-right (names (item_entries i)) (declared_in is) (ap has_twice (sym (names-append (item_entries i) (flat_map item_entries (list_of_items is)))) ∙ h)
@@ -129,9 +130,10 @@ mutual
 
 -- no two bodies have one path
 pub paths-distinct : (t : Source) → list_all is_single (bodies t) ≡ true → AreDistinct (map path_of (bodies t))
-paths-distinct t h =
-    (λ m.
+paths-distinct t h = (
+  λ m.
       let e = member-map path_of [] (bodies_in (whole t) t) m in
       let g = goes-on t (whole t) e.0 e.1 in
       not-root [] g.0.text g.2.0 (e.2 ∙ g.2.1),
-    items-distinct t (whole t) (not-true _ (and-left (is_single (whole t)) (list_all is_single (bodies_in (whole t) t)) h)) (and-right (is_single (whole t)) (list_all is_single (bodies_in (whole t) t)) h))
+  items-distinct t (whole t) (not-true _ (and-left (is_single (whole t)) (list_all is_single (bodies_in (whole t) t)) h)) (and-right (is_single (whole t)) (list_all is_single (bodies_in (whole t) t)) h),
+)

@@ -176,7 +176,7 @@ module _ (t : Source) (flat : is_flat t ≡ true) where
       elim m [
         | inl w ↦ ap is_plain_part w
         | inr w ↦ all-member is_plain_part (bodies_in (whole t) t) c
-          (items-plain t (whole t) refl (and-left (list_all stands_alone (list_of_items t)) (list_all is_written_out (bodies_in (whole t) t)) no-definitions) (and-right (list_all stands_alone (list_of_items t)) (list_all is_written_out (bodies_in (whole t) t)) no-definitions)) w
+            (items-plain t (whole t) refl (and-left (list_all stands_alone (list_of_items t)) (list_all is_written_out (bodies_in (whole t) t)) no-definitions) (and-right (list_all stands_alone (list_of_items t)) (list_all is_written_out (bodies_in (whole t) t)) no-definitions)) w
       ]
 
   pub no-params : (c : Component) → Member c (bodies t) → params_of c ≡ []

@@ -168,5 +168,5 @@ module _ (t : Source) (flat : is_flat t ≡ true) (listed : components_of t ≡ 
   event-below c nm l =
       position-below (is_declared l.place l.ident.text) (events t)
       (member-passes (is_declared l.place l.ident.text) (events t) (l.place, event_decl l.class l.channel l.ident)
-        (filter-member (λ (d : Declared). is_event d.1) (declarations t) (l.place, event_decl l.class l.channel l.ident) (declaration-listed t few l.place (event_decl l.class l.channel l.ident) (home l.place l.is_body) l.is_declared) refl)
-        (ap (λ b. b && pointwise same_text (path_of l.place) (path_of l.place)) (nat_list_eq_equiv.refl l.ident.text) ∙ path-self (path_of l.place)))
+      (filter-member (λ (d : Declared). is_event d.1) (declarations t) (l.place, event_decl l.class l.channel l.ident) (declaration-listed t few l.place (event_decl l.class l.channel l.ident) (home l.place l.is_body) l.is_declared) refl)
+      (ap (λ b. b && pointwise same_text (path_of l.place) (path_of l.place)) (nat_list_eq_equiv.refl l.ident.text) ∙ path-self (path_of l.place)))

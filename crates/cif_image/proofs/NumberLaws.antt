@@ -182,8 +182,8 @@ rank-first (x ∷ es) zero n k h m single well at =
 rank-first ((j, declared (event_decl a b i)) ∷ es) (suc s) n k h m single well at =
     let named : same_text n.text m.text ≡ true = all-at-entry es s n k h m (and-right (same_text j.text i.text) (list_all is_well_named es) well) at in
     not-here (event_decl a b i) (filter_map as_event es) m.text (false-otherwise (same_text i.text m.text) (λ same.
-      other-name j n (names es) single (entry-member es s n (declared (event_decl k h m)) at)
-      (text-told j.text i.text (and-left (same_text j.text i.text) (list_all is_well_named es) well) ∙ text-told i.text m.text same ∙ sym (text-told n.text m.text named))))
+    other-name j n (names es) single (entry-member es s n (declared (event_decl k h m)) at)
+    (text-told j.text i.text (and-left (same_text j.text i.text) (list_all is_well_named es) well) ∙ text-told i.text m.text same ∙ sym (text-told n.text m.text named))))
     ∙ (let more : 1 + position_or_len (declares m.text) (filter_map as_event es) ≡ suc (event_rank es s) = omega (arith, rank-first es s n k h m (not-twice-right (j ∷ []) (names es) single) (and-right (same_text j.text i.text) (list_all is_well_named es) well) at) in more)
   where
     all-at-entry : (es : Entries) (s : ℕ) (n : Ident) (k : Class) (h : ChannelTree) (m : Ident) → list_all is_well_named es ≡ true → slice_get es s ≡ Some (n, declared (event_decl k h m)) → same_text n.text m.text ≡ true
@@ -249,7 +249,7 @@ here-of : (d : Component) (x : Text) (es : List DeclTree) (rest : List Declared)
 here-of d x [] rest h = absurd (omega (arith, h))
 here-of d x (e ∷ es) rest h =
     (elim (declares x e) as (λ b. cond (not b) (1 + position_or_len (declares x) es) 0 < suc (length es)
-        → cond (not (b && same_path (path_of d) (path_of d))) (1 + position_or_len (is_declared d x) (map (λ e. (d, e)) es ++ rest)) 0 ≡ cond (not b) (1 + position_or_len (declares x) es) 0) [
+    → cond (not (b && same_path (path_of d) (path_of d))) (1 + position_or_len (is_declared d x) (map (λ e. (d, e)) es ++ rest)) 0 ≡ cond (not b) (1 + position_or_len (declares x) es) 0) [
       | true ↦ λ g. ap (λ b. cond (not b) (1 + position_or_len (is_declared d x) (map (λ e. (d, e)) es ++ rest)) 0) (path-self (path_of d))
       | false ↦ λ g. ap (λ z. 1 + z) (here-of d x es rest (omega (arith, g)))
     ]) h
@@ -275,7 +275,7 @@ across (c ∷ cs) zero d x r apart at here within =
     ∙ (let all : position_or_len (declares x) (filter is_event (decls_of d)) ≡ 0 + r = omega (arith, here) in all)
 across (c ∷ cs) (suc b) d x r apart at here within =
     passed-by c d x (filter is_event (decls_of c)) (flat_map own_events cs) (false-otherwise (same_path (path_of c) (path_of d)) (λ same.
-      apart.0 (subst (λ p. Member p (map path_of cs)) (sym (path-told (path_of c) (path_of d) same)) (map-member path_of d cs (at-member cs b d at)))))
+    apart.0 (subst (λ p. Member p (map path_of cs)) (sym (path-told (path_of c) (path_of d) same)) (map-member path_of d cs (at-member cs b d at)))))
     ∙ ap (λ z. length (filter is_event (decls_of c)) + z) (across cs b d x r apart.1 at here within)
     ∙ (let e : length (filter is_event (decls_of c)) + (event_total (take b cs) + r) ≡ length (filter is_event (decls_of c)) + event_total (take b cs) + r = omega arith in e)
 

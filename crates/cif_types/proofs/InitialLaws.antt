@@ -87,13 +87,16 @@ mutual
   body-told : (b : SourceBody) (c : Component) (n : Ident) (at count : ℕ) → body_of c ≡ b → written_name c ≡ Some n → body_initials n b ≡ Some (at, count) → Breaks at count (c ∷ bodies_under c b)
   body-told (group_body is) c n at count e f h = let w = items-told is c at count h in (w.0, inr w.1, w.2)
   body-told (automaton_body a) c n at count e f h =
-      let told = one-told n.at (length (filter (λ (l : LocationTree). l.initial) a.locs)) (at, count) h in
-      (c, inl refl, record {
-        automaton = ap is_automaton e;
-        named = named c n at f told.0;
-        counted = told.1 ∙ sym (counts c a e);
-        other = λ one. told.2 (sym told.1 ∙ one);
-      })
+      let told = one-told n.at (length (filter (λ (l : LocationTree). l.initial) a.locs)) (at, count) h in (
+        c,
+        inl refl,
+        record {
+          automaton = ap is_automaton e;
+          named = named c n at f told.0;
+          counted = told.1 ∙ sym (counts c a e);
+          other = λ one. told.2 (sym told.1 ∙ one);
+        },
+      )
 
 mutual
   items-kept : (is : Source) (c x : Component) (at count : ℕ) → initials_in is ≡ None → Member x (bodies_in c is) → HasInitials x at count → ⊥
@@ -127,11 +130,11 @@ mutual
 pub kept : (t : Source) → initials_in t ≡ None → KeepsKinds t
 kept t h = record {
   started = λ at count due.
-    let a = from-any (λ a. HasInitials a at count) (bodies t) due in
-    elim a.1 [
-      | inl w ↦ false-true (ap (λ c. is_automaton (body_of c)) w) a.2.automaton
-      | inr w ↦ items-kept t (whole t) a.0 at count h w a.2
-    ];
+      let a = from-any (λ a. HasInitials a at count) (bodies t) due in
+      elim a.1 [
+        | inl w ↦ false-true (ap (λ c. is_automaton (body_of c)) w) a.2.automaton
+        | inr w ↦ items-kept t (whole t) a.0 at count h w a.2
+      ];
 }
 
 -- what is told is due
