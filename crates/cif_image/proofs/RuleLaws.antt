@@ -21,13 +21,13 @@ use Rattle.cif_image.proofs.ValueLaws.{constant_fits}
 
 -- ---- sizes
 
-components-counted : (cs : List Component) → length cs ≤ sum (map component_objects cs)
+pub components-counted : (cs : List Component) → length cs ≤ sum (map component_objects cs)
 components-counted [] = omega arith
 components-counted (c ∷ cs) =
     let own : component_objects c ≡ 1 + sum (map decl_objects (decls_of c)) + length (locs_of c) + length (event_edges c) = refl in
     omega (arith, components-counted cs, own, sum-map component_objects (c ∷ cs), sum_by-cons component_objects c cs, sum-map component_objects cs)
 
-within-or-past : (n m : ℕ) → (n ≤ m) ⊎ (m < n)
+pub within-or-past : (n m : ℕ) → (n ≤ m) ⊎ (m < n)
 within-or-past n m =
     (elim (nat_le n m) as (λ b. nat_le n m ≡ b → (n ≤ m) ⊎ (m < n)) [
       | true ↦ λ h. inl (grind (arith, nat_tests))
@@ -52,7 +52,7 @@ member-any P x (y ∷ ys) m p =
       | inr w ↦ let rest = member-any P x ys w p in (suc rest.0, rest.1, omega (arith, rest.2), rest.3, rest.4)
     ]
 
-all-from : {A : Type 0} (p : A → Bool) (xs : List A) → ((x : A) → Member x xs → p x ≡ true) → list_all p xs ≡ true
+pub all-from : {A : Type 0} (p : A → Bool) (xs : List A) → ((x : A) → Member x xs → p x ≡ true) → list_all p xs ≡ true
 all-from p [] h = refl
 all-from p (x ∷ xs) h = ap (λ b. b && list_all p xs) (h x (inl refl)) ∙ all-from p xs (λ y m. h y (inr m))
 

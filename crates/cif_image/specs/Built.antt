@@ -1,0 +1,134 @@
+-- The forms of a source that are built so far. Each test names one form that is not built yet, and is about bodies as written.
+use Rattle.std.specs.Prelude.{ℕ, Bool, true, false, ◌&&◌, nat_eq, nat_le, List, [], ◌∷◌, filter, flat_map, length, Option, Some, None}
+use Rattle.std.specs.List.{list_all}
+use Rattle.cif_ast.specs.Tree.{UpdateTrees, no_updates, updates}
+use Rattle.cif_ast.specs.declared.names.Name.{Name}
+use Rattle.cif_ast.specs.declared.declarations.Class.{Class}
+use Rattle.cif_ast.specs.declared.declarations.Class.TheVariants as class
+use Rattle.cif_source.specs.Source.{ChannelTree, no_type, void_type, value_type, RoleTree, syncs, sends, receives, UseTree, EdgeTree, LocationTree, DeclTree, type_decl, enum_decl, event_decl, const_decl, alg_decl, input_decl, disc_decl, equation_decl, invariant_decl, marked_decl, SourceItem, decl_item, component_item, definition_item, instance_item, SourceBody, group_body, automaton_body, Source}
+use Rattle.cif_source.specs.Components.{Component, body_of}
+use Rattle.cif_source.specs.Objects.{bodies, items_in, decls_in, locs_in, is_automaton, event_edges}
+
+-- ---- tests of all bodies
+
+abbrev pub every_body : (SourceBody → Bool) → Source → Bool
+every_body test t = list_all (λ c. test (body_of c)) (bodies t)
+
+abbrev pub every_decl : (DeclTree → Bool) → Source → Bool
+every_decl test t = every_body (λ b. list_all test (decls_in b)) t
+
+abbrev pub every_location : (LocationTree → Bool) → Source → Bool
+every_location test t = every_body (λ b. list_all test (locs_in b)) t
+
+abbrev pub every_edge : (EdgeTree → Bool) → Source → Bool
+every_edge test t = every_location (λ l. list_all test l.edges) t
+
+abbrev pub is_nothing : {A : Type 0} → List A → Bool
+is_nothing [] = true
+is_nothing (x ∷ xs) = false
+
+-- ---- definitions and instances
+
+abbrev pub stands_alone : SourceItem → Bool
+stands_alone (decl_item d) = true
+stands_alone (component_item n b) = true
+stands_alone (definition_item n ps b) = false
+stands_alone (instance_item i) = false
+
+abbrev pub has_no_definitions : Source → Bool
+has_no_definitions t = every_body (λ b. list_all stands_alone (items_in b)) t
+
+-- ---- data: types, values, guards, updates and predicates
+
+abbrev pub is_no_data : DeclTree → Bool
+is_no_data (event_decl k h n) = true
+is_no_data (invariant_decl i) = true
+is_no_data _ = false
+
+abbrev pub has_no_predicates : LocationTree → Bool
+has_no_predicates l = is_nothing l.marked && is_nothing l.equations
+
+abbrev pub updates_nothing : UpdateTrees → Bool
+updates_nothing no_updates = true
+updates_nothing (updates u us) = false
+
+abbrev pub is_bare : EdgeTree → Bool
+is_bare e = is_nothing e.guards && updates_nothing e.updates
+
+abbrev pub has_no_data : Source → Bool
+has_no_data t = every_decl is_no_data t && every_location has_no_predicates t && every_edge is_bare t
+
+-- ---- channels
+
+abbrev pub is_no_channel : DeclTree → Bool
+is_no_channel (event_decl k no_type n) = true
+is_no_channel (event_decl k void_type n) = false
+is_no_channel (event_decl k (value_type ty) n) = false
+is_no_channel _ = true
+
+abbrev pub only_syncs : UseTree → Bool
+only_syncs u = elim u.role [ syncs ↦ true | sends e ↦ false | receives ↦ false ]
+
+abbrev pub has_no_channels : Source → Bool
+has_no_channels t = every_decl is_no_channel t && every_edge (λ e. list_all only_syncs e.uses) t
+
+-- ---- invariants
+
+abbrev pub is_no_invariant : DeclTree → Bool
+is_no_invariant (invariant_decl i) = false
+is_no_invariant _ = true
+
+abbrev pub has_no_invariants : Source → Bool
+has_no_invariants t = every_decl is_no_invariant t
+
+-- ---- alphabets
+
+abbrev pub is_left_out : Option (List Name) → Bool
+is_left_out None = true
+is_left_out (Some nms) = false
+
+abbrev pub finds_its_alphabet : SourceBody → Bool
+finds_its_alphabet (group_body is) = true
+finds_its_alphabet (automaton_body a) = is_left_out a.alphabet && is_left_out a.monitor
+
+abbrev pub has_no_alphabets : Source → Bool
+has_no_alphabets t = every_body finds_its_alphabet t
+
+-- ---- automata that synchronise
+
+abbrev pub has_one_automaton : Source → Bool
+has_one_automaton t = nat_eq (length (filter (λ c. is_automaton (body_of c)) (bodies t))) 1
+
+abbrev pub is_classed : DeclTree → Bool
+is_classed (event_decl class.Plain h n) = false
+is_classed (event_decl class.Con h n) = true
+is_classed (event_decl class.Unc h n) = true
+is_classed _ = true
+
+abbrev pub classes_its_events : Source → Bool
+classes_its_events t = every_decl is_classed t
+
+abbrev pub is_named : LocationTree → Bool
+is_named l = elim l.name [ None ↦ false | Some n ↦ true ]
+
+abbrev pub names_its_locations : Source → Bool
+names_its_locations t = every_location is_named t
+
+abbrev pub has_single_uses : Source → Bool
+has_single_uses t = every_edge (λ e. nat_eq (length e.uses) 1) t
+
+abbrev pub most_edges : ℕ
+most_edges = 16384
+
+abbrev pub has_few_edges : Source → Bool
+has_few_edges t = nat_le (length (flat_map event_edges (bodies t))) most_edges
+
+-- ---- both
+
+-- the forms for which a flat net is made
+abbrev pub is_flat : Source → Bool
+is_flat t = has_no_definitions t && has_no_data t && has_no_channels t && has_no_invariants t && has_no_alphabets t
+
+-- the forms for which a program is made
+abbrev pub is_built : Source → Bool
+is_built t = is_flat t && has_one_automaton t && classes_its_events t && names_its_locations t && has_single_uses t && has_few_edges t
