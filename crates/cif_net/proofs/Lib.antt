@@ -1,1 +1,2 @@
 mod Initial
+pub mod Kept

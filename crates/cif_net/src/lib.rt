@@ -5,6 +5,7 @@
 mod automata;
 mod data;
 mod events;
+mod guarded;
 mod laws;
 mod listing;
 mod net;
@@ -19,7 +20,8 @@ pub use cif_term::{
 };
 pub use data::{Alg, AlgValue, Input, Var};
 pub use events::{Class, Event, NetChan};
-pub use laws::{nets_are_nets, plain_nets_are_plain};
+pub use guarded::Guarded;
+pub use laws::{guarded_choices_are_listed, nets_are_nets, plain_nets_are_plain};
 pub use listing::{Choice, EventRoles, Linear, Move, Roles};
 pub use net::Net;
 pub use plain::Plain;

@@ -1,0 +1,7 @@
+use Rattle.std.proofs.Common.{◌≡◌, map}
+use Rattle.cif_net.specs.View.{net_tree, choice_tree}
+use Rattle.cif_guard.specs.Tests.{guarded_from}
+use Rattle.cif_guard.proofs.guarding.guarded_choices.Given as goal
+
+abbrev pub invariant-loop-choice : goal.invariant-loop-choice
+invariant-loop-choice l = map choice_tree l.all ≡ map (guarded_from (net_tree l.net) l.places) (map choice_tree l.yielded)

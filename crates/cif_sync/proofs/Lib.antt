@@ -1,0 +1,3 @@
+mod BucketLaws
+mod PlaceLaws
+mod RoleLaws
