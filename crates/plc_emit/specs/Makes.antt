@@ -1,0 +1,33 @@
+-- Which nets have a program, and what is promised of it.
+use Rattle.std.specs.Prelude.{◌≡◌, ℕ, Bool, ◌&&◌, nat_eq, List, [], length}
+use Rattle.std.specs.List.{list_all}
+use Rattle.cif_system.specs.System.{initial}
+use Rattle.cif_model.specs.Net.{Net}
+use Rattle.cif_model.specs.Meaning.{system_of_net}
+use Rattle.cif_model.specs.Listing.{NetChoice}
+use Rattle.st_ast.specs.Tree.{Program}
+use Rattle.st_ast.specs.Scan.{start_memory}
+use Rattle.st_ast.specs.Checks.{check_faults}
+use Rattle.plc_face.specs.Face.{HasInterface, StateOf}
+use Rattle.plc_face.specs.Scans.{ScansExactly, ShowsOutputs, StaysTyped}
+use Rattle.plc_emit.specs.Faces.{face_of_net}
+use Rattle.plc_emit.specs.Tests.{is_told}
+use Rattle.plc_emit.specs.Events.{is_direct}
+
+abbrev pub is_tested : Net → NetChoice → Bool
+is_tested n c = is_direct c && is_told n c.test
+
+-- There is no state invariant and no algebraic variable, and each choice needs no more than a test of locations: no value is
+-- sent or assigned.
+abbrev pub needs_tests_alone : Net → List NetChoice → Bool
+needs_tests_alone n cs = nat_eq (length n.invariants) 0 && nat_eq (length n.algs) 0 && list_all (is_tested n) cs
+
+-- It breaks no check, has the net's inputs and outputs, and starts in the initial state. Each scan ends and is the exact
+-- scan, the outputs after it are those of the state, and no variable leaves its type.
+pub record Makes (n : Net) (U C : ℕ) (p : Program) : Type 0 where
+  pub checked : check_faults p ≡ []
+  pub interface : HasInterface (face_of_net n) p
+  pub starts : StateOf (face_of_net n) (system_of_net n) p (start_memory p) (initial (system_of_net n))
+  pub exact : ScansExactly U C (face_of_net n) (system_of_net n) p
+  pub shown : ShowsOutputs (face_of_net n) (system_of_net n) p
+  pub typed : StaysTyped (system_of_net n) p
