@@ -10,3 +10,4 @@ pub mod Checking
 pub mod Showing
 pub mod Facts
 pub mod Emits
+pub mod Dataless

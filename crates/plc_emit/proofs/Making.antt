@@ -58,11 +58,11 @@ pub record Simple (n : Net) (c : NetChoice) : Type 0 where
   pub direct : is_direct c ≡ true
   pub told : is_told n c.test ≡ true
 
-none-is : {A : Type 0} (o : Option A) → is_none o ≡ true → o ≡ None
+pub none-is : {A : Type 0} (o : Option A) → is_none o ≡ true → o ≡ None
 none-is None h = refl
 none-is (Some x) h = absurd cc
 
-nothing-is : (us : NetUpdates) → writes_nothing us ≡ true → us ≡ no_net_updates
+pub nothing-is : (us : NetUpdates) → writes_nothing us ≡ true → us ≡ no_net_updates
 nothing-is no_net_updates h = refl
 nothing-is (net_updates u us) h = absurd cc
 
@@ -76,7 +76,7 @@ new_values-none : (k : ℕ) (zs : List ℤ) → new_values [] k zs ≡ zs
 new_values-none k [] = refl
 new_values-none k (z ∷ zs) = ap (λ r. z ∷ r) (new_values-none (suc k) zs)
 
-range-length : (k len : ℕ) → length (range_with_len k len) ≡ len
+pub range-length : (k len : ℕ) → length (range_with_len k len) ≡ len
 range-length k zero = refl
 range-length k (suc len) = ap suc (range-length (k + 1) len)
 
