@@ -22,7 +22,7 @@ use Rattle.plc_emit.specs.Events.{Written, all_bare, chain, chain_branches, choi
 use Rattle.plc_emit.specs.Emitted.{all_written, parts_from, parts_of}
 use Rattle.plc_emit.proofs.Choosing.{all-filter, choice_in, choices-are}
 use Rattle.plc_emit.proofs.Writing.{writes-none}
-use Rattle.plc_emit.proofs.Making.{Does, Ready, Simple, tests-hold, took}
+use Rattle.plc_emit.proofs.Making.{Does, Ready, Simple, marks-close, moves-done, tests-hold, took}
 
 -- such choices are bare
 pub bare : (n : Net) (ds : List NetChoice) → AllByRecursion (Simple n) ds → all_bare (map (written_of n) ds) ≡ true
@@ -55,7 +55,7 @@ module _ (n : Net) (p : Program) (ready : Ready n p) (own : List Text) (e : ℕ)
       pick : (b : Bool) → makes_step (system_of_net n) s e (choice_in n c) ≡ b → Does n p own (first_made ds s) (chain_of ds k m) k m s
           → Does n p own (option_map (after (system_of_net n) s) (cond b (Some (choice_in n c)) (find (makes_step (system_of_net n) s e) (map (choice_in n) ds))))
           (if is_true (of_bool b) then exec p.vars (moves_text n c.moves marks) k m else chain_of ds k m) k m s
-      pick true makes rest = took n p ready own c k m s all.0 st (ap (λ j. makes_step (system_of_net n) s j (choice_in n c)) same.0 ∙ makes)
+      pick true makes rest = took n p ready own c k m s all.0 st marks (marks-close n p ready own k (moves-done n p ready own c k m s all.0 st marks).after (moves-done n p ready own c k m s all.0 st marks).typed) (ap (λ j. makes_step (system_of_net n) s j (choice_in n c)) same.0 ∙ makes)
       pick false makes rest = rest
 
   -- the choices as one statement

@@ -1,5 +1,5 @@
 -- The choices of a net without data need tests alone.
-use Rattle.std.proofs.Common.{◌≡◌, ℕ, zero, suc, ◌+◌, ◌<◌, Bool, true, false, ◌&&◌, cond, List, [], ◌∷◌, ◌++◌, map, filter, filter_map, flat_map, length, zip, Option, Some, None, is_none, refl, sym, ap, subst, ◌∙◌, arith}
+use Rattle.std.proofs.Common.{◌≡◌, ℕ, ◌+◌, ◌<◌, Bool, true, false, ◌&&◌, cond, List, [], ◌∷◌, ◌++◌, map, filter, filter_map, flat_map, length, zip, Option, Some, None, is_none, refl, ap, ◌∙◌, arith}
 use Rattle.std.specs.Prelude.{nat_eq, nat_lt, slice_get, if◌then◌else◌}
 use Rattle.std.specs.List.{cons_option, enumerate_from, list_all, range_with_len}
 use Rattle.std.proofs.lemmas.List.Folds.{list_all-append}
@@ -7,14 +7,13 @@ use Rattle.std.proofs.lemmas.Bool.Decides.{nat_tests}
 use Rattle.cif_system.specs.System.{syncing}
 use Rattle.cif_system.specs.Step.{Choice}
 use Rattle.cif_system.proofs.Picks.{all-at, and-left, and-right}
-use Rattle.cif_term.specs.Tree.{NetExpr, NetUpdates, no_net_updates, net_updates}
+use Rattle.cif_term.specs.Tree.{NetExpr, no_net_updates}
 use Rattle.cif_model.specs.Net.{NetAuto, NetEdge, NetExclusion, Net}
 use Rattle.cif_model.specs.Meaning.{system_of_net}
 use Rattle.cif_model.specs.Listing.{all_hold, both, choice_test, edge_at, edges_taken, event_test, exclusion_test, exprs_of, fails, guarded_choice, guarded_of, is_edge_for, listed, move_test, opens, sent_by, syncs_on, writes_of}
 use Rattle.plc_emit.specs.Tests.{are_told, is_told}
 use Rattle.plc_emit.specs.Events.{writes_nothing}
 use Rattle.plc_emit.specs.Makes.{auto_is_dataless, edge_is_dataless, is_dataless, is_tested, needs_tests_alone}
-use Rattle.plc_emit.proofs.Facts.{none-of}
 use Rattle.plc_emit.proofs.Making.{none-is, nothing-is, range-length}
 
 and-true : (a b : Bool) → a ≡ true → b ≡ true → (a && b) ≡ true

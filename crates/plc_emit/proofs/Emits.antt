@@ -280,18 +280,21 @@ module _ (n : Net) (cs : List NetChoice) (U C : ℕ) (net : is_net n ≡ true) (
         shows-all second.after s second.typed places second.has,
       )
     where
+      three : (f : StVar → ℤ) (ps qs rs : List StVar) (as' bs cs' : List ℤ) → map f ps ≡ as' → map f qs ≡ bs → map f rs ≡ cs' → map f (ps ++ qs ++ rs) ≡ as' ++ bs ++ cs'
+      three f ps qs rs as' bs cs' x y z = rw (map-append f (ps ++ qs) rs, map-append f ps qs, x, y, z) refl
+
+      algs-shown : (m : Memory) (s : State) → map (read p.vars m) (declarations letter.R class.Output (algs_of face)) ≡ map (λ (f : State → ℤ). f s) (map (λ a t. defined_value n t a) n.algs)
+      algs-shown m s =
+          ap (λ (xs : List VariableFace). map (read p.vars m) (declarations letter.R class.Output xs)) algs-none
+          ∙ sym (ap (λ (as' : List NetAlg). map (λ (f : State → ℤ). f s) (map (λ a t. defined_value n t a) as')) no_algs)
+
       shows-all : (m : Memory) (s : State) → AreInTypes p m → Has p.vars m letter.P 0 (places_of face) (map pos s.locs) → Has p.vars m letter.Q 0 face.variables s.vals → Shows sys p m s
       shows-all m s typed places values =
-          let ps : List StVar = declarations letter.P class.Output (places_of face) in
-          let qs : List StVar = declarations letter.Q class.Output face.variables in
-          let rs : List StVar = declarations letter.R class.Output (algs_of face) in
           output_values-read p.vars m (checked-differ p checked) (pairwise-length (λ (v : StVar) z. IsTrue (in_range (range_of v.ty) z)) p.vars m typed)
           ∙ ap (map (read p.vars m)) outputs-are
-          ∙ map-append (read p.vars m) (ps ++ qs) rs
-          ∙ ap (λ r. r ++ map (read p.vars m) rs) (map-append (read p.vars m) ps qs)
-          ∙ ap (λ r. r ++ map (read p.vars m) qs ++ map (read p.vars m) rs) (read-has p.vars m letter.P class.Output 0 (places_of face) (map pos s.locs) places)
-          ∙ ap (λ r. map pos s.locs ++ r ++ map (read p.vars m) rs) (read-has p.vars m letter.Q class.Output 0 face.variables s.vals values)
-          ∙ ap (λ r. map pos s.locs ++ s.vals ++ r) (ap (λ (xs : List VariableFace). map (read p.vars m) (declarations letter.R class.Output xs)) algs-none ∙ sym (ap (λ (as' : List NetAlg). map (λ (f : State → ℤ). f s) (map (λ a t. defined_value n t a) as')) no_algs))
+          ∙ three (read p.vars m) (declarations letter.P class.Output (places_of face)) (declarations letter.Q class.Output face.variables) (declarations letter.R class.Output (algs_of face)) (map pos s.locs) s.vals
+          (map (λ (f : State → ℤ). f s) (map (λ a t. defined_value n t a) n.algs))
+          (read-has p.vars m letter.P class.Output 0 (places_of face) (map pos s.locs) places) (read-has p.vars m letter.Q class.Output 0 face.variables s.vals values) (algs-shown m s)
 
   -- ---- the premises of the law
 

@@ -11,3 +11,4 @@ pub mod Showing
 pub mod Facts
 pub mod Emits
 pub mod Dataless
+pub mod Marked

@@ -17,7 +17,7 @@ use Rattle.cif_model.specs.Unfolding.{at_or}
 use Rattle.cif_model.specs.Meaning.{alg_values, invariant_in, net_assigned_all, system_of_net, true_in, value_in}
 use Rattle.cif_model.specs.Listing.{NetChoice, edge_in}
 use Rattle.cif_model.specs.Table.{MovesParties, SendsAndAssigns, agrees_in, permitted_in}
-use Rattle.st_ast.specs.Tree.{Program, truth, assign, no_stms}
+use Rattle.st_ast.specs.Tree.{Program, Stms, truth, assign, no_stms}
 use Rattle.st_ast.specs.Names.{same_name, place_of}
 use Rattle.st_ast.specs.Values.{Memory, of_bool, value_of}
 use Rattle.st_ast.specs.Exec.{Outcome, Ended, exec, is_within}
@@ -28,9 +28,9 @@ use Rattle.plc_face.specs.declared.letter.Letter.{Letter}
 use Rattle.plc_face.specs.declared.letter.Letter.TheVariants as letter
 use Rattle.plc_face.specs.Names.{name_for}
 use Rattle.plc_face.specs.Face.{Face, HoldsAt, IsDeclared, AreInTypes, StateOf, place_face, places_of, range_of}
-use Rattle.plc_face.specs.Frame.{Follows, Stands, WritesOnly, fired, names_of, writable}
+use Rattle.plc_face.specs.Frame.{Follows, Stands, WritesOnly, fired, mark_in, names_of, writable}
 use Rattle.plc_face.proofs.NameLaws.{letters-differ}
-use Rattle.plc_face.proofs.FaceLaws.{Kept, below, declared-of, declared-type, get_or-of, hold-kept, pairwise-length, set-keeps, typed-written}
+use Rattle.plc_face.proofs.FaceLaws.{Kept, Typed, below, declared-of, declared-type, get_or-of, hold-kept, pairwise-length, set-keeps, typed-written}
 use Rattle.plc_emit.specs.Faces.{auto_face, face_of_net}
 use Rattle.plc_emit.specs.Tests.{is_told, old_naming, place_name, text}
 use Rattle.plc_emit.specs.Events.{is_direct, marks, moves_text, writes_nothing}
@@ -192,49 +192,69 @@ module _ (n : Net) where
       faces-length [] = refl
       faces-length (a ∷ xs) = ap suc (faces-length xs)
 
-      module _ (c : NetChoice) (k : ℕ) (m : Memory) (s : State) (h : Simple n c) (st : Stands (face_of_net n) (system_of_net n) p m s) where
-        moves-done : Moved n p s c.event marks (writable (face_of_net n) own) 0 n.autos (choice_in n c) k m
+      -- What the statements after the moves come to: nothing that stands for the state changes, and the mark is set.
+      pub record Closed (ss : Stms) (k : ℕ) (m : Memory) : Type 0 where
+        pub after : Memory
+        pub ends : exec p.vars ss k m ≡ Ended k after
+        pub writes : WritesOnly (writable (face_of_net n) own) p.vars m after
+        pub typed : Typed p.vars after
+        pub kept : (l : Letter) → (l ≡ letter.T → ⊥) → Kept p m after l
+        pub mark : mark_in p after ≡ pos 1
+
+      pub marks-close : (k : ℕ) (m : Memory) → Typed p.vars m → Closed marks k m
+      marks-close k m typed =
+          let end : Memory = slice_set m (place_of p.vars fired) (pos 1) in
+          let d = declared-of p.vars fired ty.Bool ready.mark in
+          let inside = below p.vars (place_of p.vars fired) d.variable d.at in
+          let long = pairwise-length (λ (v : StVar) z. IsTrue (in_range (range_of v.ty) z)) p.vars m typed in
+          record {
+            after = end;
+            ends = cons_runs p.vars (assign fired (truth true)) no_stms k k m end
+                (assign_runs p.vars fired (truth true) (place_of p.vars fired) (pos 1) k m refl refl (ap (λ t. is_within t (pos 1)) (declared-type p.vars fired ty.Bool ready.mark)));
+            writes = writes-one (writable (face_of_net n) own) p.vars m fired (pos 1) fired-among;
+            typed = typed-written p.vars m fired ty.Bool (pos 1) ready.mark refl typed;
+            kept = λ l other. set-keeps p m fired (pos 1) l (fired_apart l other);
+            mark = get_or-set_same m (place_of p.vars fired) (pos 1) (pos 0) (omega (arith, inside, long));
+          }
+
+      pub marks-last : (k : ℕ) (m : Memory) (typed : Typed p.vars m) → (marks-close k m typed).after ≡ slice_set m (place_of p.vars fired) (pos 1)
+      unfolding marks-close
+      marks-last k m typed = refl
+
+      module _ (c : NetChoice) (k : ℕ) (m : Memory) (s : State) (h : Simple n c) (st : Stands (face_of_net n) (system_of_net n) p m s) (ss : Stms) where
+        pub moves-done : Moved n p s c.event ss (writable (face_of_net n) own) 0 n.autos (choice_in n c) k m
         moves-done =
             let long = faces-length n.autos in
             let small = ready.few in
-            all-moved n p s c.event marks (writable (face_of_net n) own) ready.within (choice_in n c) k m (choice-length n c) (omega (arith, long, small)) places-among st.state.places st.typed
+            all-moved n p s c.event ss (writable (face_of_net n) own) ready.within (choice_in n c) k m (choice-length n c) (omega (arith, long, small)) places-among st.state.places st.typed
 
-        abbrev mid : Memory
-        mid = moves-done.after
+        module _ (closed : Closed ss k moves-done.after) where
+          -- variables of other letters keep what they hold
+          kept-all : (l : Letter) → (letter.L ≡ l → ⊥) → (l ≡ letter.T → ⊥) → Kept p m closed.after l
+          kept-all l other_l other_t j path t is =
+              closed.kept l other_t j path t is
+              ∙ moves-done.others (name_for l j path) (λ i way above small. letters-differ letter.L l i j way path other_l)
 
-        abbrev end : Memory
-        end = slice_set moves-done.after (place_of p.vars fired) (pos 1)
+          state-after : makes_step (system_of_net n) s c.event (choice_in n c) ≡ true → StateOf (face_of_net n) (system_of_net n) p closed.after (after (system_of_net n) s (choice_in n c))
+          state-after makes = record {
+            places = hold-kept p moves-done.after closed.after letter.L (closed.kept letter.L (λ e. cc)) 0 _ _ moves-done.hold;
+            values = subst (λ zs. AllZip (HoldsAt p closed.after letter.V) (enumerate_from 0 (face_of_net n).variables) zs) (sym (vals-same c s h))
+                (hold-kept p m closed.after letter.V (kept-all letter.V (λ e. cc) (λ e. cc)) 0 _ _ st.state.values);
+            inputs = hold-kept p m closed.after letter.H (kept-all letter.H (λ e. cc) (λ e. cc)) 0 _ _ st.state.inputs;
+            is_state = step-state (system_of_net n) ready.inside s c.event (after (system_of_net n) s (choice_in n c)) st.state.is_state
+                record { choice = choice_in n c; makes = makes; is_after = refl };
+          }
 
-        -- variables of other letters keep what they hold
-        kept : (l : Letter) → (letter.L ≡ l → ⊥) → (l ≡ letter.T → ⊥) → Kept p m end l
-        kept l other_l other_t j path t is =
-            set-keeps p moves-done.after fired (pos 1) l (fired_apart l other_t) j path t is
-            ∙ moves-done.others (name_for l j path) (λ i way above small. letters-differ letter.L l i j way path other_l)
+          -- the moves and what follows them
+          pub took : makes_step (system_of_net n) s c.event (choice_in n c) ≡ true → Does own (Some (after (system_of_net n) s (choice_in n c))) (exec p.vars (moves_text n c.moves ss) k m) k m s
+          took makes = record {
+            after = closed.after;
+            ends = ap (λ ms. exec p.vars (moves_text n ms ss) k m) h.parties ∙ moves-done.ends ∙ closed.ends;
+            writes = writes-then (writable (face_of_net n) own) p.vars m moves-done.after closed.after moves-done.writes closed.writes;
+            typed = closed.typed;
+            follows = (state-after makes, closed.mark);
+          }
 
-        room : place_of p.vars fired < length moves-done.after
-        room =
-            let d = declared-of p.vars fired ty.Bool ready.mark in
-            let inside = below p.vars (place_of p.vars fired) d.variable d.at in
-            let long = pairwise-length (λ (v : StVar) z. IsTrue (in_range (range_of v.ty) z)) p.vars moves-done.after moves-done.typed in omega (arith, inside, long)
-
-        state-after : makes_step (system_of_net n) s c.event (choice_in n c) ≡ true → StateOf (face_of_net n) (system_of_net n) p end (after (system_of_net n) s (choice_in n c))
-        state-after makes = record {
-          places = hold-kept p moves-done.after end letter.L (set-keeps p moves-done.after fired (pos 1) letter.L (fired_apart letter.L (λ e. cc))) 0 _ _ moves-done.hold;
-          values = subst (λ zs. AllZip (HoldsAt p end letter.V) (enumerate_from 0 (face_of_net n).variables) zs) (sym (vals-same c s h))
-              (hold-kept p m end letter.V (kept letter.V (λ e. cc) (λ e. cc)) 0 _ _ st.state.values);
-          inputs = hold-kept p m end letter.H (kept letter.H (λ e. cc) (λ e. cc)) 0 _ _ st.state.inputs;
-          is_state = step-state (system_of_net n) ready.inside s c.event (after (system_of_net n) s (choice_in n c)) st.state.is_state
-              record { choice = choice_in n c; makes = makes; is_after = refl };
-        }
-
-        -- the moves and the mark
-        pub took : makes_step (system_of_net n) s c.event (choice_in n c) ≡ true → Does own (Some (after (system_of_net n) s (choice_in n c))) (exec p.vars (moves_text n c.moves marks) k m) k m s
-        took makes = record {
-          after = end;
-          ends = ap (λ ms. exec p.vars (moves_text n ms marks) k m) h.parties ∙ moves-done.ends
-              ∙ cons_runs p.vars (assign fired (truth true)) no_stms k k moves-done.after end
-              (assign_runs p.vars fired (truth true) (place_of p.vars fired) (pos 1) k moves-done.after refl refl (ap (λ t. is_within t (pos 1)) (declared-type p.vars fired ty.Bool ready.mark)));
-          writes = writes-then (writable (face_of_net n) own) p.vars m moves-done.after end moves-done.writes (writes-one (writable (face_of_net n) own) p.vars moves-done.after fired (pos 1) fired-among);
-          typed = typed-written p.vars moves-done.after fired ty.Bool (pos 1) ready.mark refl moves-done.typed;
-          follows = (state-after makes, get_or-set_same moves-done.after (place_of p.vars fired) (pos 1) (pos 0) room);
-        }
+          pub took-last : (makes : makes_step (system_of_net n) s c.event (choice_in n c) ≡ true) → (took makes).after ≡ closed.after
+          unfolding took
+          took-last makes = refl

@@ -4,4 +4,4 @@
 
 mod laws;
 
-pub use laws::programs_scan_exactly;
+pub use laws::{choices_without_data_need_tests_alone, programs_scan_exactly};
