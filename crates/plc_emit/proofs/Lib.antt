@@ -1,0 +1,14 @@
+pub mod Examples
+pub mod TestText
+pub mod Choosing
+pub mod Writing
+pub mod Moving
+pub mod Making
+pub mod Chaining
+pub mod Declaring
+pub mod Checking
+pub mod Showing
+pub mod Facts
+pub mod Emits
+pub mod Dataless
+pub mod Marked

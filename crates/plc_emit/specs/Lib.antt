@@ -1,0 +1,5 @@
+pub mod Faces
+pub mod Tests
+pub mod Events
+pub mod Emitted
+pub mod Makes
