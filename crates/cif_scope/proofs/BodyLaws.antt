@@ -1,14 +1,13 @@
 -- Bodies are written, belong to the specification, and are no deeper than there are bodies before them.
-use Rattle.std.proofs.Common.{◌≡◌, ℕ, zero, suc, ◌+◌, ◌<◌, ◌≤◌, List, [], ◌∷◌, ◌++◌, length, refl, sym, ap, subst, ◌∙◌, arith, Option, Some, None}
+use Rattle.std.proofs.Common.{◌≡◌, ℕ, zero, suc, ◌+◌, ◌<◌, ◌≤◌, List, [], ◌∷◌, ◌++◌, length, refl, ap, subst, arith, Option, Some}
 use Rattle.std.specs.Prelude.{slice_get}
 use Rattle.cif_system.proofs.Lists.{some-same, none-some}
-use Rattle.cif_ast.specs.declared.names.Ident.{Ident}
-use Rattle.cif_source.specs.Source.{ParamTree, SourceItem, decl_item, component_item, definition_item, instance_item, SourceBody, group_body, automaton_body, InstanceTree, Source, no_source, source}
+use Rattle.cif_source.specs.Source.{SourceItem, decl_item, component_item, definition_item, instance_item, SourceBody, group_body, automaton_body, Source, no_source, source}
 use Rattle.cif_source.specs.Components.{Component, whole, part, blank, copy, as_written, specification_of, scope_of}
 use Rattle.cif_source.specs.Objects.{bodies, bodies_in, bodies_at, bodies_under}
 use Rattle.cif_source.specs.Slots.{passed_through}
 use Rattle.cif_scope.specs.declared.scope.Scope.{Scope}
-use Rattle.cif_scope.specs.Tables.{IsBody, Beside, IsScope, IsOuter, IsTable}
+use Rattle.cif_scope.specs.Tables.{IsBody, IsScope, IsOuter, IsTable}
 use Rattle.cif_scope.proofs.Places.{beside-at, beside-length}
 
 -- ---- depth

@@ -1,21 +1,19 @@
 -- The definitions that are looked up by numbers are those of the instances.
-use Rattle.std.proofs.Common.{◌≡◌, ℕ, zero, suc, ◌+◌, false, List, [], ◌∷◌, ◌++◌, map, length, refl, sym, ap, subst, ◌∙◌, arith, Option, Some, None}
+use Rattle.std.proofs.Common.{◌≡◌, ℕ, suc, ◌+◌, false, List, [], ◌∷◌, refl, sym, ap, subst, ◌∙◌, arith, Some}
 use Rattle.std.specs.Prelude.{slice_get, flat_map, filter_map}
-use Rattle.cif_ast.specs.declared.names.Ident.{Ident}
-use Rattle.cif_source.specs.Source.{ParamTree, InstanceTree, SourceItem, decl_item, component_item, definition_item, instance_item, SourceBody, group_body, automaton_body, Source, no_source, source}
+use Rattle.cif_source.specs.Source.{InstanceTree, SourceItem, decl_item, component_item, definition_item, instance_item, SourceBody, group_body, automaton_body, Source, no_source, source}
 use Rattle.cif_source.specs.Components.{Component, whole, part, blank, body_of, params_of, as_written, Entry, declared, literal, location, inner, definition, instance, parameter}
 use Rattle.cif_source.specs.Lookup.{Reached, reached, missing, blocked, definition_found}
 use Rattle.cif_source.specs.Objects.{bodies, bodies_in, bodies_at, bodies_under, items_in}
 use Rattle.cif_source.specs.Scoping.{as_instance, instances_of}
 use Rattle.cif_scope.specs.declared.scope.What.{What}
-use Rattle.cif_scope.specs.declared.scope.What.TheVariants as what
 use Rattle.cif_scope.specs.declared.looked.Looked.{Looked}
 use Rattle.cif_scope.specs.declared.looked.Looked.TheVariants.{At, Missing, Blocked}
 use Rattle.cif_scope.specs.declared.table.Table.{Table}
 use Rattle.cif_scope.specs.Tables.{IsBody, Beside, IsWhat, IsTable}
-use Rattle.cif_scope.specs.Looks.{Definitions, what_at, look}
-use Rattle.cif_scope.specs.Scopes.{IsIndexed, Defines, IsDefinitionOf, AreDefinitions, IsEntry}
-use Rattle.cif_scope.specs.Written.{WrittenBody, written_body, written_in, written_at, written_under, written_bodies, definition_what, definition_looked, definition_by, item_definitions, definitions_in, definitions_from}
+use Rattle.cif_scope.specs.Looks.{look}
+use Rattle.cif_scope.specs.Scopes.{IsIndexed, Defines, IsDefinitionOf, AreDefinitions}
+use Rattle.cif_scope.specs.Written.{WrittenBody, written_in, written_at, written_under, written_bodies, definition_what, definition_looked, definition_by, item_definitions, definitions_in, definitions_from}
 use Rattle.cif_scope.proofs.Places.{beside-append}
 use Rattle.cif_scope.proofs.BodyLaws.{body-written}
 use Rattle.cif_scope.proofs.LookLaws.{Agrees}

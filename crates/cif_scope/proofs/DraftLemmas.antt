@@ -1,5 +1,5 @@
 -- How many scopes there are, and a scope that is written behind others.
-use Rattle.std.proofs.Common.{◌≡◌, ℕ, zero, suc, ◌+◌, List, [], ◌∷◌, ◌++◌, length, length-append, append_assoc, refl, ap, ◌∙◌, arith, Option, Some}
+use Rattle.std.proofs.Common.{◌≡◌, ℕ, ◌+◌, List, [], ◌∷◌, ◌++◌, length, length-append, append_assoc, refl, ap, ◌∙◌, arith, Option, Some}
 use Rattle.std.specs.Prelude.{slice_set}
 use Rattle.cif_source.specs.Source.{ParamTree, SourceItem, decl_item, component_item, definition_item, instance_item, SourceBody, group_body, automaton_body, Source, no_source, source}
 use Rattle.cif_scope.specs.declared.scope.Scope.{Scope}

@@ -1,12 +1,12 @@
 -- What a name finds, by numbers.
 use Rattle.std.proofs.Common.{◌≡◌, ℕ, Bool, true, false, List, [], ◌∷◌, ◌++◌, length, append_assoc, append-nil, ◌⊎◌, inl, inr, refl, sym, ap, subst, ◌∙◌, Option, Some, None}
-use Rattle.std.specs.Prelude.{slice_get, if◌then◌else◌, Result, Ok, Err, IfOk}
+use Rattle.std.specs.Prelude.{slice_get, Result, Ok, Err, IfOk}
 use Rattle.cif_base.specs.declared.memory.Memory.{Memory}
 use Rattle.cif_ast.specs.declared.names.Ident.{Ident}
 use Rattle.cif_ast.specs.declared.names.Name.{Name}
 use Rattle.cif_source.specs.Source.{Text, SourceBody, ParamTree, InstanceTree, Source}
-use Rattle.cif_source.specs.Components.{Component, StandingInstance, whole, part, blank, copy, body_of, as_written, specification_of, scope_of, body_entries, Entry, declared, literal, location, inner, definition, instance, parameter, entry_named}
-use Rattle.cif_source.specs.Lookup.{ScopeEntry, Reached, reached, missing, blocked, at_entry, in_scope, in_body, go_on, or_outward, outward, looked_up, inside_written, inside, passed as passes, opened, opened_at, in_opened, definition_found, found}
+use Rattle.cif_source.specs.Components.{Component, StandingInstance, whole, part, blank, copy, as_written, specification_of, scope_of, body_entries, Entry, declared, literal, location, inner, definition, instance, parameter, entry_named}
+use Rattle.cif_source.specs.Lookup.{Reached, reached, missing, blocked, at_entry, in_scope, in_body, go_on, or_outward, outward, looked_up, inside_written, inside, opened, opened_at, in_opened, definition_found, found}
 use Rattle.cif_source.specs.Objects.{bodies}
 use Rattle.cif_source.specs.Scoping.{instances_of}
 use Rattle.cif_source.specs.Slots.{passed_through}
@@ -19,10 +19,10 @@ use Rattle.cif_scope.specs.declared.table.Table.{Table}
 use Rattle.cif_scope.specs.declared.scopes.Found.{Found}
 use Rattle.cif_scope.specs.declared.scopes.Scopes.{Scopes}
 use Rattle.cif_scope.specs.Tables.{IsBody, Beside, IsWhat, IsTable}
-use Rattle.cif_scope.specs.Looks.{slot_at, what_at, here_or, look_out, look_inside, definition_at, inside_instance, step_from, Definitions, definition_in, step, steps, first_part, look, passed_at, passed_slot, passed, as_found, followed, find}
+use Rattle.cif_scope.specs.Looks.{slot_at, what_at, here_or, look_inside, definition_at, inside_instance, step_from, Definitions, definition_in, step, steps, first_part, look, passed_at, passed_slot, passed, as_found, find}
 use Rattle.cif_scope.specs.Scopes.{IsIndexed, Defines, IsDefinitionOf, AreDefinitions, AreNumbered, IsEntry, IsPassed, Finds}
 use Rattle.cif_scope.proofs.Places.{beside-at, beside-append}
-use Rattle.cif_scope.proofs.BodyLaws.{body-written, body-root, body-passes, table-height, scope-written, outer-of}
+use Rattle.cif_scope.proofs.BodyLaws.{body-root, body-passes, table-height, scope-written, outer-of}
 use Rattle.cif_scope.proofs.LookLaws.{Agrees, Slotted, slot-is, what-is, look-is, Owned, own-is}
 use Rattle.cif_scope.proofs.WrittenLaws.{written, definition-written}
 

@@ -9,3 +9,4 @@ pub mod WrittenLaws
 pub mod FindLaws
 pub mod IndexLaws
 pub mod DefinitionLaws
+pub mod Rows

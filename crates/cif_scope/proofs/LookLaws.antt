@@ -1,26 +1,25 @@
 -- Looking a name up in scopes by numbers is looking it up in the components.
-use Rattle.std.proofs.Common.{◌≡◌, ℕ, zero, suc, ◌+◌, ◌<◌, Bool, true, false, cond, List, [], ◌∷◌, ◌++◌, map, length, find, refl, sym, ap, subst, ◌∙◌, arith, Option, Some, None, inl, inr}
+use Rattle.std.proofs.Common.{◌≡◌, ℕ, zero, suc, ◌+◌, ◌<◌, Bool, true, false, cond, List, [], ◌∷◌, ◌++◌, map, find, refl, sym, ap, subst, ◌∙◌, arith, Option, Some, None, inl, inr}
 use Rattle.std.specs.Prelude.{slice_get, option_map}
 use Rattle.std.specs.List.{enumerate_from}
 use Rattle.grammar.proofs.Texts.{same_is, same_equal}
 use Rattle.cif_system.specs.Words.{Member, AreDistinct}
 use Rattle.cif_system.proofs.Picks.{append-right}
 use Rattle.std.proofs.lemmas.List.{map-append}
-use Rattle.cif_system.proofs.Lists.{some-same, none-some, find-passes}
+use Rattle.cif_system.proofs.Lists.{some-same, none-some}
 use Rattle.cif_ast.specs.declared.names.Ident.{Ident}
-use Rattle.cif_source.specs.Source.{Text, ParamTree, SourceBody, InstanceTree, Source}
-use Rattle.cif_source.specs.Components.{Component, whole, part, blank, copy, body_of, params_of, as_written, specification_of, scope_of, body_entries, param_entries, param_name, Entry, Entries, declared, literal, location, inner, definition, instance, parameter, entry_named, same_text}
-use Rattle.cif_source.specs.Lookup.{ScopeEntry, Reached, reached, missing, blocked, at_entry, in_scope, in_body, or_outward, outward}
+use Rattle.cif_source.specs.Source.{Text, ParamTree, Source}
+use Rattle.cif_source.specs.Components.{Component, whole, part, blank, copy, body_of, params_of, as_written, scope_of, body_entries, param_entries, param_name, Entry, Entries, declared, literal, location, inner, definition, instance, parameter, entry_named, same_text}
+use Rattle.cif_source.specs.Lookup.{Reached, reached, missing, blocked, at_entry, in_scope, or_outward, outward}
 use Rattle.cif_source.proofs.NameLaws.{is_parameter, in_body-own}
 use Rattle.cif_scope.specs.declared.scope.What.{What}
-use Rattle.cif_scope.specs.declared.scope.What.TheVariants as what
 use Rattle.cif_scope.specs.declared.scope.ScopeName.{ScopeName}
 use Rattle.cif_scope.specs.declared.scope.Scope.{Scope}
 use Rattle.cif_scope.specs.declared.looked.Looked.{Looked}
 use Rattle.cif_scope.specs.declared.looked.Looked.TheVariants.{At, Missing, Blocked}
 use Rattle.cif_scope.specs.declared.table.Table.{Table}
 use Rattle.cif_scope.specs.Places.{slot_in}
-use Rattle.cif_scope.specs.Tables.{IsBody, Beside, IsWhat, IsName, IsOuter, IsScope, IsTable}
+use Rattle.cif_scope.specs.Tables.{IsBody, Beside, IsWhat, IsName, IsOuter, IsTable}
 use Rattle.cif_scope.specs.Looks.{text_of, texts_of, slot_among, slot_at, outer_in, outer_at, what_at, names_in, further_out, here_or, look_out, unless_parameter, at_own, look_inside}
 use Rattle.cif_scope.specs.Scopes.{IsIndexed, IsEntry}
 use Rattle.cif_scope.proofs.Places.{beside-at}

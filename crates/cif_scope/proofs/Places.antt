@@ -1,5 +1,5 @@
 -- Lists beside each other, and lists that stand in longer ones.
-use Rattle.std.proofs.Common.{◌≡◌, ℕ, zero, suc, ◌+◌, List, [], ◌∷◌, ◌++◌, length, drop, drop-cons, get_or, add-one, ◌<◌, Option, Some, None, refl, sym, ap, ◌∙◌, subst, arith}
+use Rattle.std.proofs.Common.{◌≡◌, ℕ, zero, suc, ◌+◌, List, [], ◌∷◌, ◌++◌, length, drop, drop-cons, get_or, add-one, ◌<◌, Some, refl, sym, ap, ◌∙◌, subst, arith}
 use Rattle.std.specs.Prelude.{slice_get}
 use Rattle.cif_system.proofs.Lists.{some-same, none-some}
 use Rattle.cif_scope.specs.Tables.{Beside}

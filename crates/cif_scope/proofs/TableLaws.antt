@@ -1,16 +1,14 @@
 -- The scopes of a source are a table of its bodies.
-use Rattle.std.proofs.Common.{◌≡◌, ℕ, zero, suc, ◌+◌, List, [], ◌∷◌, ◌++◌, length, length-append, map, refl, ap, subst, ◌∙◌, arith, Option, Some, None}
-use Rattle.std.specs.Prelude.{flat_map, filter_map, slice_get}
+use Rattle.std.proofs.Common.{◌≡◌, ℕ, ◌+◌, List, [], ◌∷◌, ◌++◌, length, length-append, map, refl, ◌∙◌, arith, Some, None}
+use Rattle.std.specs.Prelude.{flat_map, filter_map}
 use Rattle.std.specs.List.{enumerate_from}
 use Rattle.cif_ast.specs.declared.names.Ident.{Ident}
 use Rattle.cif_source.specs.Source.{DeclTree, type_decl, enum_decl, event_decl, const_decl, alg_decl, input_decl, disc_decl, equation_decl, invariant_decl, marked_decl, ParamTree, event_param, alg_param, location_param, LocationTree, AutomatonTree, InstanceTree, SourceItem, decl_item, component_item, definition_item, instance_item, SourceBody, group_body, automaton_body, Source, no_source, source, list_of_items}
-use Rattle.cif_source.specs.Components.{Component, whole, part, blank, copy, body_of, params_of, scope_of, body_entries, decl_entries, literal_entries, location_entry, item_entries, param_entries, param_name as name_of_param, Entry, Entries, declared, literal, location, inner, definition, instance, parameter}
-use Rattle.cif_source.specs.Objects.{bodies, bodies_in, bodies_at, bodies_under, items_in}
+use Rattle.cif_source.specs.Components.{Component, whole, part, blank, body_entries, decl_entries, location_entry, item_entries, param_entries, param_name as name_of_param, literal, parameter}
+use Rattle.cif_source.specs.Objects.{bodies, bodies_in, bodies_at, bodies_under}
 use Rattle.cif_source.specs.Scoping.{instances_of, as_instance}
-use Rattle.cif_scope.specs.declared.scope.Scope.{Scope}
-use Rattle.cif_scope.specs.declared.scope.ScopeName.{ScopeName}
-use Rattle.cif_scope.specs.Drafts.{literal_names, decl_names, location_name, location_names, automaton_names, param_name, param_names, count_in, count_at, count_under, next_instance, item_names, names_in, scope, scopes_in, scopes_at, scopes_from, scopes_of}
-use Rattle.cif_scope.specs.Tables.{IsBody, Beside, IsWhat, IsName, IsOuter, IsScope, IsTable}
+use Rattle.cif_scope.specs.Drafts.{literal_names, decl_names, location_name, location_names, automaton_names, param_name, param_names, count_in, count_at, count_under, next_instance, item_names, names_in, scopes_in, scopes_at, scopes_of}
+use Rattle.cif_scope.specs.Tables.{IsBody, Beside, IsName, IsScope, IsTable}
 use Rattle.cif_scope.proofs.Places.{beside-append, Sits, sits-left, sits-right, sits-head, sits-tail, sits-whole}
 
 -- ---- how many bodies there are

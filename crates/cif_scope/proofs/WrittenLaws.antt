@@ -2,8 +2,8 @@
 use Rattle.std.proofs.Common.{◌≡◌, ℕ, Bool, true, false, List, [], ◌∷◌, refl, sym, ap, ◌∙◌, Option, Some, None}
 use Rattle.cif_ast.specs.declared.names.Ident.{Ident}
 use Rattle.cif_ast.specs.declared.names.Name.{Name}
-use Rattle.cif_source.specs.Source.{Text, SourceBody, InstanceTree}
-use Rattle.cif_source.specs.Components.{Component, whole, part, blank, copy, body_of, body_entries, as_written, specification_of, scope_of, Entry, declared, literal, location, inner, definition, instance, parameter, entry_named}
+use Rattle.cif_source.specs.Source.{Text, InstanceTree}
+use Rattle.cif_source.specs.Components.{Component, whole, part, blank, copy, body_entries, as_written, specification_of, scope_of, Entry, declared, literal, location, inner, definition, instance, parameter, entry_named}
 use Rattle.cif_source.specs.Lookup.{ScopeEntry, Reached, reached, missing, blocked, at_entry, in_scope, in_body, go_on, or_outward, outward, looked_up, inside_written, definition_found}
 use Rattle.cif_scope.proofs.BodyLaws.{root-written}
 

@@ -2,9 +2,7 @@
 use Rattle.std.specs.Prelude.{ℕ, ◌+◌, List, [], ◌∷◌, ◌++◌, map, flat_map, length, Option, Some, None}
 use Rattle.cif_ast.specs.declared.names.Ident.{Ident}
 use Rattle.cif_source.specs.Source.{DeclTree, type_decl, enum_decl, event_decl, const_decl, alg_decl, input_decl, disc_decl, equation_decl, invariant_decl, marked_decl, ParamTree, event_param, alg_param, location_param, LocationTree, AutomatonTree, SourceItem, decl_item, component_item, definition_item, instance_item, SourceBody, group_body, automaton_body, Source, no_source, source}
-use Rattle.cif_scope.specs.declared.scope.Sort.{Sort}
 use Rattle.cif_scope.specs.declared.scope.Sort.TheVariants as sort
-use Rattle.cif_scope.specs.declared.scope.ParamSort.{ParamSort}
 use Rattle.cif_scope.specs.declared.scope.ParamSort.TheVariants as param
 use Rattle.cif_scope.specs.declared.scope.What.{What}
 use Rattle.cif_scope.specs.declared.scope.What.TheVariants as what

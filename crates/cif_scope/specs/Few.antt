@@ -1,8 +1,7 @@
 -- Whether the numbers of bodies and slots are below 2^32.
-use Rattle.std.specs.Prelude.{ℕ, Bool, ◌&&◌, ◌^◌, nat_lt, List, length}
+use Rattle.std.specs.Prelude.{Bool, ◌&&◌, ◌^◌, nat_lt, List, length}
 use Rattle.std.specs.List.{list_all}
 use Rattle.cif_source.specs.Source.{Text}
-use Rattle.cif_scope.specs.declared.scope.ScopeName.{ScopeName}
 use Rattle.cif_scope.specs.declared.scope.Scope.{Scope}
 
 abbrev pub is_few : {A : Type 0} → List A → Bool

@@ -1,5 +1,5 @@
 -- Names by their slots, and names that stand twice.
-use Rattle.std.specs.Prelude.{◌≡◌, ℕ, ◌<◌, ◌^◌, List, map, length, Some, slice_get, true}
+use Rattle.std.specs.Prelude.{◌≡◌, ℕ, List, map, Some, slice_get, true}
 use Rattle.std.specs.List.{list_all}
 use Rattle.cif_system.specs.Words.{AreDistinct, Before}
 use Rattle.cif_ast.specs.declared.names.Ident.{Ident}

@@ -1,7 +1,7 @@
 -- The scopes of a source, and what a name finds in them.
-use Rattle.std.specs.Prelude.{◌≡◌, ℕ, List, [], ◌∷◌, map, Option, Some, None, slice_get}
+use Rattle.std.specs.Prelude.{◌≡◌, ℕ, map, Option, Some, None, slice_get}
 use Rattle.cif_ast.specs.declared.names.Ident.{Ident}
-use Rattle.cif_source.specs.Source.{Text, InstanceTree, Source}
+use Rattle.cif_source.specs.Source.{InstanceTree, Source}
 use Rattle.cif_source.specs.Components.{Component, StandingInstance, blank, as_written, scope_of, Entry, declared, literal, location, inner, definition, instance, parameter}
 use Rattle.cif_source.specs.Lookup.{Reached, reached, missing, blocked, definition_found}
 use Rattle.cif_source.specs.Objects.{bodies}

@@ -1,7 +1,7 @@
 -- What scopes by numbers say of the bodies of a source.
 use Rattle.std.specs.Prelude.{◌≡◌, ℕ, List, [], ◌∷◌, length, Option, Some, None, slice_get}
 use Rattle.cif_ast.specs.declared.names.Ident.{Ident}
-use Rattle.cif_source.specs.Source.{DeclTree, type_decl, enum_decl, event_decl, const_decl, alg_decl, input_decl, disc_decl, equation_decl, invariant_decl, marked_decl, ParamTree, event_param, alg_param, location_param, InstanceTree, Source}
+use Rattle.cif_source.specs.Source.{DeclTree, type_decl, enum_decl, event_decl, const_decl, alg_decl, input_decl, disc_decl, equation_decl, invariant_decl, marked_decl, ParamTree, event_param, alg_param, location_param, Source}
 use Rattle.cif_source.specs.Components.{Component, whole, part, blank, copy, scope_of, Entry, declared, literal, location, inner, definition, instance, parameter}
 use Rattle.cif_source.specs.Objects.{bodies}
 use Rattle.cif_source.specs.Scoping.{instances_of}

@@ -1,5 +1,4 @@
 use Rattle.std.proofs.Common.{take}
-use Rattle.cif_scope.specs.Indexes.{IsIndexOf}
 use Rattle.cif_scope.proofs.IndexLaws.{IsPartIndex}
 use Rattle.cif_scope.proofs.indexing.indexed.Given as goal
 

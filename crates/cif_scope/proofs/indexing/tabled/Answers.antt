@@ -1,4 +1,4 @@
-use Rattle.std.proofs.Common.{◌≡◌, ◌∙◌, ◌<◌, ◌^◌, length, List, subst, sym, arith}
+use Rattle.std.proofs.Common.{◌<◌, ◌^◌, length, List, subst, sym, arith}
 use Rattle.cif_source.specs.Source.{source_of}
 use Rattle.cif_source.specs.Scoping.{DuplicateDue}
 use Rattle.cif_scope.specs.declared.scope.Scope.{Scope}

@@ -1,4 +1,4 @@
-use Rattle.std.proofs.Common.{◌≡◌, ◌∙◌, sym, ap, [], ◌∷◌, ◌++◌, None, Option, ℕ, List}
+use Rattle.std.proofs.Common.{◌≡◌, ◌∙◌, ap, [], ◌∷◌, ◌++◌, None, ℕ, List}
 use Rattle.std.specs.Prelude.{map}
 use Rattle.cif_scope.specs.Places.{slot_in}
 use Rattle.cif_scope.proofs.KeyLaws.{added-is}
