@@ -25,10 +25,4 @@ checked-is None z h =
     elim (cases_Bool (fits 64 z)) [ inl e ↦ absurd (h (fits-sound z e)) | inr e ↦ rw e refl ]
 checked-is (Some x) z h = rw (fits-true z h.0) (ap Ok h.1)
 
--- a number of 64 bits is its value
-pub number-is : (z : ℤ) → FitsSigned w64 z → checked 64 z ≡ Ok z
-number-is z h = rw (fits-true z h) refl
-
 pub ruleset checks = (checked-is, fits-true, fits-sound)
-
-pub ruleset numbers = (number-is)

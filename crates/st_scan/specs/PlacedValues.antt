@@ -47,7 +47,7 @@ applied op.larger x y = Ok (larger x y)
 
 abbrev mutual
   pub value_at : Expr → Memory → Result ℤ Fault
-  value_at (number z) m = checked 64 z
+  value_at (number z) m = Ok z
   value_at (placed k) m = Ok (slice_index_or m k (pos 0))
   value_at (single f e) m = with_value (value_at e m) (λ e. Err e) (λ x. applied_to f x)
   value_at (pair a f b) m = both (λ x y. applied f x y) (value_at a m) (value_at b m)

@@ -2,7 +2,7 @@
 //! there is none in the caller's memory, since a `Result` of both would go through memory at each step.
 
 ghost use Rattle.std.specs.Prelude.{◌≡◌, slice_index_or, pos, Ok};
-ghost use Rattle.st_ast.specs.Values.{checked, of_bool, is_true, same_number, divided, remainder};
+ghost use Rattle.st_ast.specs.Values.{of_bool, is_true, same_number, divided, remainder};
 ghost use Rattle.st_scan.specs.PlacedTree.{of_term, of_factor, of_extreme, joined_none};
 ghost use Rattle.st_scan.specs.PlacedValues.{value_at, steps_at, applied_to, applied, related, joined_with};
 ghost use Rattle.st_scan.specs.PlacedView.{expr_view, form_view, terms_view, factors_view, operands_view, cond_view};
@@ -162,15 +162,6 @@ fn read(memory: &[i64], place: u32) -> i64
     }
 }
 
-/// The value of a number that is written, which has 64 bits.
-#[inline(always)]
-#[tactic(auto, using(crate::proofs::Checked::numbers))]
-fn literal(number: i64) -> i64
-    ensures { checked 64 number ≡ Ok result }
-{
-    number
-}
-
 /// The value of an expression, or why it has none. Every operand is evaluated, from left to right.
 #[cycle(values)]
 #[inline(always)]
@@ -178,7 +169,7 @@ pub fn value(expr: &PlacedExpr, memory: &[i64], fault: &mut ValueFault) -> Optio
     ensures { told result fault.new ≡ value_at (expr_view expr.now) memory.now }
 {
     match expr {
-        PlacedExpr::Number(number) => Some(literal(*number)),
+        PlacedExpr::Number(number) => Some(*number),
         PlacedExpr::Place(place) => Some(read(memory, *place)),
         PlacedExpr::Form(form) => value_of(form.get(), memory, fault),
     }
@@ -300,7 +291,7 @@ pub fn test(cond: &PlacedCond, memory: &[i64], fault: &mut ValueFault) -> Option
             holds,
             place,
             number: y,
-        } => Some(number(is_so(*is, *holds, read(memory, *place), literal(*y)))),
+        } => Some(number(is_so(*is, *holds, read(memory, *place), *y))),
         PlacedCond::Value(expr) => value(expr, memory, fault),
     }
 }
