@@ -1,6 +1,8 @@
 //! Cases of plants: sources of the form of which programs are generated.
 
+ghost use Rattle.cif_parse.specs.Grammar.{Reads};
 ghost use Rattle.cif_plant.specs.Meaning.{IsNumbered};
+ghost use Rattle.cif_plant.specs.Named.{IsNameText};
 ghost use Rattle.cif_plant.specs.Plant.{IsPlant};
 
 use crate::sources::{put_no_tree, spec_of};
@@ -34,20 +36,22 @@ fn put_source(fields: &Fields<'_>, page: &mut String, sight: Sight) -> Result<()
     let text = fields.text()?;
     match spec_of(fields.alloc, text.as_slice()) {
         Err(why) => put_no_tree(page, why),
-        Ok(spec) => put_spec(fields.alloc, page, sight, &spec, text.len()),
+        Ok(spec) => put_spec(fields.alloc, page, sight, &spec, text.as_slice()),
     }
 }
 
-/// The plant of a tree, of which the text has so many bytes.
+/// The plant of the tree of a text.
 fn put_spec(
     alloc: Global,
     page: &mut String,
     sight: Sight,
     spec: &Spec,
-    end: usize,
-) -> Result<(), Fault> {
+    text: &[u8],
+) -> Result<(), Fault>
+    requires { Reads text.now spec.now }
+{
     match plant_of(alloc, spec) {
-        Err(error) => Ok(put_no_plant(page, error, end)?),
+        Err(error) => Ok(put_no_plant(page, error, text.len())?),
         Ok(plant) => put_plant(alloc, page, sight, &plant),
     }
 }
@@ -64,7 +68,8 @@ fn put_no_plant(page: &mut String, error: FormErr, end: usize) -> Put {
 }
 
 fn put_plant(alloc: Global, page: &mut String, sight: Sight, plant: &Plant) -> Result<(), Fault>
-    requires { IsPlant plant.now }
+    requires rules { IsPlant plant.now }
+    requires named { IsNameText plant.now.name }
 {
     let numbered = number_plant(alloc, plant)?;
     match sight {
@@ -81,7 +86,8 @@ fn put_emitted(
     plant: &NumberedPlant,
     bounds: Bounds,
 ) -> Result<(), Fault>
-    requires { IsNumbered plant.now }
+    requires numbered { IsNumbered plant.now }
+    requires named { IsNameText plant.now.name }
 {
     let program = emit(alloc, plant, bounds)?;
     let text = print(alloc, &program)?;

@@ -1,5 +1,8 @@
 //! Cases of whole CIF sources.
 
+ghost use Rattle.std.specs.Prelude.{IfOk};
+ghost use Rattle.cif_parse.specs.Grammar.{Reads};
+
 use crate::declarations::{decl_word, put_decls};
 use crate::expressions::put_shape;
 use case_text::{Fault, Fields, Put, put_text};
@@ -24,7 +27,9 @@ pub enum NoTree {
 }
 
 /// The tree of a text.
-pub fn spec_of(alloc: Global, text: &[u8]) -> Result<Spec, NoTree> {
+pub fn spec_of(alloc: Global, text: &[u8]) -> Result<Spec, NoTree>
+    ensures { IfOk result (Reads text.now) }
+{
     if text.len() > MOST_BYTES {
         return Err(NoTree::TooLong);
     }

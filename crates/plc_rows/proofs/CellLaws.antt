@@ -28,11 +28,11 @@ pub number_back : (z : ℤ) → FitsSigned w64 z → number_in (signed_decimal z
 number_back (pos n) h = of_digits (decimal n) (decimal_digits n) (decimal_nonempty n) ∙ ap pos (decimal-value n (omega (arith, h.sfits)))
 number_back (negsuc n) h = ap (λ m. neg_ℤ (pos m)) (decimal-value (suc n) (omega (arith, h.sfits)))
 
-pub fits_all : (z : ℤ) → FitsSigned w64 z → fits z ≡ true
+pub fits_all : (z : ℤ) → FitsSigned w64 z → fits 64 z ≡ true
 fits_all (pos n) h = let k : n < 2 ^ 63 = h.sfits in grind (arith, nat_tests)
 fits_all (negsuc n) h = let k : n < 2 ^ 63 = h.sfits in grind (arith, nat_tests)
 
-pub fitting : (z : ℤ) → fits z ≡ true → FitsSigned w64 z
+pub fitting : (z : ℤ) → fits 64 z ≡ true → FitsSigned w64 z
 fitting (pos n) e = let k : n < 2 ^ 63 = grind (arith, nat_tests) in record { sfits = k }
 fitting (negsuc n) e = let k : n < 2 ^ 63 = grind (arith, nat_tests) in record { sfits = k }
 
@@ -76,6 +76,6 @@ a_number test t z b e h is =
     ap (λ y. if same t (signed_decimal y) && test y then Some y else None) back ∙ ap (λ w. if w && test z then Some z else None) written ∙ ap (λ w. if w then Some z else None) is
 
 -- a number of 64 bits
-pub any_number : (t : Text) (r : Option ℤ) → IfSome r (λ z. t ≡ signed_decimal z) → ((z : ℤ) → FitsSigned w64 z → t ≡ signed_decimal z → r ≡ Some z) → IfSome r (λ z. FitsSigned w64 z) → r ≡ number_cell fits t
-any_number t None is reads few = sym (no_number fits t None refl reads fitting)
-any_number t (Some z) is reads few = sym (a_number fits t z true is few (fits_all z few))
+pub any_number : (t : Text) (r : Option ℤ) → IfSome r (λ z. t ≡ signed_decimal z) → ((z : ℤ) → FitsSigned w64 z → t ≡ signed_decimal z → r ≡ Some z) → IfSome r (λ z. FitsSigned w64 z) → r ≡ number_cell (fits 64) t
+any_number t None is reads few = sym (no_number (fits 64) t None refl reads fitting)
+any_number t (Some z) is reads few = sym (a_number (fits 64) t z true is few (fits_all z few))

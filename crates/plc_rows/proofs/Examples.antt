@@ -12,7 +12,7 @@ use Rattle.st_ast.specs.declared.tree.StClass.TheVariants as class
 use Rattle.plc_rows.specs.Rows.{header, cell, row_length, header_fault, cell_value, row_fault, file_fault, first_row_fault, row_values, rows_after, records_of}
 
 abbrev variable : Text → StClass → StTy → StVar
-variable x k t = record { name = x; class = k; ty = t; init = None }
+variable x k t = record { name = x; class = k; ty = t; init = None; at = None }
 
 -- a BOOL input a
 abbrev one : List StVar

@@ -7,5 +7,6 @@ pub mod CellLaws
 pub mod RowLaws
 pub mod Sizes
 pub mod Whole
+pub mod InRange
 pub mod Lines
 pub mod Examples

@@ -31,7 +31,7 @@ places vars (f ∷ names) (c ∷ cols) n e h =
 
 -- ---- the fault of a row
 
-stands_same : (vars : List StVar) (name : Text) (c : Column) → column_of vars name ≡ Some c → (k : ℕ) (t : Text) → cell_stands vars k name t ≡ stands k c t
+pub stands_same : (vars : List StVar) (name : Text) (c : Column) → column_of vars name ≡ Some c → (k : ℕ) (t : Text) → cell_stands vars k name t ≡ stands k c t
 stands_same vars name c e k t = go (of_name vars name c e)
   where
     go : OfName vars name c → cell_stands vars k name t ≡ stands k c t
@@ -103,7 +103,7 @@ abbrev Once : List Text → Type 0
 Once [] = ⊤
 Once (f ∷ fs) = (has_text fs f ≡ false) × Once fs
 
-kept : (b : Bool) (x : Option RowFault) (f : RowFault) → (if b then x else Some f) ≡ None → (b ≡ true) × (x ≡ None)
+pub kept : (b : Bool) (x : Option RowFault) (f : RowFault) → (if b then x else Some f) ≡ None → (b ≡ true) × (x ≡ None)
 kept true x f e = (refl, e)
 kept false x f e = none_some (sym e)
 
@@ -131,7 +131,7 @@ module _ (ns : List Text) where
 
 -- ---- the values
 
-abbrev worth : StVar → List Text → List Text → ℤ
+abbrev pub worth : StVar → List Text → List Text → ℤ
 worth v names ts = unwrap_or (cell_value v.ty (cell_under v.name names ts)) (pos 0)
 
 module _ (vars : List StVar) (i : ℕ) (v : StVar) (e : column_of vars v.name ≡ Some (column.Input i v.ty)) where
@@ -179,7 +179,7 @@ map_none g [] i e = refl
 map_none g (x ∷ xs) zero e = none_some (sym e)
 map_none g (x ∷ xs) (suc i) e = map_none g xs i e
 
-past : {A : Type 0} (xs : List A) (i : ℕ) → slice_get xs i ≡ None → length xs ≤ i
+pub past : {A : Type 0} (xs : List A) (i : ℕ) → slice_get xs i ≡ None → length xs ≤ i
 past [] i e = omega arith
 past (x ∷ xs) zero e = none_some (sym e)
 past (x ∷ xs) (suc i) e = let more = past xs i e in omega (arith, more)

@@ -1,16 +1,16 @@
 -- The rules of a rows file for a program: the records of the text, as `csv` has them, are the header, which is the field
 -- `scan` and the names of the inputs in any order, and then the rows, which are numbered from 1. The cell of a row in the
 -- column `scan` is its number, and a cell in the column of an input is a value of its type.
-use Rattle.std.specs.Prelude.{◌≡◌, ℕ, suc, ◌+◌, ◌==◌, nat_lt, nat_eq, ℤ, pos, neg_ℤ, int_le, Bool, false, not, ◌&&◌, List, [], ◌∷◌, ◌++◌, codes, decimal, map, filter, find, length, Option, Some, None, is_some, unwrap_or, if◌then◌else◌}
+use Rattle.std.specs.Prelude.{◌≡◌, ℕ, suc, ◌+◌, ◌==◌, nat_lt, nat_eq, ℤ, pos, neg_ℤ, int_le, Bool, IsTrue, false, not, ◌&&◌, ◌||◌, List, [], ◌∷◌, ◌++◌, codes, decimal, map, filter, find, length, Option, Some, None, is_some, unwrap_or, if◌then◌else◌}
 use Rattle.std.specs.Fmt.{signed_decimal}
-use Rattle.std.specs.List.{list_any}
+use Rattle.std.specs.List.{list_any, AllByRecursion, AllZip}
 use Rattle.std.specs.Option.{option_or}
 pub use Rattle.std.specs.Option.{option_or as or_else}
 use Rattle.grammar.specs.Bytes.{digits_from}
 use Rattle.grammar.specs.Pieces.{Text, same}
 use Rattle.csv.specs.Reading.{default_config, records, strip_bom}
 use Rattle.st_ast.specs.Scan.{is_input}
-use Rattle.st_ast.specs.Values.{fits}
+use Rattle.st_ast.specs.Values.{fits, same_number}
 use Rattle.st_ast.specs.declared.tree.StVar.{StVar}
 use Rattle.st_ast.specs.declared.tree.StTy.{StTy}
 use Rattle.st_ast.specs.declared.tree.StTy.TheVariants as ty
@@ -64,11 +64,17 @@ number_in (b ∷ t) = if b == 45 then neg_ℤ (pos (digits_from 0 t)) else pos (
 abbrev pub number_cell : (ℤ → Bool) → Text → Option ℤ
 number_cell test t = if same t (signed_decimal (number_in t)) && test (number_in t) then Some (number_in t) else None
 
+-- whether a number is a value of a type, where a BOOL is 0 or 1
+abbrev pub is_of_type : StTy → ℤ → Bool
+is_of_type ty.Bool z = same_number z (pos 0) || same_number z (pos 1)
+is_of_type ty.Lint z = fits 64 z
+is_of_type (ty.Range lo hi) z = int_le lo z && int_le z hi
+
 -- the value of a cell in the column of an input of that type
 abbrev pub cell_value : StTy → Text → Option ℤ
 cell_value ty.Bool t = truth_cell t
-cell_value ty.Lint t = number_cell fits t
-cell_value (ty.Range lo hi) t = number_cell (λ z. int_le lo z && int_le z hi) t
+cell_value ty.Lint t = number_cell (λ z. is_of_type ty.Lint z) t
+cell_value (ty.Range lo hi) t = number_cell (λ z. is_of_type (ty.Range lo hi) z) t
 
 -- the input with this name
 abbrev pub input_named : List StVar → Text → Option StVar
@@ -127,3 +133,11 @@ rows_after vars (names ∷ rs) = map (row_values vars names) rs
 -- the text breaks no rule, and these are its rows
 unfoldable pub RowsOf : List StVar → Text → List (List ℤ) → Type 0
 RowsOf vars text rows = (first_row_fault vars text ≡ None) × (rows ≡ rows_after vars (records_of text))
+
+-- one value for each input, in the order of declaration and of its type
+abbrev pub IsRowFor : List StVar → List ℤ → Type 0
+IsRowFor vars row = AllZip (λ (v : StVar) z. IsTrue (is_of_type v.ty z)) (inputs_of vars) row
+
+-- the rows are in range for a program with these variables
+abbrev pub AreRowsFor : List StVar → List (List ℤ) → Type 0
+AreRowsFor vars rows = AllByRecursion (IsRowFor vars) rows

@@ -4,12 +4,14 @@
 mod cells;
 mod error;
 mod header;
+mod laws;
 mod reading;
 mod records;
 mod row;
 mod table;
 
 pub use error::RowErr;
+pub use laws::rows_are_in_range;
 pub use reading::read_rows;
 pub use row::{Row, Rows};
 pub use table::rows_text;

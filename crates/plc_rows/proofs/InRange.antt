@@ -1,0 +1,152 @@
+-- Rows that break no rule of a program are rows in range for it.
+use Rattle.std.proofs.Common.{◌≡◌, ◌≤◌, ◌<◌, ℕ, zero, suc, ◌+◌, ℤ, pos, Bool, true, false, ◌||◌, ◌&&◌, List, [], ◌∷◌, ◌++◌, map, length, Option, Some, None, refl, sym, ap, subst, ◌∙◌, arith}
+use Rattle.std.specs.Prelude.{IsTrue, slice_get, slice_set, nat_eq, nat_lt, replicate, is_some, unwrap_or, if◌then◌else◌}
+use Rattle.std.specs.List.{AllByRecursion, AllZip}
+use Rattle.std.specs.Option.{option_or}
+use Rattle.std.proofs.lemmas.Bool.{false≢true, lt-ltb}
+use Rattle.std.proofs.lemmas.Bool.Decides.{nat_tests}
+use Rattle.std.proofs.lemmas.List.{length-append}
+use Rattle.std.proofs.lemmas.Option.{slice_get_within}
+use Rattle.grammar.specs.Pieces.{Text, same}
+use Rattle.grammar.proofs.Texts.{same_equal, same_flip, and_right}
+use Rattle.csv.specs.Records.{field_at}
+use Rattle.st_ast.specs.declared.tree.StVar.{StVar}
+use Rattle.st_ast.specs.declared.tree.StTy.{StTy}
+use Rattle.st_ast.specs.declared.tree.StTy.TheVariants as ty
+use Rattle.plc_rows.specs.Rows.{RowFault, header, cell, row_length, too_many_rows, most_rows, inputs_of, has_text, header_fault, truth_cell, number_in, number_cell, is_of_type, cell_value, cell_stands, cells_fault, row_fault, rows_fault, file_fault, records_of, first_row_fault, cell_under, row_values, rows_after, RowsOf, IsRowFor, AreRowsFor}
+use Rattle.plc_rows.specs.Columns.{place, column_of, ColumnsOf, HeaderOf, stands}
+use Rattle.plc_rows.specs.declared.header.Column.{Column}
+use Rattle.plc_rows.specs.declared.header.Column.TheVariants as column
+use Rattle.plc_rows.proofs.ColumnLaws.{as_many, covered}
+use Rattle.plc_rows.proofs.HeaderLaws.{Reading, starts, unwanted, within, repeated, goes_on, missing, whole}
+use Rattle.plc_rows.proofs.Remaining.{one_some, none_some}
+use Rattle.plc_rows.proofs.RowLaws.{stands_same, kept, worth, past, field_within}
+
+-- ---- a header that breaks no rule has columns
+
+module _ (vars : List StVar) (names : List Text) (right : header_fault vars names ≡ None) where
+  Found : Type 0
+  Found = (cols : List Column) × HeaderOf vars names cols
+
+  of_header : (n : ℕ) (cols : List Column) (seen : List Bool) → Reading vars names cols seen → length names ≤ n + length cols → Found
+  of_header n cols seen r more = go (field_at names (length cols)) refl
+    where
+      ended : field_at names (length cols) ≡ None → Found
+      ended e = at_end (nat_lt (length cols) (suc (length (inputs_of vars)))) refl
+        where
+          at_end : (b : Bool) → nat_lt (length cols) (suc (length (inputs_of vars))) ≡ b → Found
+          at_end true l = none_some (sym (sym (missing vars names cols seen r e (grind (arith, nat_tests))) ∙ right))
+          at_end false l = (cols, whole vars names cols seen r e (grind (arith, nat_tests)))
+
+      with_field : (f : Text) → field_at names (length cols) ≡ Some f → (m : ℕ) → m ≡ n → Found
+      with_field f e zero z = absurd (let l = field_within names (length cols) f e in omega (arith, l))
+      with_field f e (suc m) z = with_column (column_of vars f) refl
+        where
+          with_column : (c : Option Column) → column_of vars f ≡ c → Found
+          with_column None h = none_some (sym (sym (unwanted vars names cols seen r f e h) ∙ right))
+          with_column (Some c) h = marked (slice_get seen (place c)) refl
+            where
+              marked : (b : Option Bool) → slice_get seen (place c) ≡ b → Found
+              marked None g = absurd (let l = within vars names cols seen r f e c h in let m = past seen (place c) g in omega (arith, l, m))
+              marked (Some true) g = none_some (sym (sym (repeated vars names cols seen r f e c h g) ∙ right))
+              marked (Some false) g = of_header m (cols ++ c ∷ []) (slice_set seen (place c) true) (goes_on vars names cols seen r f e c h (slice_set seen (place c) true) g refl)
+                  (omega (arith, more, z, length-append cols (c ∷ [])))
+
+      go : (f : Option Text) → field_at names (length cols) ≡ f → Found
+      go None e = ended e
+      go (Some f) e = with_field f e n refl
+
+  pub columns_of_header : Found
+  columns_of_header =
+      of_header (length names) [] (replicate (suc (length (inputs_of vars))) false)
+      (starts vars names (replicate (suc (length (inputs_of vars))) false) (suc (length (inputs_of vars))) refl refl) (omega arith)
+
+-- ---- a cell that keeps the rule of its column has a value of its type
+
+truth_typed : (t : Text) → is_some (truth_cell t) ≡ true → is_of_type ty.Bool (unwrap_or (truth_cell t) (pos 0)) ≡ true
+truth_typed t e = go _ _ e
+  where
+    go : (a b : Bool) → is_some (if a then Some (pos 1) else (if b then Some (pos 0) else None)) ≡ true
+        → is_of_type ty.Bool (unwrap_or (if a then Some (pos 1) else (if b then Some (pos 0) else None)) (pos 0)) ≡ true
+    go true b e = refl
+    go false true e = refl
+    go false false e = absurd (false≢true e)
+
+number_typed : (test : ℤ → Bool) (t : Text) → is_some (number_cell test t) ≡ true → test (unwrap_or (number_cell test t) (pos 0)) ≡ true
+number_typed test t e = go _ (test (number_in t)) refl e
+  where
+    go : (a b : Bool) → test (number_in t) ≡ b → is_some (if a && b then Some (number_in t) else None) ≡ true
+        → test (unwrap_or (if a && b then Some (number_in t) else None) (pos 0)) ≡ true
+    go true true is e = is
+    go true false is e = absurd (false≢true e)
+    go false b is e = absurd (false≢true e)
+
+cell_typed : (t : StTy) (c : Text) → is_some (cell_value t c) ≡ true → is_of_type t (unwrap_or (cell_value t c) (pos 0)) ≡ true
+cell_typed ty.Bool c e = truth_typed c e
+cell_typed ty.Lint c e = number_typed (λ z. is_of_type ty.Lint z) c e
+cell_typed (ty.Range lo hi) c e = number_typed (λ z. is_of_type (ty.Range lo hi) z) c e
+
+-- ---- the cell under the name of an input keeps the rule of its column
+
+module _ (vars : List StVar) (i : ℕ) (v : StVar) (is : column_of vars v.name ≡ Some (column.Input i v.ty)) (k : ℕ) where
+  cell_right : (names ts : List Text) (j : ℕ) → length ts ≡ length names → cells_fault vars k j names ts ≡ None → has_text names v.name ≡ true → is_some (cell_value v.ty (cell_under v.name names ts)) ≡ true
+  cell_right [] ts j n e h = absurd (false≢true h)
+  cell_right (f ∷ names) [] j n e h = absurd (omega (arith, n))
+  cell_right (f ∷ names) (t ∷ ts) j n e h =
+      let p = kept (cell_stands vars k f t) (cells_fault vars k (suc j) names ts) (cell k j) e in
+      go (same v.name f) refl (same_flip f v.name) h p.0 (λ there. cell_right names ts (suc j) (omega (arith, n)) p.1 there)
+    where
+      go : (b : Bool) → same v.name f ≡ b → same f v.name ≡ same v.name f → (b || has_text names v.name) ≡ true → cell_stands vars k f t ≡ true
+          → (has_text names v.name ≡ true → is_some (cell_value v.ty (cell_under v.name names ts)) ≡ true)
+          → is_some (cell_value v.ty (if same f v.name then t else cell_under v.name names ts)) ≡ true
+      go true s flip h st more =
+          ap (λ b. is_some (cell_value v.ty (if b then t else cell_under v.name names ts))) (flip ∙ s)
+          ∙ sym (stands_same vars f (column.Input i v.ty) (ap (column_of vars) (sym (same_equal v.name f s)) ∙ is) k t) ∙ st
+      go false s flip h st more = ap (λ b. is_some (cell_value v.ty (if b then t else cell_under v.name names ts))) (flip ∙ s) ∙ more h
+
+zip_map : {A B : Type 0} (R : A → B → Type 0) (g : A → B) (xs : List A) → ((i : ℕ) (x : A) → slice_get xs i ≡ Some x → R x (g x)) → AllZip R xs (map g xs)
+zip_map R g [] each = tt
+zip_map R g (x ∷ xs) each = (each zero x refl, zip_map R g xs (λ i y e. each (suc i) y e))
+
+row_typed : (vars : List StVar) (names : List Text) (cols : List Column) (k : ℕ) (ts : List Text) → HeaderOf vars names cols → row_fault vars names k ts ≡ None → IsRowFor vars (row_values vars names ts)
+row_typed vars names cols k ts h e = zip_map (λ (v : StVar) z. IsTrue (is_of_type v.ty z)) (λ (v : StVar). worth v names ts) (inputs_of vars) each
+  where
+    p : (nat_eq (length ts) (length names) ≡ true) × (cells_fault vars k 1 names ts ≡ None)
+    p = kept (nat_eq (length ts) (length names)) (cells_fault vars k 1 names ts) (row_length k) e
+
+    each : (i : ℕ) (v : StVar) → slice_get (inputs_of vars) i ≡ Some v → IsTrue (is_of_type v.ty (worth v names ts))
+    each i v at =
+        let few : i < length (inputs_of vars) = slice_get_within (inputs_of vars) i v at in
+        let c = covered vars names cols i v h.columns at (h.each (suc i) (omega (arith, few))) in
+        let q = p.0 in
+        let long : length ts ≡ length names = grind (arith, nat_tests) in
+        cell_typed v.ty (cell_under v.name names ts) (cell_right vars i v c.column k names ts 1 long p.1 c.there)
+
+-- ---- all rows
+
+neither : (a b : Option RowFault) → option_or a b ≡ None → (a ≡ None) × (b ≡ None)
+neither None b e = (refl, e)
+neither (Some f) b e = none_some (sym e)
+
+left : (b : Bool) (f : RowFault) (x : Option RowFault) → (if b then Some f else x) ≡ None → x ≡ None
+left true f x e = none_some (sym e)
+left false f x e = e
+
+rows_typed : (vars : List StVar) (names : List Text) (cols : List Column) → HeaderOf vars names cols → (k : ℕ) (rs : List (List Text)) → rows_fault vars names k rs ≡ None → AreRowsFor vars (map (row_values vars names) rs)
+rows_typed vars names cols h k [] e = tt
+rows_typed vars names cols h k (r ∷ rs) e =
+    let p = neither (row_fault vars names k r) (rows_fault vars names (suc k) rs) (left (nat_lt most_rows k) (too_many_rows (most_rows + 1)) _ e) in
+    (row_typed vars names cols k r h p.0, rows_typed vars names cols h (suc k) rs p.1)
+
+file_typed : (vars : List StVar) (rs : List (List Text)) → file_fault vars rs ≡ None → AreRowsFor vars (rows_after vars rs)
+file_typed vars [] e = none_some (sym e)
+file_typed vars (names ∷ rs) e =
+    let p = neither (header_fault vars names) (rows_fault vars names 1 rs) e in
+    let h = columns_of_header vars names p.0 in
+    rows_typed vars names h.0 h.1 1 rs p.1
+
+pub in_range : (vars : List StVar) (text : Text) (rows : List (List ℤ)) → RowsOf vars text rows → AreRowsFor vars rows
+unfolding RowsOf first_row_fault
+in_range vars text rows h = subst (λ (rs : List (List ℤ)). AreRowsFor vars rs) (sym h.1) (file_typed vars (records_of text) h.0)
+
+pub ruleset ranges = (in_range)
