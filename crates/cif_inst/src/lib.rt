@@ -1,0 +1,15 @@
+//! The flat net of a CIF source: names are numbers there, and every component has its path (CIF 3 language reference,
+//! "Groups", "Automata", "Synchronization").
+#![tactic(auto)]
+
+mod autos;
+mod edges;
+mod error;
+mod events;
+mod instantiating;
+mod naming;
+mod objects;
+mod rows;
+
+pub use error::InstErr;
+pub use instantiating::instantiate;
