@@ -1,3 +1,4 @@
 pub mod Places
 pub mod Declaring
 pub mod Numbers
+pub mod Firsts

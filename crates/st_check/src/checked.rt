@@ -92,6 +92,7 @@ impl Checked {
 }
 
 /// Checks a program. The first broken check is told, in the order of the variables and then of the statements.
+#[tactic(auto, using(crate::proofs::Firsts::fronts))]
 pub fn check_program(alloc: Global, program: Program) -> Result<Checked, StCheckErr>
     requires variables { length program.vars < 2 ^ 32 }
     requires statements { stms_count (view_stmts program.body) < 2 ^ 32 }
