@@ -31,6 +31,6 @@ pub fn this_line_is_told()
 
 /// Two rows for a program with one input.
 pub fn these_rows_are_read()
-    ensures { RowsOf (record { name = codes "I0_k"; class = StClass.Input; ty = StTy.Bool; init = None } ∷ [])
+    ensures { RowsOf (record { name = codes "I0_k"; class = StClass.Input; ty = StTy.Bool; init = None; at = None } ∷ [])
         (codes "I0_k,scan\nTRUE,1\nFALSE,2\n") ((pos 1 ∷ []) ∷ (pos 0 ∷ []) ∷ []) }
 {}
