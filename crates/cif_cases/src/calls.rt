@@ -3,6 +3,7 @@
 use crate::commands::tool_case;
 use crate::laws::laws_case;
 use crate::plants::{emit_case, numbers_case, plant_case};
+use crate::scopes::{find_case, scopes_case};
 use crate::sources::{copy_case, source_case};
 use crate::tokens::front_case;
 use crate::uses::uses_case;
@@ -20,6 +21,8 @@ impl Calls for CifCalls {
             "numbers" => numbers_case(fields, page),
             "emit" => emit_case(fields, page),
             "uses" => uses_case(fields, page),
+            "scopes" => scopes_case(fields, page),
+            "find" => find_case(fields, page),
             "copy" => copy_case(fields, page),
             "items" | "automaton" | "location" | "edge" | "choice" | "outline" | "shape" | "tree" =>
                 source_case(call, fields, page),

@@ -303,7 +303,7 @@ fn put_branches(page: &mut String, branches: &[UpdateBranch]) -> Put {
 }
 
 /// The value or the predicate of the last of some items, if that is a declaration that has one.
-fn value_of(items: &[Item]) -> Option<&Expr> {
+pub fn value_of(items: &[Item]) -> Option<&Expr> {
     let [.., Item::Decl(decl)] = items else {
         return None;
     };
