@@ -21,7 +21,7 @@ use Rattle.st_ast.specs.declared.tree.StTy.{StTy}
 use Rattle.st_ast.specs.declared.tree.StTy.TheVariants as ty
 use Rattle.plc_face.specs.declared.letter.Letter.{Letter}
 use Rattle.plc_face.specs.Names.{name_for}
-use Rattle.plc_face.specs.Face.{VariableFace, HoldsAt, class_and_type, declaration, literal_of, range_of}
+use Rattle.plc_face.specs.Face.{VariableFace, HoldsAt, head_of, declaration, literal_of, range_of}
 use Rattle.plc_face.proofs.NameLaws.{letters-differ, names-differ}
 use Rattle.plc_face.proofs.FaceLaws.{same_name-self, Typed}
 use Rattle.plc_emit.specs.Emitted.{Block, block_variables, variables_of}
@@ -200,7 +200,7 @@ pub starts-held : (p : Program) (l : Letter) (k : ℕ) (xs : List VariableFace) 
 starts-held p l k [] sound all = tt
 starts-held p l k (x ∷ xs) sound all = (
   record {
-    is_declared = ap (option_map class_and_type) all.0;
+    is_declared = ap (option_map head_of) all.0;
     holds = get-map first_of p.vars (place_of p.vars (name_for l k x.path)) ∙ ap (option_map first_of) all.0 ∙ ap Some (literal-is x.ty x.first sound.0.first);
   },
   starts-held p l (k + 1) xs sound.1 all.1,

@@ -28,7 +28,7 @@ use Rattle.st_ast.proofs.Runs.{append_runs}
 use Rattle.plc_face.specs.declared.letter.Letter.{Letter}
 use Rattle.plc_face.specs.declared.letter.Letter.TheVariants as letter
 use Rattle.plc_face.specs.Names.{name_for}
-use Rattle.plc_face.specs.Face.{Face, VariableFace, HasInterface, HoldsAt, IsDeclared, Shows, StateOf, AreInTypes, alg_face, algs_of, class_and_type, declaration, declarations, place_face, places_of, range_of}
+use Rattle.plc_face.specs.Face.{Face, VariableFace, HasInterface, HoldsAt, IsDeclared, Shows, StateOf, AreInTypes, alg_face, algs_of, head_of, declaration, declarations, place_face, places_of, range_of}
 use Rattle.plc_face.specs.Frame.{IsFramed, IsOwnName, Stands, WritesOutputs, fired, latches_of, part_of, part_or_none, rounds_made}
 use Rattle.plc_face.proofs.NameLaws.{letters-differ}
 use Rattle.plc_face.proofs.FaceLaws.{Kept, pairwise-length, state-kept}
@@ -196,10 +196,10 @@ module _ (n : Net) (cs : List NetChoice) (U C : ℕ) (net : is_net n ≡ true) (
   shown-values-declared = block-declared blocks 6 _ are-blocks refl
 
   mark_declared : IsDeclared p.vars fired ty.Bool
-  mark_declared = subst (λ x. IsDeclared p.vars x ty.Bool) fired_is (ap (option_map class_and_type) own-declared.0)
+  mark_declared = subst (λ x. IsDeclared p.vars x ty.Bool) fired_is (ap (option_map head_of) own-declared.0)
 
   counter_declared : IsDeclared p.vars rounds_made ty.Lint
-  counter_declared = subst (λ x. IsDeclared p.vars x ty.Lint) rounds_is (ap (option_map class_and_type) own-declared.1.0)
+  counter_declared = subst (λ x. IsDeclared p.vars x ty.Lint) rounds_is (ap (option_map head_of) own-declared.1.0)
 
   place-declared : (k : ℕ) (a : NetAuto) → slice_get n.autos k ≡ Some a → declared p.vars (place_name n k) ≡ Some (declaration letter.L class.Plain (k, place_face (auto_face a)))
   place-declared k a at =

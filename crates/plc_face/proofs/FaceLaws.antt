@@ -17,7 +17,7 @@ use Rattle.st_ast.specs.declared.tree.StTy.{StTy}
 use Rattle.plc_face.specs.declared.letter.Letter.{Letter}
 use Rattle.plc_face.specs.declared.letter.Letter.TheVariants as letter
 use Rattle.plc_face.specs.Names.{name_for}
-use Rattle.plc_face.specs.Face.{Face, VariableFace, class_and_type, IsDeclared, HoldsAt, StateOf, range_of, places_of}
+use Rattle.plc_face.specs.Face.{Face, VariableFace, head_of, IsDeclared, HoldsAt, StateOf, range_of, places_of}
 use Rattle.plc_face.proofs.NameLaws.{false-true}
 
 -- ---- lists
@@ -139,11 +139,11 @@ pub record Declared (vars : List StVar) (x : Text) (t : StTy) : Type 0 where
 pub declared-of : (vars : List StVar) (x : Text) (t : StTy) → IsDeclared vars x t → Declared vars x t
 declared-of vars x t h = go (declared vars x) refl h
   where
-    go : (o : Option StVar) → declared vars x ≡ o → option_map class_and_type o ≡ Some (class.Plain, t) → Declared vars x t
-    go None is e = absurd (none-some (class.Plain, t) e)
+    go : (o : Option StVar) → declared vars x ≡ o → option_map head_of o ≡ Some (x, (class.Plain, t)) → Declared vars x t
+    go None is e = absurd (none-some (x, (class.Plain, t)) e)
     go (Some v) is e =
-        let both : class_and_type v ≡ (class.Plain, t) = some-same (class_and_type v) (class.Plain, t) e in
-        record { variable = v; at = is; class_is = ap (λ (c : StClass × StTy). c.0) both; type_is = ap (λ (c : StClass × StTy). c.1) both }
+        let all : head_of v ≡ (x, (class.Plain, t)) = some-same (head_of v) (x, (class.Plain, t)) e in
+        record { variable = v; at = is; class_is = ap (λ (h : Text × (StClass × StTy)). h.1.0) all; type_is = ap (λ (h : Text × (StClass × StTy)). h.1.1) all }
 
 pub declared-type : (vars : List StVar) (x : Text) (t : StTy) → IsDeclared vars x t → type_at vars (place_of vars x) ≡ t
 declared-type vars x t h = let d = declared-of vars x t h in ap type_of d.at ∙ d.type_is

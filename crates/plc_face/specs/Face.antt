@@ -87,12 +87,12 @@ pub record HasInterface (face : Face) (p : Program) : Type 0 where
 
 -- ---- the state that a memory stands for
 
-abbrev pub class_and_type : StVar → StClass × StTy
-class_and_type v = (v.class, v.ty)
+abbrev pub head_of : StVar → Text × (StClass × StTy)
+head_of v = (v.name, (v.class, v.ty))
 
--- the variable with this name is declared in VAR with this type
+-- the variable with this name, spelled so, is declared in VAR with this type
 abbrev pub IsDeclared : List StVar → Text → StTy → Type 0
-IsDeclared vars name t = option_map class_and_type (declared vars name) ≡ Some (class.Plain, t)
+IsDeclared vars name t = option_map head_of (declared vars name) ≡ Some (name, (class.Plain, t))
 
 -- the variable of this letter and number is declared with its type, and holds z
 pub record HoldsAt (p : Program) (m : Memory) (l : Letter) (x : ℕ × VariableFace) (z : ℤ) : Type 0 where

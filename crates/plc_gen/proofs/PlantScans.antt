@@ -22,7 +22,7 @@ use Rattle.st_ast.specs.declared.tree.StTy.TheVariants as ty
 use Rattle.st_ast.proofs.Runs.{cons_runs, assign_runs}
 use Rattle.plc_face.specs.declared.letter.Letter.TheVariants as letter
 use Rattle.plc_face.specs.Names.{underscore, tidied, name_for}
-use Rattle.plc_face.specs.Face.{class_and_type, IsDeclared, StateOf, Shows, AreInTypes, range_of, seen_values}
+use Rattle.plc_face.specs.Face.{head_of, IsDeclared, StateOf, Shows, AreInTypes, range_of, seen_values}
 use Rattle.plc_face.specs.Scans.{ScansExactly, ShowsOutputs, StaysTyped}
 use Rattle.plc_face.specs.Frame.{frame}
 use Rattle.plc_face.proofs.Tidying.{AreSingle, EndsWell, tidy-same}
@@ -90,7 +90,7 @@ place_held : (n : NumberedPlant) (U C : ℕ) (m : Memory) (s : State) (st : Stan
     → (IsDeclared (variables_of n) x (ty.Range (pos 0) (pos (n.places - 1)))) × (slice_get m (place_of (variables_of n) x) ≡ Some (pos st.place))
 place_held n U C m s st x is =
     subst (λ y. (IsDeclared (variables_of n) y (ty.Range (pos 0) (pos (n.places - 1)))) × (slice_get m (place_of (variables_of n) y) ≡ Some (pos st.place))) is
-    (ap (option_map class_and_type) (place_is_declared n), ap (slice_get m) (place_stands_at n) ∙ slice_get-of m 0 (pos 0) (omega (arith, st.long)) ∙ ap Some st.holds)
+    (ap (option_map head_of) (place_is_declared n), ap (slice_get m) (place_stands_at n) ∙ slice_get-of m 0 (pos 0) (omega (arith, st.long)) ∙ ap Some st.holds)
 
 pub state_of : (n : NumberedPlant) → IsNameText n.name → (U C : ℕ) (m : Memory) (s : State) → Stands n m s → StateOf (face_of n) (system_of_numbered n) (program_of n U C) m s
 state_of n letters U C m s st =
