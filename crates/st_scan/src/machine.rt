@@ -113,7 +113,7 @@ impl<'a> Machine<'a> {
         requires { variable < length self.now.program.vars }
         ensures { slice_get self.now.memory variable ≡ Some result }
     {
-        self.memory[variable as usize]
+        number_at(self.memory.as_slice(), variable)
     }
 
     /// The value of the k-th output, counted from 0 in the order of declaration.
@@ -125,6 +125,14 @@ impl<'a> Machine<'a> {
         let variable = self.program.outputs()[k as usize];
         self.value(variable)
     }
+}
+
+/// The number at a place of a memory.
+fn number_at(memory: &[i64], place: u32) -> i64
+    requires { place < length memory.now }
+    ensures { slice_get memory.now place ≡ Some result }
+{
+    memory[place as usize]
 }
 
 fn number(literal: StLit) -> i64

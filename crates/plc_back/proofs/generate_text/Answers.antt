@@ -7,7 +7,7 @@ has_program : (c : goal.In_ok-text) → HasProgram c.args.plant.now c.args.bound
 has_program c = record { numbered = c.requires.numbered; name = c.requires.named; few_places = omega arith; unc = omega arith; con = omega arith }
 
 pub returns-clause-exact : goal.returns-clause-exact
-returns-clause-exact c = (has_program c, c.in_ok-text.ensures)
+returns-clause-exact c = (has_program c, c.in_ok-text.ensures.laid_out)
 
 pub returns-clause-program : goal.returns-clause-program
 returns-clause-program c = is_program_of c.args.plant.now c.args.bounds.unc c.args.bounds.con (has_program c) c.in_ok-text.text.items c.in_ok-text.ensures.read_again

@@ -1,0 +1,540 @@
+#!/usr/bin/env python3
+"""Compares what the names of a source find, and which names are declared twice, with a plain look-up, on random sources.
+
+    tools/compare_names.py CASES [SOURCES [SEED]]
+
+CASES is the program of `crates/cif_cases`, which is asked `scopes` for each source, and `find` for names in each of its bodies.
+A name is looked up in the scope where it stands and outward, each later part in the body of what the part before it finds. About
+half of the sources keep all rules on names, the others break some. The status is 1 where the two differ.
+"""
+import random
+import subprocess
+import sys
+
+NAMES = "abcdefghij"
+
+# The sorts of what a scope declares, as what they are when a position asks for them.
+EVENT, TYPE, CONSTANT, ALG, INPUT, DISC, LITERAL, LOCATION = "event type constant alg input disc literal location".split()
+COMPONENT, DEFINITION, INSTANCE = "component definition instance".split()
+EVENT_PARAMETER, ALG_PARAMETER, LOCATION_PARAMETER = "event parameter", "alg parameter", "location parameter"
+
+VALUES = {CONSTANT, ALG, INPUT, DISC, LITERAL, LOCATION, ALG_PARAMETER, LOCATION_PARAMETER}
+ASKED = {
+    "event": {EVENT, EVENT_PARAMETER},
+    "location": {LOCATION, LOCATION_PARAMETER},
+    "type": {TYPE},
+    "definition": {DEFINITION},
+    "variable": {DISC},
+    "value": VALUES,
+}
+
+
+class Slot:
+    """What a scope declares: its name, where that stands, its sort, and the body or instance that it brings."""
+
+    def __init__(self, name, at, sort, body=None, instance=None):
+        self.name, self.at, self.sort, self.body, self.instance = name, at, sort, body, instance
+        # the names in the type and value of a type or a constant
+        self.names = []
+
+
+class Body:
+    """A body as written: its slots in the order of the text, and the uses of names in it as (name, at, what is asked)."""
+
+    def __init__(self, outer, is_automaton=False):
+        self.outer, self.is_automaton, self.slots, self.uses, self.own = outer, is_automaton, [], [], []
+        self.parameters = []
+        self.instances = []
+        # the bodies of components in it, without those of definitions
+        self.inner = []
+
+    def slot(self, name, from_=0):
+        """The first slot of that name, or none."""
+        return next((slot for slot in self.slots[from_:] if slot.name == name), None)
+
+
+class Instance:
+    def __init__(self, body, name, at, definition, arguments):
+        self.body, self.name, self.at, self.definition, self.arguments = body, name, at, definition, arguments
+
+
+class Writer:
+    """Writes a random source and notes, as it goes, what each scope declares and each position asks."""
+
+    def __init__(self, choose):
+        self.choose, self.text, self.bodies = choose, "", []
+        self.root = self.body(None)
+        self.items(self.root, 0, self.choose.randint(2, 6))
+
+    def body(self, outer, is_automaton=False):
+        body = Body(outer, is_automaton)
+        self.bodies.append(body)
+        return body
+
+    def put(self, text):
+        self.text += text
+
+    # ---- names
+
+    def declare(self, body, sort, **more):
+        used = {slot.name for slot in body.slots}
+        free = [name for name in NAMES if name not in used] if self.choose.random() < 0.98 else None
+        slot = Slot(self.choose.choice(free or NAMES), len(self.text), sort, **more)
+        body.slots.append(slot)
+        self.put(slot.name)
+        return slot
+
+    def name(self):
+        """A name as its parts: `None` first where it begins at the specification."""
+        parts = [self.choose.choice(NAMES) for _ in range(self.choose.choice([1, 1, 1, 2, 2, 3]))]
+        return ([None] if self.choose.random() < 0.15 else []) + parts
+
+    def use(self, body, asked, or_else=None):
+        """Writes a name that, mostly, denotes what is asked for, or else, where none is found, what stands for it."""
+        at, name = len(self.text), self.likely(body, asked)
+        if name is None and or_else is not None and self.choose.random() < 0.97:
+            self.put(or_else)
+            return None
+        name = self.name() if name is None or self.choose.random() < 0.02 else name
+        self.put(written(name))
+        body.uses.append((name, at, asked))
+        return name
+
+    def likely(self, body, asked):
+        found = []
+        for _ in range(25):
+            name = self.name()
+            slot = found_slot(self.root, body, name, asked == "definition")
+            if isinstance(slot, Slot) and (asked == "any" or slot.sort in ASKED[asked]):
+                found.append(name)
+        return self.choose.choice(found) if found else None
+
+    def walked(self, body):
+        """A name that goes from a slot of a scope outward into the bodies behind it, or of one letter where a scope is empty."""
+        while body.outer is not None and self.choose.random() < 0.5:
+            body = body.outer
+        name = []
+        while body is not None and body.slots:
+            slot = self.choose.choice(body.slots)
+            name.append(slot.name)
+            body = slot.body if slot.sort == COMPONENT else None
+            if slot.sort == INSTANCE:
+                found = found_slot(self.root, slot.instance.body, slot.instance.definition, True)
+                body = found.body if isinstance(found, Slot) and found.sort == DEFINITION else None
+            if self.choose.random() < 0.2:
+                break
+        return name or [NAMES[0]]
+
+    # ---- items
+
+    def items(self, body, depth, count):
+        for _ in range(count):
+            self.item(body, depth)
+
+    def item(self, body, depth):
+        kinds = [self.declaration] * 5 + [self.instance] * 2
+        if depth < 3:
+            kinds += [self.group, self.group, self.automaton, self.definition, self.definition]
+        self.choose.choice(kinds)(body, depth)
+        self.put(" ")
+
+    def group(self, body, depth):
+        self.put("group ")
+        slot = self.declare(body, COMPONENT)
+        self.put(": ")
+        slot.body = self.body(body)
+        body.inner.append(slot.body)
+        self.items(slot.body, depth + 1, self.choose.randint(0, 4))
+        self.put("end")
+
+    def automaton(self, body, depth):
+        self.put("automaton ")
+        slot = self.declare(body, COMPONENT)
+        self.put(": ")
+        slot.body = self.body(body, True)
+        body.inner.append(slot.body)
+        self.locations(slot.body, depth)
+        self.put("end")
+
+    def definition(self, body, depth):
+        is_automaton = self.choose.random() < 0.4
+        self.put("automaton def " if is_automaton else "group def ")
+        slot = self.declare(body, DEFINITION)
+        slot.body = self.body(body, is_automaton)
+        self.put("(")
+        for k in range(self.choose.choice([0, 0, 1, 2])):
+            self.put("; " if k else "")
+            self.parameter(slot.body)
+        self.put("): ")
+        if is_automaton:
+            self.locations(slot.body, depth)
+        else:
+            self.items(slot.body, depth + 1, self.choose.randint(0, 4))
+        self.put("end")
+
+    def parameter(self, body):
+        sort = self.choose.choice([EVENT_PARAMETER, ALG_PARAMETER, LOCATION_PARAMETER])
+        if sort == EVENT_PARAMETER:
+            self.put("event ")
+        elif sort == LOCATION_PARAMETER:
+            self.put("location ")
+        else:
+            self.put("alg ")
+            self.type(body)
+        body.parameters.append(sort)
+        self.declare(body, sort)
+
+    def type(self, body):
+        """Writes a type and a blank, and gives the names in it."""
+        kind, before = self.choose.randint(0, 4), len(body.uses)
+        if kind < 2:
+            self.put("bool ")
+        elif kind == 2:
+            self.put("int[")
+            self.value(body)
+            self.put("..")
+            self.value(body)
+            self.put("] ")
+        else:
+            self.use(body, "type", "int")
+            self.put(" ")
+        return [use for use in body.uses[before:]]
+
+    def value(self, body):
+        kind = self.choose.randint(0, 5)
+        if kind < 2:
+            self.put(str(self.choose.randint(0, 9)))
+        elif kind == 2:
+            self.put("(")
+            self.use(body, "value", "2")
+            self.put(" + 1)")
+        else:
+            self.use(body, "value", "3")
+
+    def declaration(self, body, depth):
+        kind = self.choose.choice(["event", "type", "enum", "const", "alg", "input", "equation", "invariant", "marked"]
+                                  + (["disc"] * 2 if body.is_automaton else []))
+        self.put({"invariant": "invariant "}.get(kind, kind + " "))
+        before = len(body.uses)
+        if kind == "event":
+            if self.choose.random() < 0.3:
+                self.type(body)
+            self.declare(body, EVENT)
+        elif kind == "type":
+            slot = self.declare(body, TYPE)
+            self.put(" = ")
+            slot.names = self.type(body)
+        elif kind == "enum":
+            self.declare(body, TYPE)
+            for k in range(self.choose.randint(1, 3)):
+                self.put(", " if k else " = ")
+                self.declare(body, LITERAL)
+        elif kind == "const":
+            self.type(body)
+            slot = self.declare(body, CONSTANT)
+            self.put(" = ")
+            self.value(body)
+            slot.names = body.uses[before:]
+        elif kind in ("alg", "disc", "input"):
+            self.type(body)
+            self.declare(body, {"alg": ALG, "disc": DISC, "input": INPUT}[kind])
+            if kind != "input" and self.choose.random() < 0.5:
+                self.put(" = ")
+                self.value(body)
+        elif kind == "equation":
+            self.left_side(body)
+            self.put(" = ")
+            self.value(body)
+        elif kind == "invariant":
+            if self.choose.random() < 0.5:
+                self.use(body, "event")
+                self.put(" needs ")
+            self.value(body)
+        else:
+            self.value(body)
+        self.put(";")
+
+    def left_side(self, body):
+        algs = [slot.name for slot in body.slots if slot.sort == ALG]
+        self.own_name(body, algs, ALG)
+
+    def own_name(self, body, likely, asked):
+        name = self.choose.choice(likely) if likely and self.choose.random() < 0.97 else self.choose.choice(NAMES)
+        body.own.append((name, len(self.text), asked))
+        self.put(name)
+
+    def instance(self, body, depth):
+        slot = self.declare(body, INSTANCE)
+        self.put(": ")
+        instance = Instance(body, slot.name, slot.at, self.use(body, "definition"), [])
+        slot.instance = instance
+        self.put("(")
+        found = found_slot(self.root, body, instance.definition, True)
+        sorts = list(found.body.parameters) if isinstance(found, Slot) and found.sort == DEFINITION else []
+        if self.choose.random() < 0.03:
+            sorts = sorts[1:] if sorts else [None]
+        for k, sort in enumerate(sorts):
+            self.put(", " if k else "")
+            self.argument(body, instance, {EVENT_PARAMETER: "event", LOCATION_PARAMETER: "location"}.get(sort, "value"))
+        self.put(");")
+        body.instances.append(instance)
+
+    def argument(self, body, instance, asked):
+        """What an argument asks for may yet change, so it is judged at the end."""
+        is_bare = self.choose.random() < 0.9
+        self.put("" if is_bare else "(")
+        at = len(self.text)
+        name = self.likely(body, asked if self.choose.random() < 0.97 else "any") or self.name()
+        self.put(written(name))
+        self.put("" if is_bare else ")")
+        instance.arguments.append((name, at, is_bare))
+
+    # ---- automata
+
+    def locations(self, body, depth):
+        for _ in range(self.choose.randint(0, 4)):
+            self.declaration(body, depth)
+            self.put(" ")
+        if self.choose.random() < 0.3:
+            self.put("alphabet ")
+            self.use(body, "event")
+            self.put("; ")
+        if self.choose.random() < 0.3:
+            self.put("monitor ")
+            self.use(body, "event")
+            self.put("; ")
+        for _ in range(self.choose.randint(1, 3)):
+            self.put("location ")
+            self.declare(body, LOCATION)
+            self.put(": ")
+            for _ in range(self.choose.randint(0, 2)):
+                self.choose.choice([self.edge, self.edge, self.equation, self.marking])(body)
+                self.put("; ")
+
+    def equation(self, body):
+        self.put("equation ")
+        self.left_side(body)
+        self.put(" = ")
+        self.value(body)
+
+    def marking(self, body):
+        self.put("marked ")
+        self.value(body)
+
+    def edge(self, body):
+        self.put("edge ")
+        self.use(body, "event")
+        if self.choose.random() < 0.2:
+            self.put("!")
+            self.value(body)
+        if self.choose.random() < 0.4:
+            self.put(" when ")
+            self.value(body)
+        if self.choose.random() < 0.4:
+            self.put(" do ")
+            self.use(body, "variable")
+            self.put(" := ")
+            self.value(body)
+        if self.choose.random() < 0.5:
+            self.put(" goto ")
+            self.own_name(body, [slot.name for slot in body.slots if slot.sort == LOCATION], LOCATION)
+
+
+def written(name):
+    return ("." if name[0] is None else "") + ".".join(part for part in name if part is not None)
+
+
+# ---- looking names up
+
+MISSING, BLOCKED = "missing", "blocked"
+
+
+def in_body(body, part):
+    """What a body declares as that part, its parameters left out."""
+    return body.slot(part, len(body.parameters)) or MISSING
+
+
+def behind(root, slot, part, through):
+    """One further part behind what was found, through instances where `through` is a list of those passed."""
+    if slot.sort == COMPONENT:
+        return in_body(slot.body, part)
+    if slot.sort == INSTANCE and through is not None:
+        through.append(slot)
+        found = found_slot(root, slot.instance.body, slot.instance.definition, True)
+        return in_body(found.body, part) if isinstance(found, Slot) and found.sort == DEFINITION else MISSING
+    return BLOCKED
+
+
+def found_slot(root, body, name, as_written=False, through=None):
+    """The slot that a name denotes, MISSING or BLOCKED; a definition is not reached through an instance."""
+    through = None if as_written else ([] if through is None else through)
+    if name[0] is None:
+        body, name = root, name[1:]
+        found = body.slot(name[0]) or MISSING
+    else:
+        while body.outer is not None and not body.slot(name[0]):
+            body = body.outer
+        found = body.slot(name[0]) or MISSING
+    for part in name[1:]:
+        if not isinstance(found, Slot):
+            break
+        found = behind(root, found, part, through)
+    return found
+
+
+# ---- the rules on names
+
+def uses_of(writer, body):
+    """All uses in a body, with those of its instances' arguments, which ask for what the parameters are."""
+    uses = list(body.uses)
+    for instance in body.instances:
+        found = found_slot(writer.root, body, instance.definition, True)
+        parameters = found.body.parameters if isinstance(found, Slot) and found.sort == DEFINITION else []
+        for k, (name, at, is_bare) in enumerate(instance.arguments):
+            sort = parameters[k] if k < len(parameters) else None
+            asked = "any" if sort is None else {EVENT_PARAMETER: "event", LOCATION_PARAMETER: "location"}.get(sort, "value")
+            uses.append((name, at, asked if is_bare else "value"))
+    return uses
+
+
+def judged(writer, body, use):
+    """The refusal of one use of a name, or none."""
+    name, at, asked = use
+    found = found_slot(writer.root, body, name)
+    if asked == "definition" and found != MISSING:
+        found = found_slot(writer.root, body, name, True)
+    if found == MISSING:
+        return "Unknown at %d" % at
+    if found == BLOCKED or asked != "any" and found.sort not in ASKED[asked]:
+        return "WrongKind at %d" % at
+    return None
+
+
+def of_scope(body):
+    for k, slot in enumerate(body.slots):
+        for first in body.slots[:k]:
+            if first.name == slot.name:
+                yield "Duplicate { at: %d, first: %d }" % (slot.at, first.at)
+
+
+def of_own(body):
+    for name, at, asked in body.own:
+        slot = body.slot(name)
+        if slot is None:
+            yield "Unknown at %d" % at
+        elif slot.sort != asked:
+            yield "WrongKind at %d" % at
+
+
+def of_counts(writer, body):
+    for instance in body.instances:
+        found = found_slot(writer.root, body, instance.definition, True)
+        if isinstance(found, Slot) and found.sort == DEFINITION and len(found.body.parameters) != len(instance.arguments):
+            yield "WrongKind at %d" % instance.at
+
+
+def instances_within(body):
+    for instance in body.instances:
+        yield instance
+    for inner in body.inner:
+        yield from instances_within(inner)
+
+
+def cyclic(starts, reached):
+    """Those that reach themselves."""
+    for start in starts:
+        seen, left = set(), list(reached(start))
+        while left:
+            one = left.pop()
+            if id(one) not in seen:
+                seen.add(id(one))
+                left += reached(one)
+        if id(start) in seen:
+            yield start
+
+
+def of_cycles(writer):
+    home = {id(slot): body for body in writer.bodies for slot in body.slots}
+    slots = [slot for body in writer.bodies for slot in body.slots]
+
+    def definitions(slot):
+        if slot.sort != DEFINITION:
+            return []
+        found = [found_slot(writer.root, one.body, one.definition, True) for one in instances_within(slot.body)]
+        return [one for one in found if isinstance(one, Slot)]
+
+    def types(slot):
+        found = [found_slot(writer.root, home[id(slot)], name) for name, _, _ in slot.names]
+        return [one for one in found if isinstance(one, Slot)]
+
+    for slot in list(cyclic(slots, definitions)) + list(cyclic(slots, types)):
+        yield "DefinitionCycle at %d" % slot.at
+
+
+def due(writer):
+    found = set(of_cycles(writer))
+    for body in writer.bodies:
+        found.update(of_scope(body), of_own(body), of_counts(writer, body))
+        found.update(told for told in (judged(writer, body, use) for use in uses_of(writer, body)) if told)
+    return found
+
+
+# ---- the comparison
+
+def answer_of(writer, body, name):
+    """What `find` is to answer."""
+    through = []
+    found = found_slot(writer.root, body, name, through=through)
+    if not isinstance(found, Slot):
+        return "nothing"
+    home = {id(slot): (b, s) for b, one in enumerate(writer.bodies) for s, slot in enumerate(one.slots)}
+    return " ".join(["%d:%d" % home[id(slot)] for slot in through] + ["%d:%d" % home[id(found)]])
+
+
+def cases_of(choose, writer):
+    """The cases of a source, and what is allowed as their answers."""
+    twice = {told for body in writer.bodies for told in of_scope(body)}
+    if twice:
+        return [("scopes " + writer.text, twice)]
+    cases = [("scopes " + writer.text, {" ".join(str(len(body.slots)) for body in writer.bodies)})]
+    for number, body in enumerate(writer.bodies):
+        for _ in range(3):
+            name = choose.choice([writer.name, lambda: writer.walked(body), lambda: writer.walked(body)])()
+            cases.append(("find %d %s | %s" % (number, written(name), writer.text), {answer_of(writer, body, name)}))
+    return cases
+
+
+def made(choose):
+    """A source, half of the time one in which no rule is broken, where such a one is found."""
+    writer = Writer(choose)
+    for _ in range(choose.choice([0, 30])):
+        if not due(writer):
+            break
+        writer = Writer(choose)
+    return writer
+
+
+def main(cases, sources=500, seed=1):
+    choose = random.Random(seed)
+    asked = [case for _ in range(sources) for case in cases_of(choose, made(choose))]
+    text = "".join(line + "\n" for line, _ in asked)
+    ran = subprocess.run([cases], input=text.encode(), stdout=subprocess.PIPE)
+    lines = ran.stdout.decode().split("\n")
+    told, differ, sorts = iter(lines), 0, {}
+    for line, wanted in asked:
+        if next(told, None) != line:
+            print("compare_names: the program of the cases stopped at: %s" % line)
+            return 1
+        answer = next(told, "").strip()
+        sort = answer.split(" ")[0] if answer[:1].isalpha() else line.split(" ")[0]
+        sorts[sort] = sorts.get(sort, 0) + 1
+        if answer not in wanted:
+            differ += 1
+            print("%s\n  told   %s\n  wanted %s" % (line, answer, " or ".join(sorted(wanted))))
+    print("names: %d sources, %d questions, %d differ (%s)" % (sources, len(asked), differ, ", ".join(
+        "%s %d" % pair for pair in sorted(sorts.items()))))
+    return 1 if differ else 0
+
+
+if __name__ == "__main__":
+    sys.exit(main(sys.argv[1], *[int(word) for word in sys.argv[2:]]))
