@@ -67,7 +67,7 @@ slotted-place t s k c count h is None None g = refl
 slotted-place t s k c count h is None (Some j) g = absurd g
 slotted-place t s k c count h is (Some e) None g = absurd g
 slotted-place t s k c count h is (Some e) (Some j) g =
-    let w = what-is t s.table h.table h.indexed k j c e is g in
+    let w = what-is t s.table h.numbers.table h.numbers.indexed k j c e is g in
     ap (λ o. place_in o count) w.1 ∙ what-place t c e w.0 count w.2
 
 -- ---- locations among the names of a body

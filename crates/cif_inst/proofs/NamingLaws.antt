@@ -16,7 +16,7 @@ use Rattle.cif_source.specs.Step.{event_at}
 use Rattle.cif_source.proofs.NameLaws.{met, follow-met, denotes-found}
 use Rattle.cif_source.proofs.ReachLaws.{frames-listed}
 use Rattle.cif_scope.specs.Tables.{IsBody, Beside, IsTable, IsScope}
-use Rattle.cif_scope.specs.Scopes.{AreScopesOf, Finds, IsFound, KeepsScoping}
+use Rattle.cif_scope.specs.Scopes.{AreNumbered, Finds, IsFound, KeepsScoping}
 use Rattle.cif_scope.specs.declared.scopes.Found.{Found}
 use Rattle.cif_scope.proofs.Places.{beside-length}
 use Rattle.cif_image.specs.Built.{is_flat}
@@ -49,7 +49,7 @@ pub body-is : (t : Source) (k : ℕ) → k < length (bodies t) → IsBody t k (b
 body-is t k h = at-or t (bodies t) k h
 
 pub body_scope : (n : Naming) (k : ℕ) → AreNamesOf n → k < length (bodies (source_for n)) → k < length n.scopes.now.table.scopes
-body_scope n k h below = omega (arith, below, beside-length (IsScope (source_for n)) (bodies (source_for n)) n.scopes.now.table.scopes h.scopes.table)
+body_scope n k h below = omega (arith, below, beside-length (IsScope (source_for n)) (bodies (source_for n)) n.scopes.now.table.scopes h.scopes.numbers.table)
 
 -- ---- names that find nothing
 
@@ -148,7 +148,7 @@ names-sound n h = record {
 
 -- what a name finds is the event that it denotes
 pub found_number : (n : Naming) (k : ℕ) (nm : Name) (r : Option Found) → AreNamesOf n → k < length (bodies (source_for n))
-    → ((t : Source) (c : Component) → AreScopesOf t n.scopes.now → IsBody t k c → Finds t (found c nm) r) → number_at n.numbers.now r ≡ event_number (component_at n k) nm
+    → ((t : Source) (c : Component) → AreNumbered t n.scopes.now → IsBody t k c → Finds t (found c nm) r) → number_at n.numbers.now r ≡ event_number (component_at n k) nm
 found_number n k nm r h below finds =
     ap (λ ns. number_at ns r) (h.numbers ∙ ap (rows_slots 0) (rows-are (source_for n) (no-definitions (source_for n) h.flat)))
-    ∙ found-number (source_for n) (names-sound n h) (component_at n k) nm (found (component_at n k) nm) r refl (finds (source_for n) (component_at n k) h.scopes (body-is (source_for n) k below))
+    ∙ found-number (source_for n) (names-sound n h) (component_at n k) nm (found (component_at n k) nm) r refl (finds (source_for n) (component_at n k) h.scopes.numbers (body-is (source_for n) k below))

@@ -78,7 +78,7 @@ module _ (n : Naming) (h : AreNamesOf n) (kinds : KeepsKinds (source_for n)) whe
       let c = component_at n k in
       let here : IsBody (source_for n) k c = body-is (source_for n) k below in
       let m : Member c (bodies (source_for n)) = at-member (bodies (source_for n)) k c here in
-      slotted-place (source_for n) n.scopes.now k c (length a.locs) h.scopes here (entry_named x.text (scope_of c)) (slot_at n.scopes.now.table k x.text) (slot-is (source_for n) n.scopes.now.table h.scopes.table h.scopes.indexed k c x.text here)
+      slotted-place (source_for n) n.scopes.now k c (length a.locs) h.scopes here (entry_named x.text (scope_of c)) (slot_at n.scopes.now.table k x.text) (slot-is (source_for n) n.scopes.now.table h.scopes.numbers.table h.scopes.numbers.indexed k c x.text here)
       ∙ ap (λ es. place_of (entry_named x.text es) (length a.locs)) (own-scope (source_for n) sound c m ∙ ap body_entries e)
       ∙ automaton-place a x.text (ap (λ b. has_twice (names (body_entries b))) (sym e) ∙ single (source_for n) sound c m)
       ∙ ap (λ b. position_or_len (is_named x.text) (locs_in b)) (sym e)
