@@ -25,11 +25,13 @@ use Rattle.plc_rows.proofs.RowLaws.{stands_same, kept, worth, past, field_within
 -- ---- a header that breaks no rule has columns
 
 module _ (vars : List StVar) (names : List Text) (right : header_fault vars names ≡ None) where
-  Found : Type 0
+  abbrev Found : Type 0
   Found = (cols : List Column) × HeaderOf vars names cols
 
-  of_header : (n : ℕ) (cols : List Column) (seen : List Bool) → Reading vars names cols seen → length names ≤ n + length cols → Found
-  of_header n cols seen r more = go (field_at names (length cols)) refl
+  -- the header is read up to here: it ends, or goes on with one more column
+  one_more : (n : ℕ) (cols : List Column) (seen : List Bool) → Reading vars names cols seen → length names ≤ n + length cols
+      → ((m : ℕ) → suc m ≡ n → (c : Column) (marks : List Bool) → Reading vars names (cols ++ c ∷ []) marks → length names ≤ m + length (cols ++ c ∷ []) → Found) → Found
+  one_more n cols seen r more again = go (field_at names (length cols)) refl
     where
       ended : field_at names (length cols) ≡ None → Found
       ended e = at_end (nat_lt (length cols) (suc (length (inputs_of vars)))) refl
@@ -49,12 +51,17 @@ module _ (vars : List StVar) (names : List Text) (right : header_fault vars name
               marked : (b : Option Bool) → slice_get seen (place c) ≡ b → Found
               marked None g = absurd (let l = within vars names cols seen r f e c h in let m = past seen (place c) g in omega (arith, l, m))
               marked (Some true) g = none_some (sym (sym (repeated vars names cols seen r f e c h g) ∙ right))
-              marked (Some false) g = of_header m (cols ++ c ∷ []) (slice_set seen (place c) true) (goes_on vars names cols seen r f e c h (slice_set seen (place c) true) g refl)
+              marked (Some false) g = again m z c (slice_set seen (place c) true) (goes_on vars names cols seen r f e c h (slice_set seen (place c) true) g refl)
                   (omega (arith, more, z, length-append cols (c ∷ [])))
 
       go : (f : Option Text) → field_at names (length cols) ≡ f → Found
       go None e = ended e
       go (Some f) e = with_field f e n refl
+
+  of_header : (n : ℕ) (cols : List Column) (seen : List Bool) → Reading vars names cols seen → length names ≤ n + length cols → Found
+  of_header zero cols seen r more = one_more zero cols seen r more (λ m z c marks next rest. absurd (omega (arith, z)))
+  of_header (suc n) cols seen r more =
+      one_more (suc n) cols seen r more (λ m z c marks next rest. of_header n (cols ++ c ∷ []) marks next (omega (arith, z, rest)))
 
   pub columns_of_header : Found
   columns_of_header =
