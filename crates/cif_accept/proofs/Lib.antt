@@ -1,2 +1,3 @@
 pub mod SourceLaws
 pub mod AcceptLaws
+pub mod ReadingLaws
