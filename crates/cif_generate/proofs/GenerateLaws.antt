@@ -42,7 +42,7 @@ part_of : (text : Text) (P Q : Program → Type 0) → ((p : Program) → P p �
 part_of text P Q f h = (h.0, h.1, f h.0 h.2, h.3)
 
 module _ (U C : ℕ) (t : Built) (text : Text) (h : IsTextOf U C t text) where
-  shown : Text
+  abbrev shown : Text
   shown = printed (program_of (numbered t) U C)
 
   -- the printed program reads back
