@@ -133,6 +133,14 @@ impl Scopes {
         definition_of(self.definitions.as_slice(), body, instance)
     }
 
+    /// Where a name in a body leads, through instances where `passes` says so.
+    pub fn look(&self, passes: bool, scope: u32, name: &Name) -> Looked
+        ensures { result ≡ looks.look self.now.table self.now.definitions passes scope name.now }
+    {
+        self.table
+            .look(self.definitions.as_slice(), passes, scope, name)
+    }
+
     /// What a name in a body finds, or `None` where it finds nothing.
     pub fn find(&self, alloc: Global, scope: u32, name: &Name) -> Result<Option<Found>, Memory>
         requires { scope < length self.now.table.scopes }

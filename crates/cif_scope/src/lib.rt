@@ -17,8 +17,10 @@ mod scopes;
 mod table;
 mod written;
 
+pub use drafting::number;
 pub use error::ScopeErr;
-pub use looked::Slot;
+pub use looked::{Looked, Slot};
 pub use resolving::number_scopes;
 pub use scope::{ParamSort, Scope, ScopeName, Sort, What};
 pub use scopes::{Found, Scopes};
+pub use written::{Inside, Written, written_bodies};

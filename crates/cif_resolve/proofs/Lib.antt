@@ -1,0 +1,6 @@
+pub mod FirstLaws
+pub mod TestLaws
+pub mod BodyLaws
+pub mod FaultLaws
+pub mod SingleLaws
+pub mod AnswerLaws
