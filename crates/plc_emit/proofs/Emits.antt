@@ -52,7 +52,7 @@ rounds_is : name_for letter.T 1 (codes "rounds") ≡ rounds_made
 unfolding digits
 rounds_is = refl
 
-stms_of-append : (a b : List Stm) → stms_of (a ++ b) ≡ append (stms_of a) (stms_of b)
+pub stms_of-append : (a b : List Stm) → stms_of (a ++ b) ≡ append (stms_of a) (stms_of b)
 stms_of-append [] b = refl
 stms_of-append (s ∷ a) b = ap (stms s) (stms_of-append a b)
 
@@ -72,10 +72,10 @@ block-declared (d ∷ bs) (suc k) b h e =
 
 -- ---- events without variables of their own
 
-own-none : (n : Net) (cs : List NetChoice) → AllByRecursion (Simple n) cs → (e : ℕ) → own_of (written_for n cs e) ≡ []
+pub own-none : (n : Net) (cs : List NetChoice) → AllByRecursion (Simple n) cs → (e : ℕ) → own_of (written_for n cs e) ≡ []
 own-none n cs all e = let b = bare n (choices_of cs e) (all-filter (Simple n) (λ (c : NetChoice). nat_eq c.event e) cs all) in rw b refl
 
-flat-none : {A B : Type 0} (f : A → List B) (xs : List A) → AllByRecursion (λ x. f x ≡ []) xs → flat_map f xs ≡ []
+pub flat-none : {A B : Type 0} (f : A → List B) (xs : List A) → AllByRecursion (λ x. f x ≡ []) xs → flat_map f xs ≡ []
 flat-none f [] h = refl
 flat-none f (x ∷ xs) h = ap (λ r. r ++ flat_map f xs) h.0 ∙ flat-none f xs h.1
 

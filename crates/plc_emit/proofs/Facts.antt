@@ -79,7 +79,7 @@ ends-inside n h k a at j x is =
 
 -- ---- faces
 
-first-inside : (n : Net) (a : NetAuto) → auto_stands n a ≡ true → a.first < length a.locs
+pub first-inside : (n : Net) (a : NetAuto) → auto_stands n a ≡ true → a.first < length a.locs
 first-inside n a h = below-tested a.first (length a.locs) (and-left _ _ (and-left _ _ (and-left _ _ h)))
 
 place-sound : (places first : ℕ) → first < places → (is_type (ty.Range (pos 0) (pos (places - 1))) ≡ true) × IsTrue (in_range (range_of (ty.Range (pos 0) (pos (places - 1)))) (pos first))

@@ -12,3 +12,5 @@ pub mod Facts
 pub mod Emits
 pub mod Dataless
 pub mod Marked
+pub mod Spelling
+pub mod Whole

@@ -35,6 +35,11 @@ faces autos = map place_face (map auto_face autos)
 abbrev pub EndsWithin : Net → Type 0
 EndsWithin n = (k : ℕ) (a : NetAuto) → slice_get n.autos k ≡ Some a → (j : ℕ) (x : NetEdge) → slice_get a.edges j ≡ Some x → x.to < length a.locs
 
+-- an edge that is taken is one of the automaton's
+pub edge_stands : (a : NetAuto) (o : Option ℕ) (x : NetEdge) → edge_at (a, o) ≡ Some x → (j : ℕ) × (slice_get a.edges j ≡ Some x)
+edge_stands a None x h = absurd (none-some x h)
+edge_stands a (Some j) x h = (j, h)
+
 module _ (n : Net) (p : Program) (s : State) (e : ℕ) (ss : Stms) (names : List Text) where
   -- the moves from the i-th automaton on
   abbrev moves_from : ℕ → List NetAuto → Choice → List NetMove
@@ -157,10 +162,6 @@ module _ (n : Net) (p : Program) (s : State) (e : ℕ) (ss : Stms) (names : List
                 ∙ slice_get-set_other m (place_of p.vars (name_for letter.L i a.path)) (place_of p.vars y) (pos x.to)
                 (λ q. places-differ p.vars (name_for letter.L i a.path) y d.variable d.at (apart i a.path (omega arith) (omega (arith, few))) (sym q));
           }
-
-  edge_stands : (a : NetAuto) (o : Option ℕ) (x : NetEdge) → edge_at (a, o) ≡ Some x → (j : ℕ) × (slice_get a.edges j ≡ Some x)
-  edge_stands a None x h = absurd (none-some x h)
-  edge_stands a (Some j) x h = (j, h)
 
   moved : EndsWithin n → (i : ℕ) (autos : List NetAuto) (ch : Choice) (locs : List ℕ) (k : ℕ) (m : Memory) → ((j : ℕ) → slice_get n.autos (i + j) ≡ slice_get autos j)
       → ((j : ℕ) → slice_index_or s.locs (i + j) 0 ≡ slice_index_or locs j 0) → length ch ≡ length autos → i + length (faces autos) < 2 ^ 64

@@ -3,3 +3,4 @@ pub mod Tests
 pub mod Events
 pub mod Emitted
 pub mod Makes
+pub mod Small

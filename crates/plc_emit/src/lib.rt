@@ -4,4 +4,6 @@
 
 mod laws;
 
-pub use laws::{choices_without_data_need_tests_alone, programs_scan_exactly};
+pub use laws::{
+    choices_without_data_need_tests_alone, programs_have_a_spelling, programs_scan_exactly,
+};
