@@ -1,0 +1,10 @@
+pub mod NumberLaws
+pub mod PieceLaws
+pub mod CellLaws
+pub mod EventLaws
+pub mod ChannelLaws
+pub mod NetLaws
+pub mod DraftLaws
+pub mod LimitLaws
+pub mod LinearLaws
+pub mod AddLaws
