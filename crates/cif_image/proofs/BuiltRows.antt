@@ -6,8 +6,8 @@ use Rattle.cif_ast.specs.declared.declarations.Class.TheVariants as class
 use Rattle.cif_source.specs.Source.{no_type, syncs, event_decl, decl_item, component_item, group_body, automaton_body, Source}
 use Rattle.cif_source.proofs.Terms.{word, dotted, event_use, edge_by, place, behaviour, source_list}
 use Rattle.cif_source.proofs.Rows.{two_classes, counter, invariant, frames}
-use Rattle.cif_image.specs.Built.{has_no_definitions, has_no_data, has_no_channels, has_no_invariants, has_no_alphabets, has_one_automaton, classes_its_events, names_its_locations, has_single_uses, has_few_edges, is_flat, is_built}
-use Rattle.cif_image.proofs.Trees.{channel, classless, fixed}
+use Rattle.cif_image.specs.Built.{has_no_definitions, has_no_data, has_no_channels, has_no_invariants, has_one_automaton, classes_its_events, names_its_locations, has_single_uses, has_few_edges, is_flat, is_built}
+use Rattle.cif_image.proofs.Trees.{channel, classless, fixed, monitored}
 
 two_classes_is_built : is_built two_classes ≡ true
 two_classes_is_built = refl
@@ -71,5 +71,6 @@ two_classes_has_single_uses = refl
 two_classes_has_few_edges : has_few_edges two_classes ≡ true
 two_classes_has_few_edges = refl
 
-two_classes_has_no_alphabets : has_no_alphabets two_classes ≡ true
-two_classes_has_no_alphabets = refl
+-- alphabets and monitors
+monitored_is_flat : is_flat monitored ≡ true
+monitored_is_flat = refl
