@@ -10,7 +10,7 @@ use Rattle.cif_model.specs.Net as n
 use Rattle.cif_net.specs.declared.events.Event.{Event}
 use Rattle.cif_net.specs.declared.listing.Move.{Move}
 use Rattle.cif_net.specs.View.{class_of, event_tree, move_tree}
-use Rattle.st_ast.specs.Tree.{Expr, Stms, Branches, append, assign, truth, choice, no_branches, no_other, no_stms, stms}
+use Rattle.st_ast.specs.Tree.{Expr, Branches, append, assign, truth, choice, no_other, no_stms, stms}
 use Rattle.st_ast.specs.View.{view_branches, view_expr, view_stmt, view_stmts}
 use Rattle.st_ast.specs.declared.tree.StExpr.{StExpr}
 use Rattle.st_ast.specs.declared.tree.StBranch.{StBranch}

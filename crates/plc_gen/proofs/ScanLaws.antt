@@ -1,7 +1,7 @@
 -- What code makes is the program of the net.
-use Rattle.std.proofs.Common.{◌≡◌, ℕ, zero, suc, ◌+◌, ◌<◌, ◌≤◌, ◌^◌, true, List, [], ◌∷◌, ◌++◌, map, flat_map, length, get_or, refl, sym, ap, subst, ◌∙◌, arith}
+use Rattle.std.proofs.Common.{◌≡◌, ℕ, zero, suc, ◌+◌, ◌<◌, ◌≤◌, ◌^◌, true, List, [], ◌∷◌, ◌++◌, map, length, get_or, sym, ap, subst, ◌∙◌, arith}
 use Rattle.std.specs.Prelude.{codes, nat_le, sum}
-use Rattle.std.specs.List.{AllByRecursion, enumerate_from}
+use Rattle.std.specs.List.{AllByRecursion}
 use Rattle.std.proofs.lemmas.Bool.Decides.{nat_tests}
 use Rattle.std.proofs.lemmas.List.{append-nil, append_assoc}
 use Rattle.std.proofs.lemmas.List.Sums.{sum_by-cons}
@@ -10,7 +10,7 @@ use Rattle.cif_system.specs.Scan.{of_class}
 use Rattle.cif_system.proofs.Lists.{map-length}
 use Rattle.cif_system.proofs.Picks.{and-left, and-right}
 use Rattle.cif_model.specs.Net as n
-use Rattle.cif_model.specs.Facts.{is_net, things}
+use Rattle.cif_model.specs.Facts.{things}
 use Rattle.cif_model.specs.Listing.{NetChoice}
 use Rattle.cif_model.specs.Meaning.{system_of_net}
 use Rattle.cif_model.specs.Table.{IsGuarded}
@@ -26,7 +26,7 @@ use Rattle.st_ast.specs.declared.tree.StClass.TheVariants as class
 use Rattle.plc_face.specs.declared.letter.Letter.TheVariants as letter
 use Rattle.plc_face.specs.Face.{VariableFace, alg_face, algs_of, declarations, places_of, place_face}
 use Rattle.plc_face.specs.Frame.{latches_of, loop_of, part_of, tries_of}
-use Rattle.plc_gen.specs.Emitted.{all_shown_by, blocks_of, outputs_of, parts_of, program_of, shown_by, variables_of}
+use Rattle.plc_gen.specs.Emitted.{all_shown_by, blocks_of, outputs_of, parts_of, program_of, variables_of}
 use Rattle.plc_gen.specs.Faces.{alg_face_of, auto_face, face_of_net, stored_face}
 use Rattle.plc_gen.specs.Makes.{needs_tests_alone}
 use Rattle.plc_gen.specs.Shown.{AreFaces, declared_by, declared_for, face_tree, mark_and_counter}

@@ -1,11 +1,10 @@
 -- The program has a spelling, where the net has no variables and no inputs.
-use Rattle.std.proofs.Common.{◌≡◌, ◌==◌, ℕ, zero, suc, ◌+◌, ◌-◌, ◌*◌, ◌<◌, ◌≤◌, pos, Bool, true, false, not, ◌&&◌, List, [], ◌∷◌, ◌++◌, length, map, max, Option, Some, None, refl, sym, ap, subst, ◌∙◌, arith, le-leb}
-use Rattle.std.specs.Prelude.{codes, nat_le, nat_lt, option_and_then, slice_get, if◌then◌else◌}
+use Rattle.std.proofs.Common.{◌≡◌, ◌==◌, ℕ, zero, suc, ◌+◌, ◌-◌, ◌*◌, ◌<◌, ◌≤◌, pos, Bool, true, false, not, ◌&&◌, List, [], ◌∷◌, ◌++◌, length, map, Option, Some, None, refl, ap, subst, arith, le-leb}
+use Rattle.std.specs.Prelude.{nat_le, nat_lt, option_and_then, slice_get, if◌then◌else◌}
 use Rattle.std.specs.List.{AllByRecursion, enumerate_from, list_all}
 use Rattle.std.proofs.lemmas.Bool.Decides.{nat_tests}
 use Rattle.grammar.specs.Pieces.{Text, AllAre}
 use Rattle.grammar.specs.Bytes.{begins_word, is_wordy}
-use Rattle.cif_system.proofs.Lists.{none-some}
 use Rattle.cif_system.proofs.Picks.{and-left, and-right}
 use Rattle.cif_term.specs.Tree.{NetExpr, net_expr, NetForm, n_truth, n_loc, n_not, n_and, NetExprs, no_net_exprs, net_exprs}
 use Rattle.cif_model.specs.Net.{NetAuto, NetEdge, Net}
@@ -16,7 +15,7 @@ use Rattle.st_ast.specs.Tokens.{greatest, kind_of_word}
 use Rattle.st_ast.specs.Grammar.{at_equal, at_or, at_unary, code}
 use Rattle.st_ast.specs.declared.kinds.TokenKind.TheVariants as kinds
 use Rattle.st_ast.specs.Spelled.{are_branches, are_declarations, are_exprs, are_stms, is_declaration, is_first_spelled, is_type_spelled, is_expr, is_name, is_stm, is_whole_expr}
-use Rattle.st_ast.specs.Tree.{Expr, Stms, all_of, any_of, append, assign, complement, equal, exprs_of, named, no_stms, number, odd_of, stms, stms_of, truth}
+use Rattle.st_ast.specs.Tree.{Expr, Stms, all_of, any_of, append, assign, equal, exprs_of, named, no_stms, number, odd_of, stms, stms_of, truth}
 use Rattle.st_ast.specs.declared.tree.StVar.{StVar}
 use Rattle.st_ast.specs.declared.tree.StClass.{StClass}
 use Rattle.plc_face.specs.declared.letter.Letter.{Letter}

@@ -1,9 +1,9 @@
 -- What code puts together are the parts of the frame.
 use Rattle.std.proofs.Common.{◌≡◌, ℕ, zero, suc, ◌+◌, ◌<◌, ◌≤◌, pos, Bool, true, false, nat_eq, List, [], ◌∷◌, ◌++◌, map, filter, length, replicate, Option, Some, None, refl, sym, ap, ◌∙◌, arith}
-use Rattle.std.specs.Prelude.{slice_get, slice_set, option_and_then, if◌then◌else◌}
+use Rattle.std.specs.Prelude.{slice_get, slice_set, if◌then◌else◌}
 use Rattle.std.specs.List.{AllByRecursion, range_with_len}
 use Rattle.std.proofs.lemmas.Bool.Decides.{nat_tests}
-use Rattle.cif_system.specs.System.{Class, System, Event}
+use Rattle.cif_system.specs.System.{Class}
 use Rattle.cif_system.specs.Step.{has_class, is_of, same_class}
 use Rattle.cif_system.specs.Scan.{of_class}
 use Rattle.cif_system.proofs.Lists.{map-length, none-some}
@@ -11,15 +11,13 @@ use Rattle.cif_model.specs.Net as n
 use Rattle.cif_model.specs.Meaning.{event_in, system_of_net}
 use Rattle.cif_model.specs.Listing.{NetChoice, NetMove}
 use Rattle.st_ast.specs.Tree.{Expr, Stms, Branches, assign, number, no_stms, stms, append, no_branches, branches}
-use Rattle.st_ast.specs.View.{view_branch, view_branches, view_stmts}
+use Rattle.st_ast.specs.View.{view_branch, view_branches}
 use Rattle.st_ast.specs.declared.tree.StBranch.{StBranch}
-use Rattle.st_ast.specs.declared.tree.Stmt.{Stmt}
 use Rattle.plc_face.specs.Frame.{part_of, part_or_none, tries_of}
 use Rattle.plc_gen.specs.Tests.{place_name}
-use Rattle.plc_gen.specs.Events.{Written, all_bare, chain_branches, choices_of, done_face, event_text, move_text, moves_text, own_name, own_of, target_of, written_for, written_of}
-use Rattle.plc_gen.specs.Emitted.{all_written, parts_from, parts_of}
-use Rattle.plc_gen.specs.Tries.{all_placed, branch_of, class_tries, first_list, join, one_branch, one_try, other_lists, placed}
-use Rattle.plc_gen.proofs.Building.{append-none, view_append}
+use Rattle.plc_gen.specs.Events.{chain_branches, choices_of, done_face, event_text, move_text, moves_text, own_name, own_of, target_of, written_for, written_of}
+use Rattle.plc_gen.specs.Emitted.{parts_from, parts_of}
+use Rattle.plc_gen.specs.Tries.{all_placed, branch_of, class_tries, join, one_branch, one_try, placed}
 use Rattle.plc_gen.proofs.Chaining.{bare}
 use Rattle.plc_gen.proofs.Choosing.{all-filter}
 use Rattle.plc_gen.proofs.Making.{Simple}

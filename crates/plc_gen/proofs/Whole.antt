@@ -1,5 +1,5 @@
 -- The program of a net has a spelling, where the choices need tests alone and the enumerations of the net are small.
-use Rattle.std.proofs.Common.{◌≡◌, ℕ, zero, suc, ◌+◌, ◌-◌, ◌*◌, ◌<◌, ◌≤◌, ℤ, pos, negsuc, Bool, true, false, ◌&&◌, List, [], ◌∷◌, ◌++◌, map, length, max, Option, Some, None, refl, sym, ap, subst, ◌∙◌, arith, le-leb}
+use Rattle.std.proofs.Common.{◌≡◌, ℕ, zero, suc, ◌+◌, ◌≤◌, ℤ, pos, negsuc, true, ◌&&◌, List, [], ◌∷◌, ◌++◌, map, length, max, Some, refl, sym, ap, subst, arith, le-leb}
 use Rattle.std.specs.Prelude.{◌-ℤ◌, int_le, nat_eq, nat_le, nat_lt, option_to_list, slice_get, sum}
 use Rattle.std.specs.List.{AllByRecursion, list_all}
 use Rattle.std.proofs.lemmas.Bool.Decides.{nat_tests}
@@ -9,7 +9,7 @@ use Rattle.cif_base.specs.declared.types.Ty.{Ty}
 use Rattle.cif_base.specs.declared.types.Ty.TheVariants as t
 use Rattle.cif_system.specs.System.{con, unc, in_range}
 use Rattle.cif_system.specs.Scan.{of_class}
-use Rattle.cif_system.proofs.Picks.{all-at, and-left, and-right}
+use Rattle.cif_system.proofs.Picks.{and-left, and-right}
 use Rattle.cif_model.specs.Net.{NetAlg, NetAuto, NetStored, Net}
 use Rattle.cif_model.specs.Meaning.{system_of_net, type_range}
 use Rattle.cif_model.specs.Counts.{Measure, all_beside, alg_measures, measure, measure_by, no_form}
@@ -17,15 +17,14 @@ use Rattle.cif_model.specs.Unfolding.{at_or}
 use Rattle.cif_model.specs.Exprs.{updates_exprs}
 use Rattle.cif_model.specs.Facts as facts
 use Rattle.cif_model.specs.Facts.{alg_stands, are_all_apart, auto_stands, auto_targets, exclusion_stands, invariant_stands, is_net, stored_stands, things}
-use Rattle.cif_model.specs.Kinds.{bool_kind, fits, places_of}
+use Rattle.cif_model.specs.Kinds.{places_of}
 use Rattle.cif_model.specs.Listing.{NetChoice}
-use Rattle.cif_model.specs.Rules.{is_plain_expr}
-use Rattle.cif_model.specs.Table.{IsGuarded, choice_evaluated, choice_exprs, choice_stands, most_test_depth}
+use Rattle.cif_model.specs.Table.{IsGuarded, choice_exprs, choice_stands}
 use Rattle.st_ast.specs.Tokens.{greatest}
 use Rattle.st_ast.specs.Spelled.{are_declarations, are_stms, has_signed_literal, is_first_spelled, is_name, is_spelled, is_type_spelled}
-use Rattle.st_ast.specs.Tree.{Program, Stms, append, stms_of}
+use Rattle.st_ast.specs.Tree.{stms_of}
 use Rattle.plc_face.specs.declared.letter.Letter.TheVariants as letter
-use Rattle.plc_face.specs.Face.{Face, VariableFace, algs_of, alg_face, literal_of, places_of as face_places}
+use Rattle.plc_face.specs.Face.{Face, algs_of, alg_face, literal_of, places_of as face_places}
 use Rattle.plc_face.specs.Frame.{latches_of, part_of}
 use Rattle.plc_gen.specs.Faces.{alg_face_of, face_of_net, st_type, stored_face}
 use Rattle.plc_gen.specs.Events.{Written, choices_of, event_text, own_of, written_for}

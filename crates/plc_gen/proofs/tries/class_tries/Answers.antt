@@ -1,4 +1,4 @@
-use Rattle.std.proofs.Common.{◌≡◌, List, map, reverse, refl, sym, ap, ◌∙◌}
+use Rattle.std.proofs.Common.{List, map, reverse, sym, ap, ◌∙◌}
 use Rattle.std.proofs.lemmas.List.{reverse-reverse}
 use Rattle.cif_system.specs.System.{con, unc}
 use Rattle.cif_system.specs.Step.{same_class}
