@@ -1,0 +1,5 @@
+pub mod Parties
+pub mod Picked
+pub mod Agreeing
+pub mod Permitting
+pub mod Valuing
