@@ -6,3 +6,5 @@ pub mod Valuing
 pub mod Received
 pub mod Ranging
 pub mod Sound
+pub mod Updating
+pub mod Standing

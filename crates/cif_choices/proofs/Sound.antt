@@ -48,14 +48,16 @@ module _ (n : Net) where
   net-of : is_plain n ≡ true → is_net n ≡ true
   net-of h = and-left _ _ (and-left _ _ (and-left _ _ h))
 
+  left-below : (a b d : ℕ) → max a b ≤ d → a ≤ d
+  left-below a b d h = omega (arith, h)
+
   few : (a b : ℕ) → not (nat_lt most_nodes a || nat_lt most_depth b) ≡ true → b ≤ most_depth
   few a b h = grind (arith, nat_tests)
 
   -- the expressions of a plain net are not deep
   pub deep : is_plain n ≡ true → (e : NetExpr) → Member e (all_exprs n) → Deep most_depth e
   deep h e m =
-      let l : depth n ≤ most_depth = few (nodes n) (depth n) (and-right _ _ h) in
-      each-member (Deep most_depth) (all_exprs n) e (deep-each most_depth (all_exprs n) (omega (arith, l))) m
+      each-member (Deep most_depth) (all_exprs n) e (deep-each most_depth (all_exprs n) (left-below _ _ most_depth (few (nodes n) (depth n) (and-right _ _ h)))) m
 
 -- ---- the expressions of edges and exclusions
 
