@@ -1,20 +1,19 @@
 -- A listed choice agrees where each automaton does what it may: the rest of agreement holds by what the choice is made of.
-use Rattle.std.proofs.Common.{◌≡◌, ◌⊎◌, ℕ, zero, suc, ◌+◌, ◌<◌, ◌≤◌, Bool, true, false, not, ◌&&◌, ◌||◌, inl, inr, List, [], ◌∷◌, length, map, filter, zip, Option, Some, None, refl, sym, ◌∙◌, ap, subst, arith}
+use Rattle.std.proofs.Common.{◌≡◌, ◌⊎◌, ℕ, ◌+◌, ◌<◌, ◌≤◌, Bool, true, false, not, ◌&&◌, ◌||◌, inl, inr, List, [], ◌∷◌, length, map, filter, zip, Option, Some, None, refl, sym, ◌∙◌, ap, subst, arith}
 use Rattle.std.specs.Prelude.{slice_get, nat_eq, if◌then◌else◌}
 use Rattle.std.specs.List.{list_all, list_any, enumerate_from}
 use Rattle.std.proofs.lemmas.Bool.{eqb-true, eq-eqb}
 use Rattle.std.proofs.lemmas.Bool.Decides.{nat_tests}
-use Rattle.cif_system.specs.System.{Role, State, System, syncing, sending, receiving}
-use Rattle.cif_system.specs.Step.{Choice, Move, agrees, fits, is_channel, is_enabled, is_for, is_party, moves, partners, passes, same_role, stays, takes}
-use Rattle.cif_system.proofs.ChoiceLaws.{Taken, takes-edge, enumerate_from-length}
+use Rattle.cif_system.specs.System.{Role, State, syncing, sending, receiving}
+use Rattle.cif_system.specs.Step.{Choice, Move, agrees, fits, is_channel, is_enabled, is_for, moves, partners, same_role, takes}
+use Rattle.cif_system.proofs.ChoiceLaws.{takes-edge}
 use Rattle.cif_system.proofs.Picks.{and-left, and-right, map-at}
 use Rattle.cif_system.proofs.Lists.{false-true, some-same, map-length}
 use Rattle.cif_model.specs.Net.{NetAuto, NetEdge, Net}
 use Rattle.cif_model.specs.Meaning.{automaton_in, edge_meant, true_in, system_of_net}
 use Rattle.cif_model.specs.Listing.{syncs_on, monitors_event, all_hold, choice_test}
-use Rattle.cif_model.specs.Facts.{is_net}
 use Rattle.cif_model.proofs.TestLaws as test
-use Rattle.cif_choices.proofs.Parties.{RolePart, Part, Parts}
+use Rattle.cif_choices.proofs.Parties.{Part, Parts}
 use Rattle.cif_choices.proofs.Picked.{Picked}
 
 -- ---- counts

@@ -8,3 +8,4 @@ pub mod Ranging
 pub mod Sound
 pub mod Updating
 pub mod Standing
+pub mod Stands

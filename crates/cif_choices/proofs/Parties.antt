@@ -1,22 +1,20 @@
 -- What each automaton does in a choice of the net: it synchronises, sends, receives, or stays.
-use Rattle.std.proofs.Common.{◌≡◌, ◌⊎◌, ℕ, zero, suc, ◌+◌, ◌<◌, ◌≤◌, Bool, true, false, not, ◌&&◌, ◌||◌, inl, inr, List, [], ◌∷◌, ◌++◌, length, map, Option, Some, None, refl, sym, ◌∙◌, ap, subst, arith}
-use Rattle.std.specs.Prelude.{slice_get, flat_map, nat_eq, if◌then◌else◌}
-use Rattle.std.specs.List.{list_all, list_any, enumerate_from}
+use Rattle.std.proofs.Common.{◌≡◌, ◌⊎◌, ℕ, ◌+◌, Bool, true, false, not, ◌&&◌, inl, inr, List, [], ◌∷◌, ◌++◌, map, Option, Some, None, refl, sym, subst}
+use Rattle.std.specs.Prelude.{slice_get, nat_eq, if◌then◌else◌}
+use Rattle.std.specs.List.{list_all, enumerate_from}
 use Rattle.std.proofs.lemmas.Bool.{eqb-true}
-use Rattle.std.proofs.lemmas.Bool.Decides.{nat_tests}
 use Rattle.cif_system.specs.Words.{Member}
-use Rattle.cif_system.specs.System.{Role, System, syncing, sending, receiving}
-use Rattle.cif_system.specs.Step.{Choice, Numbered, is_channel, is_party, has_edge, is_for, numbered, same_role}
-use Rattle.cif_system.specs.Choices.{channel_choices, choices, edges_for, having, options, options_between, plain_choices, product_of, stay}
-use Rattle.cif_system.proofs.Distinct.{member-append, member-map, member-flat_map, member-filter}
+use Rattle.cif_system.specs.System.{Role, syncing, sending, receiving}
+use Rattle.cif_system.specs.Step.{Choice, is_for, same_role}
+use Rattle.cif_system.specs.Choices.{edges_for, options_between, product_of, stay}
+use Rattle.cif_system.proofs.Distinct.{member-append, member-map, member-flat_map}
 use Rattle.cif_system.proofs.DistinctLaws.{edge-taken}
-use Rattle.cif_system.proofs.ChoiceLaws.{Taken}
-use Rattle.cif_system.proofs.Picks.{and-left, and-right, map-at, all-at, any-at, true-or-right}
-use Rattle.cif_system.proofs.Lists.{false-true, filter-passes}
+use Rattle.cif_system.proofs.Picks.{and-left, and-right, map-at, all-at}
+use Rattle.cif_system.proofs.Lists.{false-true}
 use Rattle.cif_model.specs.Net.{NetAuto, NetEdge, Net}
-use Rattle.cif_model.specs.Meaning.{automaton_in, edge_meant, system_of_net}
+use Rattle.cif_model.specs.Meaning.{automaton_in, edge_meant}
 use Rattle.cif_model.specs.Listing.{syncs_on, monitors_event}
-use Rattle.cif_model.specs.Facts.{auto_stands, edge_stands, is_one_role, is_net}
+use Rattle.cif_model.specs.Facts.{auto_stands, edge_stands, is_one_role}
 
 -- its edge, where automaton `i` sends to automaton `j`
 abbrev pub RolePart : (e i j k : ℕ) → NetAuto → Role → Type 0

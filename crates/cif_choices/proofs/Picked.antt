@@ -1,10 +1,10 @@
 -- What a listed choice is made of: one that sends and another that receives for a channel, and none of both else.
-use Rattle.std.proofs.Common.{◌≡◌, ◌⊎◌, ℕ, suc, ◌+◌, ◌<◌, ◌≤◌, Bool, true, false, ◌||◌, inl, inr, List, [], ◌∷◌, length, map, Option, refl, sym, ◌∙◌, ap, subst, arith}
+use Rattle.std.proofs.Common.{◌≡◌, ◌⊎◌, ℕ, ◌+◌, ◌<◌, ◌≤◌, Bool, true, false, ◌||◌, inl, inr, List, [], ◌∷◌, length, map, refl, ◌∙◌, ap, subst, arith}
 use Rattle.std.specs.Prelude.{flat_map, nat_eq, if◌then◌else◌}
 use Rattle.std.specs.List.{list_all, list_any, enumerate_from}
 use Rattle.std.proofs.lemmas.Bool.Decides.{nat_tests}
 use Rattle.cif_system.specs.Words.{Member}
-use Rattle.cif_system.specs.System.{System, sending, receiving}
+use Rattle.cif_system.specs.System.{sending, receiving}
 use Rattle.cif_system.specs.Step.{Choice, Numbered, is_channel, is_party, has_edge, numbered}
 use Rattle.cif_system.specs.Choices.{channel_choices, choices, having, options, options_between, plain_choices, product_of}
 use Rattle.cif_system.proofs.Distinct.{member-flat_map, member-filter}

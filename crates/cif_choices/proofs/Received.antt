@@ -1,20 +1,14 @@
 -- An expression that stands where nothing is received stands also where something is, and its intervals stay the same.
-use Rattle.std.proofs.Common.{◌≡◌, ℕ, pos, Bool, true, false, not, ◌&&◌, ◌||◌, List, [], ◌∷◌, ◌++◌, Option, Some, None, refl, sym, ◌∙◌, ap, subst, if◌then◌else◌}
-use Rattle.std.specs.List.{list_all, list_any, AllByRecursion}
+use Rattle.std.proofs.Common.{◌≡◌, Bool, true, false, ◌&&◌, ◌||◌, List, [], ◌∷◌, ◌++◌, Option, None, refl, ◌∙◌, ap, if◌then◌else◌}
+use Rattle.std.specs.List.{list_any, AllByRecursion}
 use Rattle.cif_base.specs.declared.types.Ty.{Ty}
-use Rattle.cif_system.specs.System.{Range, in_range}
-use Rattle.cif_system.proofs.Picks.{or-cases}
-use Rattle.cif_term.specs.Tree.{CmpOp, MulOp, times, divided, modulo, NetExpr, net_expr, NetForm, n_truth, n_number, n_loc, n_var, n_input, n_alg, n_received, n_minus, n_plus, n_not, n_abs, n_min, n_max, n_sum, n_product, n_compare, n_and, n_or, n_implies, n_iff, n_if, NetExprs, no_net_exprs, net_exprs, NetTerms, no_net_terms, net_terms, NetFactors, no_net_factors, net_factors, NetBranches, no_net_branches, net_branches}
+use Rattle.cif_term.specs.Tree.{NetExpr, net_expr, NetForm, n_truth, n_number, n_loc, n_var, n_input, n_alg, n_received, n_minus, n_plus, n_not, n_abs, n_min, n_max, n_sum, n_product, n_compare, n_and, n_or, n_implies, n_iff, n_if, NetExprs, no_net_exprs, net_exprs, NetTerms, no_net_terms, net_terms, NetFactors, no_net_factors, net_factors, NetBranches, no_net_branches, net_branches}
 use Rattle.cif_model.specs.Net.{Net}
-use Rattle.cif_model.specs.Kinds.{Kind, bool_kind, int_kind, is_bool, is_int, is_equality, kinds_in, fits, form_fits, all_fit, terms_fit, factors_fit, branches_fit}
-use Rattle.cif_model.specs.Reads.{Read, a_var, an_input, an_alg, a_place, the_received, alg_passes, names_in, form_names, term_names, factor_names, list_names, branch_names}
-use Rattle.cif_model.specs.Interval.{neg_range, abs_range, min_ranges, max_ranges, add_ranges, mul_ranges, joined, Ranges, range_of, form_range, sum_range, product_range, cases_range, declared_ranges}
-use Rattle.cif_model.specs.Parts.{add_term, add_factor, parts, form_parts, sum_parts, product_parts, list_parts, branch_parts, factor_divisors, own_divisors, part_divides, is_narrow}
-use Rattle.cif_model.specs.Rules.{is_plain_expr}
+use Rattle.cif_model.specs.Kinds.{Kind, bool_kind, int_kind, is_equality, kinds_in, fits, form_fits, all_fit, terms_fit, factors_fit, branches_fit}
+use Rattle.cif_model.specs.Reads.{Read, the_received, names_in, form_names, term_names, factor_names, list_names, branch_names}
 use Rattle.cif_model.proofs.Passing.{and-left, and-right}
 use Rattle.cif_model.proofs.PartLaws.{all-append}
 use Rattle.cif_model.proofs.PlainLaws.{never}
-use Rattle.cif_model.proofs.ValueLaws.{all-parts, ap-two}
 
 pub and-true : {a b : Bool} → a ≡ true → b ≡ true → (a && b) ≡ true
 and-true {b = b} x y = ap (λ c. c && b) x ∙ y

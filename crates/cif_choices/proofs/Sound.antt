@@ -1,7 +1,7 @@
 -- The test of a listed choice of a plain net is a boolean expression that names no algebraic variable, divides by no 0,
 -- stays in 64 bits, and is little deeper than the guards of the net.
-use Rattle.std.proofs.Common.{◌≡◌, ◌⊎◌, ℕ, zero, suc, ◌+◌, ◌≤◌, max, Bool, true, false, not, ◌&&◌, ◌||◌, inl, inr, List, [], ◌∷◌, ◌++◌, length, map, filter, flat_map, zip, Option, Some, None, refl, sym, ◌∙◌, ap, subst, arith}
-use Rattle.std.specs.Prelude.{slice_get, nat_eq, nat_lt, nat_le, if◌then◌else◌}
+use Rattle.std.proofs.Common.{◌≡◌, ℕ, suc, ◌+◌, ◌≤◌, max, Bool, true, false, not, ◌||◌, inl, inr, List, [], ◌∷◌, ◌++◌, length, map, filter, flat_map, zip, Option, Some, None, refl, sym, ◌∙◌, ap, subst, arith}
+use Rattle.std.specs.Prelude.{slice_get, nat_eq, nat_lt, if◌then◌else◌}
 use Rattle.std.specs.List.{list_all, enumerate_from, AllByRecursion}
 use Rattle.std.proofs.lemmas.List.Folds.{list_all-append}
 use Rattle.std.proofs.lemmas.Bool.{eqb-true}
@@ -21,9 +21,9 @@ use Rattle.cif_model.specs.Shown.{channel_range}
 use Rattle.cif_model.specs.Reads.{alg_passes, names_in, list_names}
 use Rattle.cif_model.specs.Parts.{parts, list_parts, part_divides, is_narrow}
 use Rattle.cif_model.specs.Counts.{alg_measures, all_beside, depth, list_measure, measure, no_form, most_depth, most_nodes, nodes}
-use Rattle.cif_model.specs.Rules.{Evaluated, edge_evaluated, evaluated, is_plain, is_plain_expr}
+use Rattle.cif_model.specs.Rules.{edge_evaluated, is_plain, is_plain_expr}
 use Rattle.cif_model.specs.Listing.{syncs_on, is_edge_for, exprs_of, all_hold, fails, opens, move_test, choice_test, exclusion_test, event_test}
-use Rattle.cif_model.proofs.Passing.{and-left, and-right, not-true, all-member, each-member}
+use Rattle.cif_model.proofs.Passing.{and-left, and-right, all-member, each-member}
 use Rattle.cif_model.proofs.PartLaws.{all-append}
 use Rattle.cif_model.proofs.PlainLaws.{plain-expr}
 use Rattle.cif_choices.proofs.Parties.{Part, Parts}
@@ -45,7 +45,7 @@ module _ (n : Net) where
   deep-all d [] h = omega arith
   deep-all d (e ∷ es) h = let r = deep-all d es h.1 in let q = h.0 in omega (arith, q, r)
 
-  net-of : is_plain n ≡ true → is_net n ≡ true
+  pub net-of : is_plain n ≡ true → is_net n ≡ true
   net-of h = and-left _ _ (and-left _ _ (and-left _ _ h))
 
   left-below : (a b d : ℕ) → max a b ≤ d → a ≤ d
@@ -147,10 +147,10 @@ module _ (n : Net) (r : Range) where
           sound-place most_depth k a x.from p (and-right _ _ (and-left _ _ (and-left _ _ (and-left _ _ (and-left _ _ (and-left _ _ (and-left _ _ (and-left _ _ t.stands)))))))),
           (
             record {
-            kind = and-right _ _ (and-left _ _ (and-left _ _ (and-left _ _ (and-left _ _ (and-left _ _ t.stands)))));
-            plain = subst (λ z. is_plain_expr n (record { value = x.guard; received = z }) ≡ true) same (t.plain x.guard (inl refl));
-            deep = t.deep x.guard (inl refl);
-          },
+              kind = and-right _ _ (and-left _ _ (and-left _ _ (and-left _ _ (and-left _ _ (and-left _ _ t.stands)))));
+              plain = subst (λ z. is_plain_expr n (record { value = x.guard; received = z }) ≡ true) same (t.plain x.guard (inl refl));
+              deep = t.deep x.guard (inl refl);
+            },
             tt,
           ),
         )

@@ -1,33 +1,31 @@
 -- What a listed choice of a plain net names is there, and its expressions have their kinds, name no algebraic variable,
 -- divide by no 0, stay in 64 bits and are not deep.
-use Rattle.std.proofs.Common.{◌≡◌, ◌⊎◌, ℕ, suc, ◌+◌, ◌≤◌, Bool, true, false, not, ◌&&◌, inl, inr, List, [], ◌∷◌, ◌++◌, length, map, flat_map, filter_map, zip, Option, Some, None, is_none, refl, sym, ◌∙◌, ap, subst, arith}
-use Rattle.std.specs.Prelude.{slice_get, nat_eq, nat_le, option_to_list}
+use Rattle.std.proofs.Common.{◌≡◌, ℕ, suc, ◌+◌, ◌≤◌, true, inl, inr, List, [], ◌∷◌, ◌++◌, length, map, filter_map, zip, Option, Some, None, refl, sym, subst, arith}
+use Rattle.std.specs.Prelude.{slice_get, nat_le, option_to_list}
 use Rattle.std.specs.List.{cons_option, list_all, range_with_len, AllByRecursion}
 use Rattle.std.proofs.lemmas.Bool.{eqb-true}
 use Rattle.std.proofs.lemmas.Bool.Decides.{nat_tests}
-use Rattle.cif_base.specs.declared.types.Ty.{Ty}
 use Rattle.cif_system.specs.Words.{Member}
-use Rattle.cif_system.specs.System.{Range, Role, syncing, sending, receiving}
+use Rattle.cif_system.specs.System.{Role, syncing, sending, receiving}
 use Rattle.cif_system.specs.Step.{Choice}
-use Rattle.cif_system.proofs.Distinct.{member-append}
 use Rattle.cif_system.proofs.Picks.{append-left, append-right}
 use Rattle.cif_term.specs.Tree.{NetExpr, NetUpdates, no_net_updates, net_updates}
 use Rattle.cif_model.specs.Net.{NetChan, no_net_chan, void_net_chan, net_chan_of, NetAuto, NetEdge, Net}
 use Rattle.cif_model.specs.Exprs.{edge_exprs, update_exprs, updates_exprs}
-use Rattle.cif_model.specs.Facts.{are_all_apart, auto_targets, channel_of, role_stands, is_net}
+use Rattle.cif_model.specs.Facts.{channel_of, role_stands}
 use Rattle.cif_model.specs.Shown.{channel_range, channel_type}
 use Rattle.cif_model.specs.Counts.{all_beside, measure, most_depth}
-use Rattle.cif_model.specs.Rules.{Evaluated, is_plain, is_plain_expr}
-use Rattle.cif_model.specs.Listing.{NetChoice, all_hold, both, choice_test, choice_with, edge_at, edges_taken, event_test, guarded_choice, linear_choice, sent_by, writes_of}
+use Rattle.cif_model.specs.Rules.{is_plain, is_plain_expr}
+use Rattle.cif_model.specs.Listing.{all_hold, both, choice_test, choice_with, edge_at, edges_taken, event_test, guarded_choice, linear_choice, sent_by, writes_of}
 use Rattle.cif_model.specs.Table.{choice_exprs, choice_stands, most_test_depth, sent_stands}
 use Rattle.cif_model.proofs.Passing.{and-left, and-right}
 use Rattle.cif_model.proofs.PartLaws.{all-append}
 use Rattle.cif_model.proofs.PlainLaws.{never}
 use Rattle.cif_model.proofs.ValueLaws.{all-parts}
-use Rattle.cif_choices.proofs.Parties.{Part, Parts}
+use Rattle.cif_choices.proofs.Parties.{Parts}
 use Rattle.cif_choices.proofs.Picked.{Picked}
 use Rattle.cif_choices.proofs.Received.{and-true}
-use Rattle.cif_choices.proofs.Sound.{Deep, Kept, kept, Sound, AllSound, sound-all, choice-sound, event-sound, deep-all}
+use Rattle.cif_choices.proofs.Sound.{Deep, kept, Sound, AllSound, sound-all, choice-sound, event-sound, deep-all}
 use Rattle.cif_choices.proofs.Updating.{Taking, writes-stand}
 use Rattle.cif_choices.proofs.Valuing.{edge-role}
 

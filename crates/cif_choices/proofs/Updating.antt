@@ -1,7 +1,7 @@
 -- The updates of the edges of a choice stand together: automata assign different variables.
-use Rattle.std.proofs.Common.{◌≡◌, ◌⊎◌, ℕ, suc, ◌+◌, Bool, true, false, not, ◌&&◌, ◌||◌, inl, inr, List, [], ◌∷◌, ◌++◌, map, flat_map, filter_map, zip, Option, Some, None, refl, sym, ◌∙◌, ap, subst, arith}
+use Rattle.std.proofs.Common.{◌≡◌, ◌⊎◌, ℕ, Bool, true, false, not, ◌||◌, inl, inr, List, [], ◌∷◌, ◌++◌, map, filter_map, zip, Option, Some, None, refl, sym, ◌∙◌, ap, subst}
 use Rattle.std.specs.Prelude.{slice_get, nat_eq}
-use Rattle.std.specs.List.{cons_option, list_all, list_any, AllByRecursion}
+use Rattle.std.specs.List.{cons_option, AllByRecursion}
 use Rattle.std.proofs.lemmas.Bool.{eqb-true, eq-eqb}
 use Rattle.cif_base.specs.declared.types.Ty.{Ty}
 use Rattle.cif_system.specs.Words.{Member}
@@ -13,13 +13,12 @@ use Rattle.cif_system.proofs.Picks.{append-left, append-right, at-member, flat_m
 use Rattle.cif_term.specs.Tree.{NetExpr, NetUpdate, net_set, net_choose, NetUpdates, no_net_updates, net_updates, NetUpdateBranches, no_net_update_branches, net_update_branches}
 use Rattle.cif_model.specs.Net.{NetChan, no_net_chan, void_net_chan, net_chan_of, NetAuto, NetEdge, Net}
 use Rattle.cif_model.specs.Exprs.{Written, writes_all, writes_by, targets}
-use Rattle.cif_model.specs.Kinds.{Kind, bool_kind, fits}
-use Rattle.cif_model.specs.Facts.{are_apart, are_all_apart, assigns_kind, auto_targets, branches_stand, channel_of, edge_stands, has, received_type, update_stands, updates_stand, var_kind}
+use Rattle.cif_model.specs.Kinds.{Kind, bool_kind}
+use Rattle.cif_model.specs.Facts.{are_apart, are_all_apart, assigns_kind, auto_targets, branches_stand, channel_of, has, received_type, update_stands, updates_stand, var_kind}
 use Rattle.cif_model.specs.Shown.{channel_type}
 use Rattle.cif_model.specs.Listing.{both, edge_at, writes_of}
 use Rattle.cif_model.proofs.Passing.{and-left, and-right, not-true, all-member}
 use Rattle.cif_model.proofs.PlainLaws.{never}
-use Rattle.cif_choices.proofs.Parties.{Part, Parts}
 use Rattle.cif_choices.proofs.Received.{and-true, fits-any}
 use Rattle.cif_choices.proofs.Sound.{Kept}
 

@@ -1,9 +1,8 @@
 -- The edges of a listed choice send one value at most, and what a choice sends and assigns is what they send and assign.
-use Rattle.std.proofs.Common.{◌≡◌, ◌⊎◌, ℕ, ℤ, zero, suc, ◌+◌, ◌<◌, pos, Bool, true, false, ◌&&◌, inl, inr, List, [], ◌∷◌, ◌++◌, length, map, flat_map, filter_map, zip, Option, Some, None, is_none, refl, sym, ◌∙◌, ap, subst, arith, append_assoc}
-use Rattle.std.specs.Prelude.{slice_get, nat_eq, option_map, option_and_then, option_to_list}
+use Rattle.std.proofs.Common.{◌≡◌, ◌⊎◌, ℕ, ℤ, zero, suc, ◌+◌, ◌<◌, pos, true, inl, inr, List, [], ◌∷◌, ◌++◌, map, flat_map, filter_map, zip, Option, Some, None, is_none, refl, sym, ◌∙◌, ap, subst, arith, append_assoc}
+use Rattle.std.specs.Prelude.{slice_get, option_map, option_to_list}
 use Rattle.std.specs.List.{cons_option, list_all, enumerate_from}
 use Rattle.std.proofs.lemmas.Bool.{eqb-true}
-use Rattle.std.proofs.lemmas.Bool.Decides.{nat_tests}
 use Rattle.cif_system.specs.System.{Edge, Role, State, syncing, sending, receiving}
 use Rattle.cif_system.specs.Step.{Choice, assigned, edge_taken, first_or, sent, taken}
 use Rattle.cif_system.proofs.Picks.{and-left, and-right, all-at}
