@@ -5,3 +5,5 @@ mod AutoLaws
 mod ProductLaws
 mod NodeLaws
 mod BareLaws
+mod KeepLaws
+mod InlineLaws
