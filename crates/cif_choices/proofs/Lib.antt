@@ -9,3 +9,4 @@ pub mod Sound
 pub mod Updating
 pub mod Standing
 pub mod Stands
+pub mod Sets
