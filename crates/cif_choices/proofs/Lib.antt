@@ -10,3 +10,4 @@ pub mod Updating
 pub mod Standing
 pub mod Stands
 pub mod Sets
+pub mod Steps

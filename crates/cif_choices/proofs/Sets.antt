@@ -1,5 +1,5 @@
 -- Two choices of a table are equal in one way at most, since expressions and updates are told from trees of numbers.
-use Rattle.std.proofs.Common.{◌≡◌, ℕ, ℤ, zero, suc, pos, nat_abs, Bool, true, false, List, [], ◌∷◌, Option, Some, None, refl, sym, ◌∙◌, ap, slice_index_or}
+use Rattle.std.proofs.Common.{◌≡◌, ℕ, ℤ, zero, suc, pos, nat_abs, Bool, true, false, List, [], ◌∷◌, refl, sym, ◌∙◌, ap, slice_index_or}
 use Rattle.std.proofs.Props.{props}
 use mathlib.Core.HLevel.{collapsible→set}
 use Rattle.cif_term.specs.Tree.{CmpOp, eq, ne, lt, le, gt, ge, MulOp, times, divided, modulo, NetExpr, net_expr, NetForm, n_truth, n_number, n_loc, n_var, n_input, n_alg, n_received, n_minus, n_plus, n_not, n_abs, n_min, n_max, n_sum, n_product, n_compare, n_and, n_or, n_implies, n_iff, n_if, NetExprs, no_net_exprs, net_exprs, NetTerms, no_net_terms, net_terms, NetFactors, no_net_factors, net_factors, NetBranches, no_net_branches, net_branches, NetUpdate, net_set, net_choose, NetUpdates, no_net_updates, net_updates, NetUpdateBranches, no_net_update_branches, net_update_branches}
@@ -125,28 +125,28 @@ abbrev mutual
   from_form (leaf z) = n_truth false
   from_form (node t a b) =
       slice_index_or (
-        n_truth (is_one (nat_of a))
-        ∷ n_number (int_of a)
-        ∷ n_loc (nat_of a) (nat_of b)
-        ∷ n_var (nat_of a)
-        ∷ n_input (nat_of a)
-        ∷ n_alg (nat_of a)
-        ∷ n_received
-        ∷ n_minus (from_expr a)
-        ∷ n_plus (from_expr a)
-        ∷ n_not (from_expr a)
-        ∷ n_abs (from_expr a)
-        ∷ n_min (from_expr a) (from_expr b)
-        ∷ n_max (from_expr a) (from_expr b)
-        ∷ n_sum (from_expr a) (from_terms b)
-        ∷ n_product (from_expr a) (from_factors b)
-        ∷ n_compare (from_expr a) (from_cmp (tag_of b)) (from_second b)
-        ∷ n_and (from_list a)
-        ∷ n_or (from_list a)
-        ∷ n_implies (from_expr a) (from_expr b)
-        ∷ n_iff (from_expr a) (from_expr b)
-        ∷ n_if (from_branches a) (from_expr b)
-        ∷ []
+      n_truth (is_one (nat_of a))
+      ∷ n_number (int_of a)
+      ∷ n_loc (nat_of a) (nat_of b)
+      ∷ n_var (nat_of a)
+      ∷ n_input (nat_of a)
+      ∷ n_alg (nat_of a)
+      ∷ n_received
+      ∷ n_minus (from_expr a)
+      ∷ n_plus (from_expr a)
+      ∷ n_not (from_expr a)
+      ∷ n_abs (from_expr a)
+      ∷ n_min (from_expr a) (from_expr b)
+      ∷ n_max (from_expr a) (from_expr b)
+      ∷ n_sum (from_expr a) (from_terms b)
+      ∷ n_product (from_expr a) (from_factors b)
+      ∷ n_compare (from_expr a) (from_cmp (tag_of b)) (from_second b)
+      ∷ n_and (from_list a)
+      ∷ n_or (from_list a)
+      ∷ n_implies (from_expr a) (from_expr b)
+      ∷ n_iff (from_expr a) (from_expr b)
+      ∷ n_if (from_branches a) (from_expr b)
+      ∷ []
       ) t (n_truth false)
 
   from_list : Shape → NetExprs
