@@ -9,3 +9,5 @@ pub mod Sound
 pub mod Updating
 pub mod Standing
 pub mod Stands
+pub mod Sets
+pub mod Steps

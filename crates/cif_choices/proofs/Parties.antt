@@ -15,6 +15,7 @@ use Rattle.cif_model.specs.Net.{NetAuto, NetEdge, Net}
 use Rattle.cif_model.specs.Meaning.{automaton_in, edge_meant}
 use Rattle.cif_model.specs.Listing.{syncs_on, monitors_event}
 use Rattle.cif_model.specs.Facts.{auto_stands, edge_stands, is_one_role}
+use Rattle.cif_model.proofs.Passing.{not-true}
 
 -- its edge, where automaton `i` sends to automaton `j`
 abbrev pub RolePart : (e i j k : ℕ) → NetAuto → Role → Type 0
@@ -53,10 +54,6 @@ module _ (n : Net) (e : ℕ) where
 
   role-of : (a : NetAuto) (y : ℕ) (x : NetEdge) → auto_stands n a ≡ true → slice_get a.edges y ≡ Some x → is_one_role a x ≡ true
   role-of a y x h g = and-right _ _ (all-at (edge_stands n a) a.edges y x (and-right _ _ h) g)
-
-  not-true : (b : Bool) → not b ≡ true → b ≡ false
-  not-true true h = absurd (false-true refl h)
-  not-true false h = refl
 
   no-sync : (a : NetAuto) (x : NetEdge) → nat_eq x.event e ≡ true → not (syncs_on x.event a) ≡ true → syncs_on e a ≡ false
   no-sync a x q h = subst (λ v. syncs_on v a ≡ false) (eqb-true x.event e q) (not-true _ h)

@@ -24,14 +24,14 @@ module _ (g h : Ranges) where
   Ranged (a_place a) = Unit {0}
   Ranged the_received = g.received ≡ h.received
 
-  abbrev pub All : List Read → Type 0
-  All xs = AllByRecursion Ranged xs
+  abbrev pub AllRanged : List Read → Type 0
+  AllRanged xs = AllByRecursion Ranged xs
 
   mutual
-    pub range-alike : (e : NetExpr) → All (names_in e) → range_of g e ≡ range_of h e
+    pub range-alike : (e : NetExpr) → AllRanged (names_in e) → range_of g e ≡ range_of h e
     range-alike (net_expr f at) n = form-alike f n
 
-    form-alike : (f : NetForm) → All (form_names f) → form_range g f ≡ form_range h f
+    form-alike : (f : NetForm) → AllRanged (form_names f) → form_range g f ≡ form_range h f
     form-alike (n_truth b) n = refl
     form-alike (n_number z) n = refl
     form-alike (n_loc a k) n = refl
@@ -54,15 +54,15 @@ module _ (g h : Ranges) where
     form-alike (n_iff a b) n = refl
     form-alike (n_if bs e) n = let q = all-parts Ranged (branch_names bs) (names_in e) n in cases-alike bs q.0 _ _ (range-alike e q.1)
 
-    sum-alike : (es : NetTerms) → All (term_names es) → (a b : Range) → a ≡ b → sum_range g a es ≡ sum_range h b es
+    sum-alike : (es : NetTerms) → AllRanged (term_names es) → (a b : Range) → a ≡ b → sum_range g a es ≡ sum_range h b es
     sum-alike no_net_terms n a b p = p
     sum-alike (net_terms m e es) n a b p = let q = all-parts Ranged (names_in e) (term_names es) n in sum-alike es q.1 _ _ (ap-two (add_ranges m) p (range-alike e q.0))
 
-    product-alike : (es : NetFactors) → All (factor_names es) → (a b : Range) → a ≡ b → product_range g a es ≡ product_range h b es
+    product-alike : (es : NetFactors) → AllRanged (factor_names es) → (a b : Range) → a ≡ b → product_range g a es ≡ product_range h b es
     product-alike no_net_factors n a b p = p
     product-alike (net_factors op e es) n a b p = let q = all-parts Ranged (names_in e) (factor_names es) n in product-alike es q.1 _ _ (ap-two (mul_ranges op) p (range-alike e q.0))
 
-    cases-alike : (bs : NetBranches) → All (branch_names bs) → (a b : Range) → a ≡ b → cases_range g a bs ≡ cases_range h b bs
+    cases-alike : (bs : NetBranches) → AllRanged (branch_names bs) → (a b : Range) → a ≡ b → cases_range g a bs ≡ cases_range h b bs
     cases-alike no_net_branches n a b p = p
     cases-alike (net_branches c e bs) n a b p =
         let q = all-parts Ranged (names_in c) (names_in e ++ branch_names bs) n in
@@ -77,32 +77,32 @@ module _ (g h : Ranges) where
   abbrev pub PartAlike : NetExpr → Type 0
   PartAlike p = Alike p × AllByRecursion Alike (own_divisors p)
 
-  divisors-alike : (es : NetFactors) → All (factor_names es) → AllByRecursion Alike (factor_divisors es)
+  divisors-alike : (es : NetFactors) → AllRanged (factor_names es) → AllByRecursion Alike (factor_divisors es)
   divisors-alike no_net_factors n = tt
   divisors-alike (net_factors times e es) n = divisors-alike es (all-parts Ranged (names_in e) (factor_names es) n).1
   divisors-alike (net_factors divided e es) n = (let q = all-parts Ranged (names_in e) (factor_names es) n in (range-alike e q.0, divisors-alike es q.1))
   divisors-alike (net_factors modulo e es) n = (let q = all-parts Ranged (names_in e) (factor_names es) n in (range-alike e q.0, divisors-alike es q.1))
 
-  term-added : (es : NetTerms) (m : Bool) (e : NetExpr) → All (term_names es) → All (names_in e) → All (term_names (add_term es m e))
+  term-added : (es : NetTerms) (m : Bool) (e : NetExpr) → AllRanged (term_names es) → AllRanged (names_in e) → AllRanged (term_names (add_term es m e))
   term-added no_net_terms m e n k = all-append Ranged (names_in e) [] k tt
   term-added (net_terms o x xs) m e n k =
       let q = all-parts Ranged (names_in x) (term_names xs) n in
       all-append Ranged (names_in x) (term_names (add_term xs m e)) q.0 (term-added xs m e q.1 k)
 
-  factor-added : (es : NetFactors) (op : MulOp) (e : NetExpr) → All (factor_names es) → All (names_in e) → All (factor_names (add_factor es op e))
+  factor-added : (es : NetFactors) (op : MulOp) (e : NetExpr) → AllRanged (factor_names es) → AllRanged (names_in e) → AllRanged (factor_names (add_factor es op e))
   factor-added no_net_factors op e n k = all-append Ranged (names_in e) [] k tt
   factor-added (net_factors o x xs) op e n k =
       let q = all-parts Ranged (names_in x) (factor_names xs) n in
       all-append Ranged (names_in x) (factor_names (add_factor xs op e)) q.0 (factor-added xs op e q.1 k)
 
-  pair-alike : (a b : NetExpr) → (All (names_in a) → AllByRecursion PartAlike (parts a)) → (All (names_in b) → AllByRecursion PartAlike (parts b)) → All (names_in a ++ names_in b) → AllByRecursion PartAlike (parts a ++ parts b)
+  pair-alike : (a b : NetExpr) → (AllRanged (names_in a) → AllByRecursion PartAlike (parts a)) → (AllRanged (names_in b) → AllByRecursion PartAlike (parts b)) → AllRanged (names_in a ++ names_in b) → AllByRecursion PartAlike (parts a ++ parts b)
   pair-alike a b f k n = let q = all-parts Ranged (names_in a) (names_in b) n in all-append PartAlike (parts a) (parts b) (f q.0) (k q.1)
 
   mutual
-    pub parts-alike : (e : NetExpr) → All (names_in e) → AllByRecursion PartAlike (parts e)
+    pub parts-alike : (e : NetExpr) → AllRanged (names_in e) → AllByRecursion PartAlike (parts e)
     parts-alike (net_expr f at) n = form-parts-alike at f n
 
-    form-parts-alike : (at : ℕ) (f : NetForm) → All (form_names f) → AllByRecursion PartAlike (form_parts at f)
+    form-parts-alike : (at : ℕ) (f : NetForm) → AllRanged (form_names f) → AllByRecursion PartAlike (form_parts at f)
     form-parts-alike at (n_truth b) n = ((refl, tt), tt)
     form-parts-alike at (n_number z) n = ((refl, tt), tt)
     form-parts-alike at (n_loc a k) n = ((refl, tt), tt)
@@ -131,31 +131,31 @@ module _ (g h : Ranges) where
         let q = all-parts Ranged (branch_names bs) (names_in e) n in
         ((range-alike (net_expr (n_if bs e) at) n, tt), all-append PartAlike (branch_parts bs) (parts e) (branch-parts-alike bs q.0) (parts-alike e q.1))
 
-    list-parts-alike : (es : NetExprs) → All (list_names es) → AllByRecursion PartAlike (list_parts es)
+    list-parts-alike : (es : NetExprs) → AllRanged (list_names es) → AllByRecursion PartAlike (list_parts es)
     list-parts-alike no_net_exprs n = tt
     list-parts-alike (net_exprs e es) n = let q = all-parts Ranged (names_in e) (list_names es) n in all-append PartAlike (parts e) (list_parts es) (parts-alike e q.0) (list-parts-alike es q.1)
 
-    branch-parts-alike : (bs : NetBranches) → All (branch_names bs) → AllByRecursion PartAlike (branch_parts bs)
+    branch-parts-alike : (bs : NetBranches) → AllRanged (branch_names bs) → AllByRecursion PartAlike (branch_parts bs)
     branch-parts-alike no_net_branches n = tt
     branch-parts-alike (net_branches c e bs) n =
         let q = all-parts Ranged (names_in c) (names_in e ++ branch_names bs) n in
         let t = all-parts Ranged (names_in e) (branch_names bs) q.1 in
         all-append PartAlike (parts c) (parts e ++ branch_parts bs) (parts-alike c q.0) (all-append PartAlike (parts e) (branch_parts bs) (parts-alike e t.0) (branch-parts-alike bs t.1))
 
-    sum-parts-alike : (at : ℕ) (first : NetExpr) (before es : NetTerms) → All (names_in first) → All (term_names before) → All (term_names es) → AllByRecursion PartAlike (sum_parts at first before es)
+    sum-parts-alike : (at : ℕ) (first : NetExpr) (before es : NetTerms) → AllRanged (names_in first) → AllRanged (term_names before) → AllRanged (term_names es) → AllByRecursion PartAlike (sum_parts at first before es)
     sum-parts-alike at first before no_net_terms f b n = tt
     sum-parts-alike at first before (net_terms m e es) f b n =
         let q = all-parts Ranged (names_in e) (term_names es) n in
-        let more : All (term_names (add_term before m e)) = term-added before m e b q.0 in (
+        let more : AllRanged (term_names (add_term before m e)) = term-added before m e b q.0 in (
           (range-alike (net_expr (n_sum first (add_term before m e)) at) (all-append Ranged (names_in first) (term_names (add_term before m e)) f more), tt),
           all-append PartAlike (parts e) (sum_parts at first (add_term before m e) es) (parts-alike e q.0) (sum-parts-alike at first (add_term before m e) es f more q.1),
         )
 
-    product-parts-alike : (at : ℕ) (first : NetExpr) (before es : NetFactors) → All (names_in first) → All (factor_names before) → All (factor_names es) → AllByRecursion PartAlike (product_parts at first before es)
+    product-parts-alike : (at : ℕ) (first : NetExpr) (before es : NetFactors) → AllRanged (names_in first) → AllRanged (factor_names before) → AllRanged (factor_names es) → AllByRecursion PartAlike (product_parts at first before es)
     product-parts-alike at first before no_net_factors f b n = tt
     product-parts-alike at first before (net_factors op e es) f b n =
         let q = all-parts Ranged (names_in e) (factor_names es) n in
-        let more : All (factor_names (add_factor before op e)) = factor-added before op e b q.0 in (
+        let more : AllRanged (factor_names (add_factor before op e)) = factor-added before op e b q.0 in (
           (range-alike (net_expr (n_product first (add_factor before op e)) at) (all-append Ranged (names_in first) (factor_names (add_factor before op e)) f more), divisors-alike (add_factor before op e) more),
           all-append PartAlike (parts e) (product_parts at first (add_factor before op e) es) (parts-alike e q.0) (product-parts-alike at first (add_factor before op e) es f more q.1),
         )
@@ -175,7 +175,7 @@ module _ (g h : Ranges) where
   narrow-alike (p ∷ ps) a = ap-two (λ r b. is_narrow r && b) a.0.0 (narrow-alike ps a.1)
 
 -- where nothing received and no algebraic variable is named, the range of what is received does not matter
-same-ranges : (n : Net) (a b : Range) (xs : List Read) → list_all (alg_passes (λ k. false)) xs ≡ true → AllByRecursion Unreceived xs → All (declared_ranges n a) (declared_ranges n b) xs
+same-ranges : (n : Net) (a b : Range) (xs : List Read) → list_all (alg_passes (λ k. false)) xs ≡ true → AllByRecursion Unreceived xs → AllRanged (declared_ranges n a) (declared_ranges n b) xs
 same-ranges n a b [] h u = tt
 same-ranges n a b (a_var k ∷ xs) h u = (refl, same-ranges n a b xs h u.1)
 same-ranges n a b (an_input k ∷ xs) h u = (refl, same-ranges n a b xs h u.1)

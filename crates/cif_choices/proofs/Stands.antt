@@ -60,22 +60,22 @@ module _ (n : Net) (h : is_plain n ≡ true) where
 
   -- what a row keeps, whatever it tests and asks
   module _ (e : ℕ) (ch : Choice) (tests : List NetExpr) (invariants : List ℕ) (whole : full_choice n (choice_with n e ch tests invariants) ≡ (e, ch)) where
-    abbrev made : NetChoice
-    made = choice_with n e ch tests invariants
+    abbrev built : NetChoice
+    built = choice_with n e ch tests invariants
 
-    own : ch ≡ (full_choice n made).1
+    own : ch ≡ (full_choice n built).1
     own = sym (ap (λ (d : ℕ × Choice). d.1) whole)
 
-    parties-so : MovesParties n made
+    parties-so : MovesParties n built
     parties-so = ap (moves_of n e) own
 
-    written-so : HasUpdatesOfEdges n made
+    written-so : HasUpdatesOfEdges n built
     written-so = (ap (λ d. sent_by (edges_taken n d)) own, ap (λ d. writes_of (edges_taken n d)) own)
 
-    values-so : (s : State) → Picked n e ch → SendsAndAssigns n s made
+    values-so : (s : State) → Picked n e ch → SendsAndAssigns n s built
     values-so s p = (sent-same n s (net-of n h) e ch p ∙ ap (sent (system_of_net n) s) own, assigned-same n s (net-of n h) e ch p ∙ ap (assigned (system_of_net n) s) own)
 
-    agrees-so : (s : State) → agrees (system_of_net n) s e ch ≡ agrees_in n s made
+    agrees-so : (s : State) → agrees (system_of_net n) s e ch ≡ agrees_in n s built
     agrees-so s = ap (agrees (system_of_net n) s e) own
 
   abbrev guarded_tests : ℕ → Choice → List NetExpr
