@@ -147,9 +147,12 @@ module _ (t : Source) (s : Scopes) (are : AreNumbered t s) where
   stands-due y p h ch =
       let x : ScopeEntry = (h.0, definition h.1 h.2 h.3) in
       let chain : Chain ReachesDefinition x x = subst (λ z. Chain ReachesDefinition z z) h.4 ch in
-      let at = member-at (scope_of h.0) (h.1, definition h.1 h.2 h.3) h.6 in
-      (h.1.at, h.5, any-of (λ c. Any (λ (e : Ident × Entry). (e.0.at ≡ h.1.at) × Chain ReachesDefinition (c, e.1) (c, e.1)) (scope_of c)) (bodies t) h.7.0 h.0 h.7.1
-      (any-of (λ (e : Ident × Entry). (e.0.at ≡ h.1.at) × Chain ReachesDefinition (h.0, e.1) (h.0, e.1)) (scope_of h.0) at.0 (h.1, definition h.1 h.2 h.3) at.1 (refl, chain)))
+      let at = member-at (scope_of h.0) (h.1, definition h.1 h.2 h.3) h.6 in (
+        h.1.at,
+        h.5,
+        any-of (λ c. Any (λ (e : Ident × Entry). (e.0.at ≡ h.1.at) × Chain ReachesDefinition (c, e.1) (c, e.1)) (scope_of c)) (bodies t) h.7.0 h.0 h.7.1
+            (any-of (λ (e : Ident × Entry). (e.0.at ≡ h.1.at) × Chain ReachesDefinition (h.0, e.1) (h.0, e.1)) (scope_of h.0) at.0 (h.1, definition h.1 h.2 h.3) at.1 (refl, chain)),
+      )
 
   -- of a body that reaches itself the definition around it is told
   pub cyclic-told : (k : ℕ) → Chain (Needs (body_graph s)) k k → (at : ℕ) × (nearest s.table (definition_places t) (length s.table.scopes) k ≡ Some at) × DefinitionCycle t at

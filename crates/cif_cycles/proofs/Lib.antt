@@ -6,3 +6,4 @@ pub mod BodyNeeds
 pub mod DefinitionLaws
 pub mod NameLaws
 pub mod AnswerLaws
+pub mod Rows

@@ -218,9 +218,10 @@ module _ (t : Source) (s : Scopes) where
     slot-number k j d e own at =
         let l : k < length (bodies t) = slice_get-below (bodies t) k (as_written d) own in
         let count : length s.table.scopes ≡ length (bodies t) = beside-length (IsScope t) (bodies t) s.table.scopes are.table in
-        let below : k < length s.table.scopes = omega arith in
-        (ap (option_map (λ f. f + j)) (first-at s.table.scopes (length s.table.scopes) k below),
-        numbered-in t (bodies t) s.table.scopes k j (as_written d) e are.table own (ap (λ (es : Entries). slice_get es j) (scope-written d) ∙ at))
+        let below : k < length s.table.scopes = omega arith in (
+          ap (option_map (λ f. f + j)) (first-at s.table.scopes (length s.table.scopes) k below),
+          numbered-in t (bodies t) s.table.scopes k j (as_written d) e are.table own (ap (λ (es : Entries). slice_get es j) (scope-written d) ∙ at),
+        )
 
     number-reached : (r : Reached) (l : Looked) (m : ℕ) → Agrees t r l → number_of firsts l ≡ Some m → (y : ScopeEntry) × IsAt m y × (as_reached r ≡ reached y)
     number-reached (reached (d, e)) (At k j) m h g =
@@ -284,9 +285,12 @@ module _ (t : Source) (s : Scopes) where
         let c : Component = w.0.0 in
         let e : Ident × Entry = (n, w.0.1) in
         let b = entry-body t m c e w.2.1 in
-        let at = member-at (scope_of c) e b.1 in
-        (n.at, place-at t s.table.scopes are.table m (c, e) w.2.1, any-of (λ d. Any (λ (x : Ident × Entry). (x.0.at ≡ n.at) × Chain ReachesType (d, x.1) (d, x.1)) (scope_of d)) (bodies t) b.0.0 c b.0.1
-        (any-of (λ (x : Ident × Entry). (x.0.at ≡ n.at) × Chain ReachesType (c, x.1) (c, x.1)) (scope_of c) at.0 e at.1 (refl, chain)))
+        let at = member-at (scope_of c) e b.1 in (
+          n.at,
+          place-at t s.table.scopes are.table m (c, e) w.2.1,
+          any-of (λ d. Any (λ (x : Ident × Entry). (x.0.at ≡ n.at) × Chain ReachesType (d, x.1) (d, x.1)) (scope_of d)) (bodies t) b.0.0 c b.0.1
+              (any-of (λ (x : Ident × Entry). (x.0.at ≡ n.at) × Chain ReachesType (c, x.1) (c, x.1)) (scope_of c) at.0 e at.1 (refl, chain)),
+        )
 
     pub name-needs-inside : AreInside graph
     name-needs-inside m l h =

@@ -102,11 +102,7 @@ fn add_decls(
     Ok(())
 }
 
-fn add_locations(
-    alloc: Global,
-    locs: &[Loc],
-    all: &mut Items<Items<u32>>,
-) -> Result<(), Memory>
+fn add_locations(alloc: Global, locs: &[Loc], all: &mut Items<Items<u32>>) -> Result<(), Memory>
     ensures { OnOk result (all.new ≡ all.old ++ flat_map names.location_needs (map location_tree locs.now)) }
 {
     for loc in locs {
@@ -205,11 +201,7 @@ fn add_bodies(
 
 /// For each name of each body, numbered through, the names that it needs: those that the names in its type and value denote,
 /// where it is a type or a constant.
-pub fn name_graph(
-    alloc: Global,
-    spec: &Spec,
-    scopes: &Scopes,
-) -> Result<Items<Items<u32>>, Memory>
+pub fn name_graph(alloc: Global, spec: &Spec, scopes: &Scopes) -> Result<Items<Items<u32>>, Memory>
     ensures { IfOk result (λ all. all ≡ names.name_graph scopes.now (written_bodies (source_of spec.now))) }
 {
     let written = written_bodies(alloc, spec)?;
