@@ -11,11 +11,12 @@ use Rattle.cif_source.specs.Scoping.{as_instance, instances_of, has_wrong_count}
 use Rattle.cif_scope.specs.declared.scopes.Scopes.{Scopes}
 use Rattle.cif_scope.specs.declared.error.ScopeErr.{ScopeErr}
 use Rattle.cif_scope.specs.Tables.{IsBody, Beside}
-use Rattle.cif_scope.specs.Looks.{definition_in, definition_at}
-use Rattle.cif_scope.specs.Scopes.{Defines, IsDefinitionOf, AreNumbered}
+use Rattle.cif_scope.specs.Looks.{definition_at}
+use Rattle.cif_scope.specs.Scopes.{Defines, AreNumbered}
 use Rattle.cif_scope.specs.Written.{WrittenBody, written_bodies}
 use Rattle.cif_scope.proofs.Places.{beside-at, Sits, sits-head, sits-tail, sits-whole}
 use Rattle.cif_scope.proofs.DefinitionLaws.{IsWritten, bodies-written}
+use Rattle.cif_cycles.proofs.BodyNeeds.{definition-is}
 use Rattle.cif_resolve.specs.Tests.{fault_of, or_later, first_some, used_fault, own_fault}
 use Rattle.cif_resolve.specs.Bodies.{body_numbered, definition_of, params_in, instance_uses, uses_in, uses_under, uses_of, own_in, own_under, count_fault, counts_in, counts_under, body_fault, faults_from}
 use Rattle.cif_resolve.specs.Faults.{use_told, own_told, count_told, names_told}
@@ -74,12 +75,6 @@ own-under-is (automaton_body a) = refl
 -- ---- a body
 
 module _ (t : Source) (s : Scopes) (are : AreNumbered t s) (c : Component) (k : ℕ) (own : IsBody t k c) where
-  definition-is : (r : ℕ) (i : InstanceTree) → slice_get (instances_of c) r ≡ Some i → IsDefinitionOf t c i (definition_at s.definitions k r)
-  definition-is r i h =
-      let row = beside-at (λ d ds. Beside (IsDefinitionOf t d) (instances_of d) ds) (bodies t) s.definitions k c are.definitions own in
-      let one = beside-at (IsDefinitionOf t c) (instances_of c) row.0 r i row.2 h in
-      subst (λ d. IsDefinitionOf t c i d) (sym (ap (λ o. elim o [ None ↦ None | Some ds ↦ definition_in ds r ]) row.1 ∙ ap (λ o. elim o [ None ↦ None | Some d ↦ d ]) one.1)) one.2
-
   -- the instances of the items are those of the component from number r on
   abbrev Stand : ℕ → Source → Type 0
   Stand r is = Sits (instances_of c) r (filter_map as_instance (list_of_items is))
@@ -87,7 +82,7 @@ module _ (t : Source) (s : Scopes) (are : AreNumbered t s) (c : Component) (k : 
   instance-uses : (r : ℕ) (i : InstanceTree) (is : Source) → Stand r (source (instance_item i) is) → instance_uses i (definition_of s (written_bodies t) k r) ≡ item_uses c (instance_item i)
   instance-uses r i is h =
       ap (λ ps. asking definition_asked (i.def ∷ []) ++ args_uses i.args ps)
-      (params-are t (definition_found c i) (definition_at s.definitions k r) (definition-is r i (sits-head (instances_of c) r i (filter_map as_instance (list_of_items is)) h)))
+      (params-are t (definition_found c i) (definition_at s.definitions k r) (definition-is t s are c k own r i (sits-head (instances_of c) r i (filter_map as_instance (list_of_items is)) h)))
 
   uses-in : (is : Source) (r : ℕ) → Stand r is → uses_in s (written_bodies t) k r is ≡ flat_map (item_uses c) (list_of_items is)
   uses-in no_source r h = refl
@@ -120,7 +115,7 @@ module _ (t : Source) (s : Scopes) (are : AreNumbered t s) (c : Component) (k : 
   counts-in (source (definition_item n ps b) is) r h = counts-in is r h
   counts-in (source (instance_item i) is) r h =
       ap (λ o. or_later o (counts_in s (written_bodies t) k (r + 1) is))
-      (count-is t i (definition_found c i) (definition_at s.definitions k r) (definition-is r i (sits-head (instances_of c) r i (filter_map as_instance (list_of_items is)) h)))
+      (count-is t i (definition_found c i) (definition_at s.definitions k r) (definition-is t s are c k own r i (sits-head (instances_of c) r i (filter_map as_instance (list_of_items is)) h)))
       ∙ ap (or_later (count_told c i)) (counts-in is (r + 1) (sits-tail (instances_of c) r i (filter_map as_instance (list_of_items is)) h))
 
   counts-under : (b : SourceBody) → body_of c ≡ b → counts_under s (written_bodies t) k b ≡ first_some (count_told c) (filter_map as_instance (items_in b))
