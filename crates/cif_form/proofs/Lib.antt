@@ -1,9 +1,1 @@
-pub mod Members
-pub mod Keys
-pub mod Keeping
-pub mod Naming
-pub mod Counting
-pub mod Placed
-pub mod Moving
-pub mod Every
-pub mod Whole
+pub mod FormLaws

@@ -1,5 +1,1 @@
-pub mod Form
-pub mod Source
-pub mod Gives
-pub mod Checking
-pub mod Whole
+pub mod Forms

@@ -1,19 +1,9 @@
-//! The form of a source that programs are generated from: one plant automaton without data. A tree that has the form is turned
-//! into the plant, and the plant's names into numbers.
+//! Which sources have the forms for which programs are written so far: groups and automata with events, locations and edges,
+//! without definitions, data, channels and invariants.
 #![tactic(auto)]
 
-mod automaton;
-mod edge;
-mod error;
-mod form;
-mod misfit;
-mod names;
-mod numbering;
-mod part;
+mod automata;
+mod first;
 mod places;
-mod rules;
-mod words;
 
-pub use error::FormErr;
-pub use form::{names_are_letters, one_plant, plant_of};
-pub use numbering::{number_plant, numbers_name_things};
+pub use first::misfit;

@@ -1,0 +1,8 @@
+use Rattle.std.proofs.Common.{◌≡◌, drop}
+use Rattle.cif_ast.specs.View.{view_items}
+use Rattle.cif_source.specs.Source.{source_items}
+use Rattle.cif_form.specs.Forms.{items_fit}
+use Rattle.cif_form.proofs.first.+forms.Given as goal
+
+abbrev pub invariant-items_misfit-loop-item : goal.invariant-items_misfit-loop-item
+invariant-items_misfit-loop-item l = items_fit (source_items (view_items (drop l.item-index l.items))) ≡ items_fit (source_items (view_items l.items))

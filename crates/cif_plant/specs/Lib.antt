@@ -1,4 +1,0 @@
-pub mod Plant
-pub mod Numbers
-pub mod Meaning
-pub mod Named
