@@ -11,6 +11,7 @@ code_of status.WriteFault = 4
 code_of status.Memory = 5
 code_of (status.TooBig k) = 6
 code_of (status.Refused why) = 7
+code_of (status.OutsideProfile why) = 8
 code_of (status.StRefused why) = 9
 code_of (status.RowRefused why) = 10
 code_of (status.ScanFault k e) = 11

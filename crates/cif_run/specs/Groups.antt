@@ -25,6 +25,7 @@ group_of status.WriteFault = unwritten
 group_of status.Memory = wanting
 group_of (status.TooBig k) = too_long k
 group_of (status.Refused why) = judged
+group_of (status.OutsideProfile why) = judged
 group_of (status.StRefused why) = judged
 group_of (status.RowRefused why) = judged
 group_of (status.ScanFault k e) = judged

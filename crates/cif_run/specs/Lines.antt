@@ -15,6 +15,8 @@ use Rattle.cif_run.specs.declared.status.Status.{Status}
 use Rattle.cif_run.specs.declared.status.Status.TheVariants as status
 use Rattle.cif_run.specs.declared.status.Refusal.{Refusal}
 use Rattle.cif_run.specs.declared.status.Refusal.TheVariants as why
+use Rattle.cif_run.specs.declared.status.ProfileWhy.{ProfileWhy}
+use Rattle.cif_run.specs.declared.status.ProfileWhy.TheVariants as profile
 use Rattle.cif_run.specs.declared.status.StRefusal.{StRefusal}
 use Rattle.cif_run.specs.declared.status.StRefusal.TheVariants as refusal
 use Rattle.cif_run.specs.declared.ended.Ended.{Ended}
@@ -31,12 +33,29 @@ joined (t ∷ ts) = t ++ joined ts
 abbrev pub with_number : Text → ℕ → Text
 with_number head n = joined (head ∷ decimal n ∷ [])
 
+-- a refusal with two such fields
+abbrev pub with_numbers : Text → ℕ → Text → ℕ → Text
+with_numbers head n between m = joined (head ∷ decimal n ∷ between ∷ decimal m ∷ [])
+
 abbrev pub refusal_text : Refusal → Text
 refusal_text (why.BadByte at) = with_number (codes "1 BadByte at ") at
 refusal_text (why.NumberTooBig at) = with_number (codes "2 NumberTooBig at ") at
 refusal_text (why.OpenComment at) = with_number (codes "3 OpenComment at ") at
 refusal_text (why.NotRead at) = with_number (codes "4 NotRead at ") at
+refusal_text (why.Unknown at) = with_number (codes "5 Unknown at ") at
+refusal_text (why.Duplicate at first) = with_numbers (codes "6 Duplicate at ") at (codes " first ") first
+refusal_text (why.WrongKind at) = with_number (codes "7 WrongKind at ") at
+refusal_text (why.DefinitionCycle at) = with_number (codes "8 DefinitionCycle at ") at
+refusal_text (why.Initials at count) = with_numbers (codes "11 Initials at ") at (codes " count ") count
+refusal_text (why.AlphabetLacks at) = with_number (codes "14 AlphabetLacks at ") at
+refusal_text (why.TooManyObjects count) = with_number (codes "17 TooManyObjects count ") count
+refusal_text (why.TooLarge nodes depth) = with_numbers (codes "24 TooLarge nodes ") nodes (codes " depth ") depth
 refusal_text (why.NotBuilt at) = with_number (codes "30 NotBuilt at ") at
+
+-- an event is told by its path
+abbrev pub profile_text : Text → ProfileWhy → Text
+profile_text path (profile.TooManyChoices count) = with_number (codes "25 TooManyChoices count ") count
+profile_text path (profile.Unclassed event) = joined (codes "28 Unclassed event " ∷ path ∷ [])
 
 abbrev pub st_text : StErr → Text
 st_text (st.StBadByte at) = with_number (codes "31 StBadByte at ") at
@@ -60,7 +79,7 @@ st_refusal_text variable (refusal.Check e) = check_text variable e
 
 abbrev pub row_text : RowErr → Text
 row_text (row.Header c) = with_number (codes "44 Header column ") c
-row_text (row.Cell r c) = joined (codes "45 Cell row " ∷ decimal r ∷ codes " column " ∷ decimal c ∷ [])
+row_text (row.Cell r c) = with_numbers (codes "45 Cell row ") r (codes " column ") c
 row_text (row.RowLength r) = with_number (codes "46 RowLength row ") r
 row_text (row.TooManyRows n) = with_number (codes "47 TooManyRows count ") n
 row_text row.Memory = []
@@ -86,7 +105,7 @@ scan_line name k what = joined (codes "cif: " ∷ name ∷ codes ": row " ∷ de
 abbrev pub too_big_line : Text → ℕ → Text
 too_big_line name most = joined (codes "cif: " ∷ name ∷ codes " is longer than " ∷ decimal most ∷ codes " bytes\n" ∷ [])
 
--- the line of a status that tells of the variable of this name, or of a file that may have so many bytes
+-- the line of a status that tells of the variable or event of this name, or of a file that may have so many bytes
 abbrev pub line_of : List Text → Text → ℕ → Status → Text
 line_of words variable limit status.Done = []
 line_of words variable limit status.Usage = codes "cif: not a command line\n"
@@ -95,6 +114,7 @@ line_of words variable limit status.WriteFault = codes "cif: cannot write\n"
 line_of words variable limit status.Memory = codes "cif: out of memory\n"
 line_of words variable limit (status.TooBig k) = too_big_line (word words k) limit
 line_of words variable limit (status.Refused why) = file_line (word words 1) (refusal_text why)
+line_of words variable limit (status.OutsideProfile why) = file_line (word words 1) (profile_text variable why)
 line_of words variable limit (status.StRefused why) = file_line (word words 1) (st_refusal_text variable why)
 line_of words variable limit (status.RowRefused why) = file_line (word words 2) (row_text why)
 line_of words variable limit (status.ScanFault k e) = scan_line (word words 1) k (scan_text variable e)

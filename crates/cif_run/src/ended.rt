@@ -6,8 +6,8 @@ use crate::status::Status;
 use cif_base::Text;
 use std::alloc::Global;
 
-/// The status, the name of the variable that it tells of, and the most bytes that a file may have that is too long. Of a
-/// status that tells of no variable the name is empty, and of one that tells of no such file the limit is 0.
+/// The status, the name of the variable or the path of the event that it tells of, and the most bytes that a file may have that is
+/// too long. Of a status that tells of neither the name is empty, and of one that tells of no such file the limit is 0.
 #[derive(Debug, Drop)]
 pub struct Ended {
     pub status: Status,

@@ -11,5 +11,5 @@ mod telling;
 pub use command::{Command, run};
 pub use ended::Ended;
 pub use reading::read_file;
-pub use status::{Refusal, StRefusal, Status, code};
+pub use status::{ProfileWhy, Refusal, StRefusal, Status, code};
 pub use telling::report;

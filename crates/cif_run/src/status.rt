@@ -20,8 +20,34 @@ pub enum Refusal {
     /// The tokens are no source: the one that begins there can't be there, or what begins there is too deep; or the source
     /// ends there too early.
     NotRead { at: u32 },
+    /// A part of the name that begins there is declared nowhere where it is looked up.
+    Unknown { at: u32 },
+    /// One scope declares one name at both places, of which `first` is the earlier.
+    Duplicate { at: u32, first: u32 },
+    /// The name that begins there denotes something of another sort than its position asks, or the instance of that name has
+    /// another number of arguments than its definition has parameters.
+    WrongKind { at: u32 },
+    /// The definition, type or constant whose declared name begins there reaches itself.
+    DefinitionCycle { at: u32 },
+    /// The automaton whose declared name begins there has so many initial locations, and not one.
+    Initials { at: u32, count: u32 },
+    /// The name that begins there is that of an event outside the alphabet of its automaton.
+    AlphabetLacks { at: u32 },
+    /// Components, declarations, locations and edges are too many. The count stops one past the limit.
+    TooManyObjects { count: u32 },
+    /// The choices of all events have too many nodes, or an expression is too deep. Each number stops one past its limit.
+    TooLarge { nodes: u32, depth: u32 },
     /// The source has a tree, and the tool takes no such tree yet: what begins there is none that it generates programs for.
     NotBuilt { at: u32 },
+}
+
+/// Why no program is written for a source that breaks no other rule.
+#[derive(Clone, Copy, Debug, PartialEq, Eq)]
+pub enum ProfileWhy {
+    /// The choices of all events are too many. The count stops one past the limit.
+    TooManyChoices { count: u32 },
+    /// The event of that number, counted from 0, is the first that is neither controllable nor uncontrollable.
+    Unclassed { event: u32 },
 }
 
 /// Why a text is refused that should be a program of Structured Text.
@@ -50,6 +76,8 @@ pub enum Status {
     TooBig { word: u32 },
     /// The source is refused.
     Refused { why: Refusal },
+    /// The source is none that programs are written for.
+    OutsideProfile { why: ProfileWhy },
     /// The text is refused as a program of Structured Text.
     StRefused { why: StRefusal },
     /// The rows are refused.
@@ -72,6 +100,7 @@ pub fn code(status: &Status) -> u8
         Status::Memory => 5,
         Status::TooBig { .. } => 6,
         Status::Refused { .. } => 7,
+        Status::OutsideProfile { .. } => 8,
         Status::StRefused { .. } => 9,
         Status::RowRefused { .. } => 10,
         Status::ScanFault { .. } => 11,

@@ -8,7 +8,7 @@ ghost use Rattle.cif_run.specs.Tells.{Tells};
 ghost use Rattle.cif_run.specs.Lines as lines;
 
 use crate::ended::Ended;
-use crate::status::{Refusal, StRefusal, Status};
+use crate::status::{ProfileWhy, Refusal, StRefusal, Status};
 use cif_base::{Memory, Text, put_int};
 use cif_io::{Sink, SinkErr, put_all};
 use plc_rows::RowErr;
@@ -55,6 +55,21 @@ fn with_number(alloc: Global, head: &[u8], number: u32) -> Result<Text, Memory>
     joined(alloc, &[head, number.as_slice()])
 }
 
+/// A refusal with two such fields.
+fn with_numbers(
+    alloc: Global,
+    head: &[u8],
+    number: u32,
+    between: &[u8],
+    other: u32,
+) -> Result<Text, Memory>
+    ensures { IfOk result (λ text. text ≡ lines.with_numbers head.now number between.now other) }
+{
+    let number = decimal_text(alloc, number as i64)?;
+    let other = decimal_text(alloc, other as i64)?;
+    joined(alloc, &[head, number.as_slice(), between, other.as_slice()])
+}
+
 fn refusal_text(alloc: Global, why: Refusal) -> Result<Text, Memory>
     ensures { IfOk result (λ text. text ≡ lines.refusal_text why) }
 {
@@ -63,7 +78,35 @@ fn refusal_text(alloc: Global, why: Refusal) -> Result<Text, Memory>
         Refusal::NumberTooBig { at } => with_number(alloc, b"2 NumberTooBig at ", at),
         Refusal::OpenComment { at } => with_number(alloc, b"3 OpenComment at ", at),
         Refusal::NotRead { at } => with_number(alloc, b"4 NotRead at ", at),
+        Refusal::Unknown { at } => with_number(alloc, b"5 Unknown at ", at),
+        Refusal::Duplicate { at, first } => {
+            with_numbers(alloc, b"6 Duplicate at ", at, b" first ", first)
+        }
+        Refusal::WrongKind { at } => with_number(alloc, b"7 WrongKind at ", at),
+        Refusal::DefinitionCycle { at } => with_number(alloc, b"8 DefinitionCycle at ", at),
+        Refusal::Initials { at, count } => {
+            with_numbers(alloc, b"11 Initials at ", at, b" count ", count)
+        }
+        Refusal::AlphabetLacks { at } => with_number(alloc, b"14 AlphabetLacks at ", at),
+        Refusal::TooManyObjects { count } => {
+            with_number(alloc, b"17 TooManyObjects count ", count)
+        }
+        Refusal::TooLarge { nodes, depth } => {
+            with_numbers(alloc, b"24 TooLarge nodes ", nodes, b" depth ", depth)
+        }
         Refusal::NotBuilt { at } => with_number(alloc, b"30 NotBuilt at ", at),
+    }
+}
+
+/// Why no program is written; an event is told by its path.
+fn profile_text(alloc: Global, path: &[u8], why: ProfileWhy) -> Result<Text, Memory>
+    ensures { IfOk result (λ text. text ≡ lines.profile_text path.now why) }
+{
+    match why {
+        ProfileWhy::TooManyChoices { count } => {
+            with_number(alloc, b"25 TooManyChoices count ", count)
+        }
+        ProfileWhy::Unclassed { event: _ } => joined(alloc, &[b"28 Unclassed event ", path]),
     }
 }
 
@@ -112,29 +155,14 @@ fn st_refusal_text(alloc: Global, variable: &[u8], why: StRefusal) -> Result<Tex
     }
 }
 
-/// A cell that breaks a rule.
-fn cell_text(alloc: Global, row: u32, column: u32) -> Result<Text, Memory>
-    ensures { IfOk result (λ text. text ≡ lines.row_text (RowErr.Cell row column)) }
-{
-    let row = decimal_text(alloc, row as i64)?;
-    let column = decimal_text(alloc, column as i64)?;
-    joined(
-        alloc,
-        &[
-            b"45 Cell row ",
-            row.as_slice(),
-            b" column ",
-            column.as_slice(),
-        ],
-    )
-}
-
 fn row_text(alloc: Global, error: RowErr) -> Result<Text, Memory>
     ensures { IfOk result (λ text. text ≡ lines.row_text error) }
 {
     match error {
         RowErr::Header { column } => with_number(alloc, b"44 Header column ", column),
-        RowErr::Cell { row, column } => cell_text(alloc, row, column),
+        RowErr::Cell { row, column } => {
+            with_numbers(alloc, b"45 Cell row ", row, b" column ", column)
+        }
         RowErr::RowLength { row } => with_number(alloc, b"46 RowLength row ", row),
         RowErr::TooManyRows { count } => with_number(alloc, b"47 TooManyRows count ", count),
         RowErr::Memory => Ok(Text::new(alloc)),
@@ -211,7 +239,7 @@ fn too_big_line(alloc: Global, name: &[u8], most: u32) -> Result<Text, Memory>
     )
 }
 
-/// The line of a status that tells of a variable of this name, if it tells of one; none after `Done`.
+/// The line of a status that tells of a variable or an event of this name, if it tells of one; none after `Done`.
 fn line(
     alloc: Global,
     words: &[String],
@@ -233,6 +261,10 @@ fn line(
         Status::TooBig { word: k } => too_big_line(alloc, word(words, k), limit),
         Status::Refused { why } => {
             let what = refusal_text(alloc, why)?;
+            file_line(alloc, word(words, 1), what.as_slice())
+        }
+        Status::OutsideProfile { why } => {
+            let what = profile_text(alloc, variable, why)?;
             file_line(alloc, word(words, 1), what.as_slice())
         }
         Status::StRefused { why } => {
