@@ -8,6 +8,3 @@ pub mod BareLaws
 pub mod NetLaws
 pub mod KeptLaws
 pub mod PlainLaws
-pub mod FaceLaws
-pub mod ProgramLaws
-pub mod Rows

@@ -1,8 +1,6 @@
 //! The laws of the definitions, each the contract of a function without a body.
 
 ghost use Rattle.std.specs.Prelude.{◌≡◌, true};
-ghost use Rattle.plc_emit.specs.Faces.{face_of_net};
-ghost use Rattle.plc_emit.specs.Makes.{is_dataless};
 ghost use Rattle.cif_model.specs.Facts.{is_net};
 ghost use Rattle.cif_model.specs.Rules.{is_plain};
 ghost use Rattle.cif_source.specs.Source.{Source};
@@ -11,7 +9,6 @@ ghost use Rattle.cif_image.specs.Flat.{net_of_source};
 ghost use Rattle.cif_image.specs.WellFormed.{Refusal, Broken, KeepsBefore, kinds, instances, algebraic, choices};
 ghost use Rattle.cif_flat.specs.Kept.{KeepsOthers, KeepsNames, KeepsInitials, KeepsObjects, KeepsSize, KeepsChoices};
 ghost use Rattle.cif_flat.specs.Bare.{IsBareNet};
-ghost use Rattle.cif_flat.specs.Shown.{face_of};
 
 /// A source of the forms built so far breaks no rule that is about another form.
 pub fn flat_keeps_others()
@@ -57,14 +54,4 @@ pub fn flat_net_is_bare()
 pub fn flat_net_is_plain()
     ensures { (t : Source) → is_flat t ≡ true → KeepsSize t → is_net (net_of_source t) ≡ true →
         is_plain (net_of_source t) ≡ true }
-{}
-
-/// The program of that net has no data to speak of.
-pub fn flat_net_is_dataless()
-    ensures { (t : Source) → is_flat t ≡ true → is_dataless (net_of_source t) ≡ true }
-{}
-
-/// The net of a source shows what the source shows.
-pub fn net_shows_the_same()
-    ensures { (t : Source) → face_of_net (net_of_source t) ≡ face_of t }
 {}

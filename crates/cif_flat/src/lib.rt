@@ -1,5 +1,5 @@
-//! What a CIF source of the forms that are built so far keeps by its form, what its net looks like, and what the program of a
-//! source shows, as definitions for the crates above and the laws that these have.
+//! What a CIF source of the forms that are built so far keeps by its form, and what its net looks like, as definitions for the
+//! crates above and the laws that these have.
 #![tactic(auto)]
 
 mod laws;
@@ -7,5 +7,5 @@ mod laws;
 pub use laws::{
     flat_keeps_all, flat_keeps_before_algebraic, flat_keeps_before_choices,
     flat_keeps_before_instances, flat_keeps_before_kinds, flat_keeps_others, flat_net_is_bare,
-    flat_net_is_dataless, flat_net_is_plain, net_shows_the_same,
+    flat_net_is_plain,
 };

@@ -4,7 +4,7 @@ use Rattle.std.specs.Prelude.{codes, false, neg_ℤ}
 use Rattle.st_ast.specs.declared.tree.StTy.TheVariants as st
 use Rattle.cif_source.proofs.Rows.{two_classes, counter}
 use Rattle.cif_image.proofs.Trees.{channel, cube}
-use Rattle.cif_flat.specs.Shown.{face_of}
+use Rattle.cif_generate.specs.Shown.{face_of}
 
 -- an automaton of two places, which starts in the first
 two_places_are_shown : face_of two_classes ≡ record { automata = record { path = codes "A"; places = 2; first = 0 } ∷ []; variables = []; inputs = []; algs = [] }
