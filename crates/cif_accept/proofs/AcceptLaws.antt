@@ -5,14 +5,15 @@ use Rattle.grammar.specs.Pieces.{Text}
 use Rattle.cif_io.specs.Faults.{Rose}
 use Rattle.cif_run.specs.declared.status.Status.{Status}
 use Rattle.cif_run.specs.declared.status.Status.TheVariants as status
+use Rattle.cif_run.specs.declared.status.ProfileWhy.TheVariants as profile
 use Rattle.cif_run.specs.declared.status.Refusal.{Refusal}
 use Rattle.cif_run.specs.declared.ended.Ended.{Ended}
 use Rattle.cif_run.specs.Groups.{group_of, judged, IsUnlessMemory}
-use Rattle.cif_run.specs.Works.{Comes, Content, Failed, Holds, Input, IsLonger, Overlong, Reading, StopsIn, Unread, Writing}
-use Rattle.cif_run.proofs.CallLaws.{answers, came_how, ended_so, finished}
-use Rattle.cif_accept.specs.Built.{Built, IsRefused, ReadsAsBuilt}
-use Rattle.cif_accept.specs.Accepts.{FileRefused, SourceEnds, SourceIs, SourceRefused, silent_work, source_input, source_limit, source_work}
-use Rattle.cif_accept.proofs.SourceLaws.{refused_reads_none}
+use Rattle.cif_run.specs.Works.{Comes, Content, Failed, Holds, Input, IsLonger, Overlong, Reading, StopsIn, Unread, Work, Writing}
+use Rattle.cif_run.proofs.CallLaws.{IsWithin, answers, came_how, ended_so, finished}
+use Rattle.cif_accept.specs.Built.{Built, HasTooMany, IsRefused, ReadsAsBuilt}
+use Rattle.cif_accept.specs.Accepts.{BuiltEnds, FileRefused, SourceEnds, SourceHas, SourceHasTooMany, SourceIs, SourceRefused, no_ends, silent_work, source_input, source_limit, source_work}
+use Rattle.cif_accept.proofs.SourceLaws.{one_built, refused_reads_none, too_many_none}
 
 -- ---- the reader
 
@@ -20,31 +21,68 @@ use Rattle.cif_accept.proofs.SourceLaws.{refused_reads_none}
 pub source_stops : (content : Content) (file bytes : Text) → Holds (content file) bytes → length bytes ≤ source_limit → (c : Reading) (e : Ended) (s : Status)
     → e.status ≡ s → SourceEnds bytes s → StopsIn (silent_work content file) c e (group_of s)
 source_stops content file bytes holds short c e (status.Refused why) is h =
-    subst (λ t. FileRefused content file t e.variable) (sym is) (bytes, holds, short, h)
+    inl (subst (FileRefused content file) (sym is) (bytes, holds, short, h))
+source_stops content file bytes holds short c e (status.OutsideProfile (profile.TooManyChoices count)) is h =
+    inl (subst (FileRefused content file) (sym is) (bytes, holds, short, h))
+source_stops content file bytes holds short c e (status.OutsideProfile (profile.Unclassed event)) is h = absurd h
 source_stops content file bytes holds short c e status.Memory is h = tt
 source_stops content file bytes holds short c e _ is h = absurd h
 
+-- a command over the source may end as one that writes nothing
+pub silent_within : (content : Content) (file : Text) (P : Built → Text → Type 0) (E : BuiltEnds) → IsWithin (silent_work content file) (source_work content file P E)
+silent_within content file P E = record {
+  asks = λ i h. h;
+  writes = λ text h. absurd h.2;
+  ends = λ s name h. elim h [ inl x ↦ inl x | inr x ↦ absurd x.2 ];
+}
+
 -- ---- the clauses
 
-refused_as : (content : Content) (file : Text) (s : Status) (name : Text) → FileRefused content file s name
-    → (why : Refusal) × (s ≡ status.Refused why) × SourceRefused content file why
-refused_as content file (status.Refused why) name h = (why, refl, h)
-refused_as content file _ name h = absurd h
+-- the statuses by which a source is refused
+abbrev Refuses : Content → Text → Status → Type 0
+Refuses content file s = ((why : Refusal) × (s ≡ status.Refused why) × SourceRefused content file why)
+    ⊎ ((count : ℕ) × (s ≡ status.OutsideProfile (profile.TooManyChoices count)) × SourceHasTooMany content file count)
 
-module _ (file : Text) (P : Built → Text → Type 0) (c : Reading) (o : Writing) (e : Ended) (came : Comes (source_work c.content file P) c o e)
-    (r : Status) (same : IsUnlessMemory r e.status) where
-  pub refused : (why : Refusal) → r ≡ status.Refused why → SourceRefused c.content file why
-  refused why q = ended_so (source_work c.content file P) c o e came r same (status.Refused why) (λ z. cc) refl q
+refused_as : (content : Content) (file : Text) (s : Status) → FileRefused content file s → Refuses content file s
+refused_as content file (status.Refused why) h = inl (why, refl, h)
+refused_as content file (status.OutsideProfile (profile.TooManyChoices count)) h = inr (count, refl, h)
+refused_as content file (status.OutsideProfile (profile.Unclassed event)) h = absurd h
+refused_as content file _ h = absurd h
+
+-- a command tells of what a source is built into by statuses of its own
+pub record TellsItsOwn (E : BuiltEnds) : Type 0 where
+  pub refused : (t : Built) (why : Refusal) (name : Text) → E t (status.Refused why) name → ⊥
+  pub many : (t : Built) (count : ℕ) (name : Text) → E t (status.OutsideProfile (profile.TooManyChoices count)) name → ⊥
+
+module _ (file : Text) (P : Built → Text → Type 0) (E : BuiltEnds) (c : Reading) (o : Writing) (e : Ended)
+    (came : Comes (source_work c.content file P E) c o e) (r : Status) (same : IsUnlessMemory r e.status) where
+  abbrev work : Work
+  work = source_work c.content file P E
+
+  pub refused : TellsItsOwn E → (why : Refusal) → r ≡ status.Refused why → SourceRefused c.content file why
+  refused own why q = elim (ended_so work c o e came r same (status.Refused why) (λ z. cc) refl q) [
+    | inl h ↦ h
+    | inr h ↦ absurd (own.refused h.0 why e.variable h.2)
+  ]
+
+  pub too_many : TellsItsOwn E → (count : ℕ) → r ≡ status.OutsideProfile (profile.TooManyChoices count) → SourceHasTooMany c.content file count
+  too_many own count q = elim (ended_so work c o e came r same (status.OutsideProfile (profile.TooManyChoices count)) (λ z. cc) refl q) [
+    | inl h ↦ h
+    | inr h ↦ absurd (own.many h.0 count e.variable h.2)
+  ]
 
   module _ (bytes : Text) (told : c.content file ≡ Some bytes) (sure : Rose (c.faults file) (c.faults_after file) → ⊥) where
     -- what is known of the file is known of these bytes
     held : (b : Text) → Holds (c.content file) b → b ≡ bytes
     held b h = subst (λ (x : Option Text). IfSome x (λ y. b ≡ y)) told h
 
-    read : (k : ℕ) → Unread (source_work c.content file P) c k → ⊥
+    of_bytes : (Q : Text → Type 0) → SourceHas c.content file Q → Q bytes
+    of_bytes Q h = subst Q (held h.0 h.1) h.3
+
+    read : (k : ℕ) → Unread work c k → ⊥
     read k h = sure (subst (λ (i : Input). Failed c i) h.1 h.3)
 
-    long : (k : ℕ) → Overlong (source_work c.content file P) c k → (k ≡ 1) × (source_limit < length bytes)
+    long : (k : ℕ) → Overlong work c k → (k ≡ 1) × (source_limit < length bytes)
     long k h = (
       sym h.2 ∙ ap (λ (i : Input). i.word) h.1,
       subst (λ (x : Option Text). MatchOption x (source_limit < c.most_after file) (λ b. source_limit < length b)) told
@@ -52,30 +90,75 @@ module _ (file : Text) (P : Built → Text → Type 0) (c : Reading) (o : Writin
     )
 
     pub longer_is_too_big : source_limit < length bytes → IsUnlessMemory r (status.TooBig 1)
-    longer_is_too_big more = came_how (source_work c.content file P) c o e came r same (IsUnlessMemory r (status.TooBig 1)) (λ k h. absurd (read k h))
-        (λ k is h. answers (source_work c.content file P) c o e came r same (status.TooBig 1) (is ∙ ap (λ n. status.TooBig n) (long k h).0))
-        (λ h. let q = refused_as c.content file e.status e.variable h in absurd (not_short q.2.0 (held q.2.0 q.2.1) q.2.2))
-        (λ text h w. absurd (not_short h.1.0 (held h.1.0 h.1.1) h.1.2))
+    longer_is_too_big more = came_how work c o e came r same (IsUnlessMemory r (status.TooBig 1)) (λ k h. absurd (read k h))
+        (λ k is h. answers work c o e came r same (status.TooBig 1) (is ∙ ap (λ n. status.TooBig n) (long k h).0))
+        (λ h. elim h [
+          | inl x ↦ elim (refused_as c.content file e.status x) [
+            | inl q ↦ absurd (not_short (λ b. IsRefused b q.0) q.2)
+            | inr q ↦ absurd (not_short (λ b. HasTooMany b q.0) q.2)
+          ]
+          | inr x ↦ absurd (not_short (λ b. ReadsAsBuilt b x.0) x.1)
+        ])
+        (λ text h w. absurd (not_short (λ b. ReadsAsBuilt b h.0) h.1))
         (λ m. inr m)
       where
-        not_short : (b : Text) → b ≡ bytes → length b ≤ source_limit → ⊥
-        not_short b is short = let also = ap length is in absurd (omega (arith, short, also, more))
+        not_short : (Q : Text → Type 0) → SourceHas c.content file Q → ⊥
+        not_short Q h = let also = ap length (held h.0 h.1) in let short = h.2 in absurd (omega (arith, short, also, more))
 
-    pub other_text_is_refused : length bytes ≤ source_limit → ((t : Built) → ReadsAsBuilt bytes t → ⊥) → ((why : Refusal) × (r ≡ status.Refused why)) ⊎ (r ≡ status.Memory)
-    other_text_is_refused short none = came_how (source_work c.content file P) c o e came r same (((why : Refusal) × (r ≡ status.Refused why)) ⊎ (r ≡ status.Memory))
-        (λ k h. absurd (read k h))
-        (λ k is h. let q = (long k h).1 in absurd (omega (arith, q, short)))
-        (λ h. let q = refused_as c.content file e.status e.variable h in elim (answers (source_work c.content file P) c o e came r same (status.Refused q.0) q.1) [
-          | inl z ↦ inl (q.0, z)
-          | inr z ↦ inr z
-        ])
-        (λ text h w. absurd (none h.0 (subst (λ b. ReadsAsBuilt b h.0) (held h.1.0 h.1.1) h.1.3)))
-        (λ m. inr m)
+    module _ (short : length bytes ≤ source_limit) where
+      not_long : (k : ℕ) → Overlong work c k → ⊥
+      not_long k h = let q = (long k h).1 in absurd (omega (arith, q, short))
 
-    pub built_is_done : length bytes ≤ source_limit → (Rose o.faults o.faults_after → ⊥) → (t : Built) → ReadsAsBuilt bytes t → IsUnlessMemory r status.Done
-    built_is_done short quiet t reads = came_how (source_work c.content file P) c o e came r same (IsUnlessMemory r status.Done) (λ k h. absurd (read k h))
-        (λ k is h. let q = (long k h).1 in absurd (omega (arith, q, short)))
-        (λ h. let q = refused_as c.content file e.status e.variable h in
-        absurd (refused_reads_none bytes q.0 t (subst (λ b. IsRefused b q.0) (held q.2.0 q.2.1) q.2.3) reads))
-        (λ text h w. finished (source_work c.content file P) c o e came r same quiet text e.status refl w)
-        (λ m. inr m)
+      pub other_text_is_refused : ((t : Built) → ReadsAsBuilt bytes t → ⊥)
+          → ((why : Refusal) × (r ≡ status.Refused why)) ⊎ ((count : ℕ) × (r ≡ status.OutsideProfile (profile.TooManyChoices count))) ⊎ (r ≡ status.Memory)
+      other_text_is_refused none =
+          came_how work c o e came r same (((why : Refusal) × (r ≡ status.Refused why)) ⊎ ((count : ℕ) × (r ≡ status.OutsideProfile (profile.TooManyChoices count))) ⊎ (r ≡ status.Memory))
+          (λ k h. absurd (read k h))
+          (λ k is h. absurd (not_long k h))
+          (λ h. elim h [
+            | inl x ↦ elim (refused_as c.content file e.status x) [
+              | inl q ↦ elim (answers work c o e came r same (status.Refused q.0) q.1) [ inl z ↦ inl (q.0, z) | inr z ↦ inr (inr z) ]
+              | inr q ↦ elim (answers work c o e came r same (status.OutsideProfile (profile.TooManyChoices q.0)) q.1) [ inl z ↦ inr (inl (q.0, z)) | inr z ↦ inr (inr z) ]
+            ]
+            | inr x ↦ absurd (none x.0 (of_bytes (λ b. ReadsAsBuilt b x.0) x.1))
+          ])
+          (λ text h w. absurd (none h.0 (of_bytes (λ b. ReadsAsBuilt b h.0) h.1)))
+          (λ m. inr (inr m))
+
+      module _ (t : Built) (reads : ReadsAsBuilt bytes t) where
+        not_refused : FileRefused c.content file e.status → ⊥
+        not_refused x = elim (refused_as c.content file e.status x) [
+          | inl q ↦ refused_reads_none bytes t reads q.0 (of_bytes (λ b. IsRefused b q.0) q.2)
+          | inr q ↦ too_many_none bytes t reads q.0 (of_bytes (λ b. HasTooMany b q.0) q.2)
+        ]
+
+        this : (u : Built) → SourceIs c.content file u → u ≡ t
+        this u h = one_built bytes u t (of_bytes (λ b. ReadsAsBuilt b u) h) reads
+
+        -- a source that is built has its text, or the command tells of it
+        pub of_built : (B : Type 0) → (E t e.status e.variable → B) → ((text : Text) → P t text → (Rose o.faults o.faults_after → ⊥) → IsUnlessMemory r status.Done → B)
+            → (Rose o.faults o.faults_after → ⊥) → (r ≡ status.Memory → B) → B
+        of_built B ends wrote quiet memory = came_how work c o e came r same B
+            (λ k h. absurd (read k h))
+            (λ k is h. absurd (not_long k h))
+            (λ h. elim h [
+              | inl x ↦ absurd (not_refused x)
+              | inr x ↦ ends (subst (λ u. E u e.status e.variable) (this x.0 x.1) x.2)
+            ])
+            (λ text h w. wrote text (subst (λ u. P u text) (this h.0 h.1) h.2) quiet (finished work c o e came r same quiet text e.status refl w))
+            memory
+
+        pub built_is_done : (Rose o.faults o.faults_after → ⊥) → ((s : Status) (name : Text) → E t s name → ⊥) → IsUnlessMemory r status.Done
+        built_is_done quiet none = of_built (IsUnlessMemory r status.Done) (λ h. absurd (none e.status e.variable h)) (λ text p q d. d) quiet (λ m. inr m)
+
+        -- what has no text is told by the command, whether the output fails or not
+        pub told_of : (B : Type 0) → (E t e.status e.variable → B) → ((text : Text) → P t text → ⊥) → (r ≡ status.Memory → B) → B
+        told_of B ends none memory = came_how work c o e came r same B
+            (λ k h. absurd (read k h))
+            (λ k is h. absurd (not_long k h))
+            (λ h. elim h [
+              | inl x ↦ absurd (not_refused x)
+              | inr x ↦ ends (subst (λ u. E u e.status e.variable) (this x.0 x.1) x.2)
+            ])
+            (λ text h w. absurd (none text (subst (λ u. P u text) (this h.0 h.1) h.2)))
+            memory

@@ -1,16 +1,10 @@
--- A text reads as what is computed from it: its tokens, the tree of these, and the plant of that.
+-- A text has the tokens that are computed from it.
 use Rattle.std.proofs.Common.{◌≡◌, ℕ, zero, suc, ◌-◌, List, [], ◌∷◌, ◌++◌, length, Option, Some, None, Ok, Err, refl, subst}
 use Rattle.grammar.specs.Pieces.{Text}
 use Rattle.cif_lex.specs.declared.token.Token.{Token}
 use Rattle.cif_lex.specs.Tokens.{Tokens}
 use Rattle.cif_lex.specs.Cutting.{Found, found_of}
 use Rattle.cif_lex.proofs.StepLaws.{Taken, taken_none, taken_skip, taken_token, taken_all}
-use Rattle.cif_ast.specs.declared.components.Spec.{Spec}
-use Rattle.cif_parse.specs.Reading.{specification_at}
-use Rattle.cif_parse.proofs.Whole.{tree_read}
-use Rattle.cif_form.specs.Whole.{plant_in}
-use Rattle.cif_form.proofs.Whole.{built_has_form}
-use Rattle.cif_accept.specs.Built.{Built, ReadsAsBuilt}
 
 -- ---- tokens
 
@@ -44,24 +38,3 @@ tokens_go_on (suc n) text (b ∷ rest) tokens all t e = go (found_of (b ∷ rest
 
 pub computed_tokens : {text : Text} {tokens : List Token} → tokens_in text ≡ Some tokens → Tokens text tokens
 computed_tokens {text = text} {tokens = tokens} e = tokens_go_on (length text) text text [] tokens (taken_none text) e
-
--- ---- what is built
-
-abbrev built_of : Option Spec → Option Built
-built_of None = None
-built_of (Some tree) = plant_in tree
-
-abbrev built_from : Text → Option (List Token) → Option Built
-built_from text None = None
-built_from text (Some tokens) = built_of (specification_at text tokens)
-
-pub computed_reads : {text : Text} {p : Built} → built_from text (tokens_in text) ≡ Some p → ReadsAsBuilt text p
-computed_reads {text = text} {p = p} e = of_tokens (tokens_in text) refl e
-  where
-    of_tree : (tokens : List Token) → Tokens text tokens → (o : Option Spec) → specification_at text tokens ≡ o → built_of o ≡ Some p → ReadsAsBuilt text p
-    of_tree tokens are None is g = absurd cc
-    of_tree tokens are (Some tree) is g = record { tree = tree; read = tree_read text tokens tree are is; form = built_has_form tree (Ok p) g }
-
-    of_tokens : (o : Option (List Token)) → tokens_in text ≡ o → built_from text o ≡ Some p → ReadsAsBuilt text p
-    of_tokens None is g = absurd cc
-    of_tokens (Some tokens) is g = of_tree tokens (computed_tokens is) (specification_at text tokens) refl g

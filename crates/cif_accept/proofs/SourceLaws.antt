@@ -1,43 +1,116 @@
--- Why a source reads as nothing that is built, by the error that its reader gave.
-use Rattle.std.proofs.Common.{◌≡◌, sym, subst}
+-- Why a source is not loaded, by the status, and that a text that is refused reads as nothing that is built.
+use Rattle.std.proofs.Common.{◌≡◌, ℕ, true, false, refl, sym, ◌∙◌, ap, subst}
 use Rattle.grammar.specs.Pieces.{Text}
-use Rattle.cif_lex.specs.Tokens.{RefusalDue}
 use Rattle.cif_lex.specs.declared.error.LexErr.{LexErr}
 use Rattle.cif_lex.specs.declared.error.LexErr.TheVariants as lex
 use Rattle.cif_lex.proofs.TokenLaws.{refused_has_none}
-use Rattle.cif_parse.specs.Grammar.{ParseRefusalDue}
 use Rattle.cif_parse.specs.declared.error.ParseErr.{ParseErr}
 use Rattle.cif_parse.specs.declared.error.ParseErr.TheVariants as parse
 use Rattle.cif_parse.proofs.Whole.{reads_one}
-use Rattle.cif_form.specs.Source.{HasForm}
+use Rattle.cif_system.proofs.Lists.{false-true}
+use Rattle.cif_scope.specs.declared.error.ScopeErr.{ScopeErr}
+use Rattle.cif_scope.specs.declared.error.ScopeErr.TheVariants as scope
+use Rattle.cif_types.specs.declared.error.TypeErr.{TypeErr}
+use Rattle.cif_types.specs.declared.error.TypeErr.TheVariants as type
+use Rattle.cif_inst.specs.declared.error.InstErr.{InstErr}
+use Rattle.cif_inst.specs.declared.error.InstErr.TheVariants as inst
+use Rattle.cif_alg.specs.declared.error.AlgErr.{AlgErr}
+use Rattle.cif_alg.specs.declared.error.AlgErr.TheVariants as alg
+use Rattle.cif_lin.specs.declared.error.LinErr.{LinErr}
+use Rattle.cif_lin.specs.declared.error.LinErr.TheVariants as lin
+use Rattle.cif_source.specs.Source.{source_of}
+use Rattle.cif_image.specs.Built.{is_flat}
+use Rattle.cif_image.specs.WellFormed as rule
+use Rattle.cif_image.specs.WellFormed.{Broken}
+use Rattle.cif_front.specs.Dues.{IsDue, LexDue, ParseDue, HasRule, SourceDue, scope_rule, type_rule, inst_rule, alg_rule, lin_rule}
+use Rattle.cif_front.specs.declared.refusal.Refusal.{Refusal as Unloaded}
+use Rattle.cif_front.specs.declared.refusal.Refusal.TheVariants as front
 use Rattle.cif_run.specs.declared.status.Status.{Status}
 use Rattle.cif_run.specs.declared.status.Refusal.{Refusal}
 use Rattle.cif_run.specs.declared.status.Refusal.TheVariants as refusal
-use Rattle.cif_accept.specs.Built.{Built, IsRefused, ReadsAsBuilt}
+use Rattle.cif_accept.specs.Built.{Built, HasTooMany, IsRefused, ReadsAsBuilt}
 use Rattle.cif_accept.specs.Accepts.{SourceEnds}
-use Rattle.cif_accept.specs.Refusals.{lex_status_of, parse_status_of}
+use Rattle.cif_accept.specs.Refusals.{lex_status_of, parse_status_of, scope_status_of, type_status_of, inst_status_of, alg_status_of, lin_status_of, status_of}
 
-lex_due : (text : Text) (e : LexErr) → RefusalDue text e → SourceEnds text (lex_status_of e)
-lex_due text (lex.BadByte at) h = h
-lex_due text (lex.NumberTooBig at) h = h
-lex_due text (lex.OpenComment at) h = h
-lex_due text lex.Memory h = tt
+-- ---- statuses
 
-pub lex_ends : (text : Text) (e : LexErr) (s : Status) → s ≡ lex_status_of e → RefusalDue text e → SourceEnds text s
-lex_ends text e s is h = subst (SourceEnds text) (sym is) (lex_due text e h)
+module _ (text : Text) where
+  lex_ends : (e : LexErr) → LexDue text e → SourceEnds text (lex_status_of e)
+  lex_ends (lex.BadByte at) h = h
+  lex_ends (lex.NumberTooBig at) h = h
+  lex_ends (lex.OpenComment at) h = h
+  lex_ends lex.Memory h = absurd h
 
-parse_due : (text : Text) (e : ParseErr) → ParseRefusalDue text e → SourceEnds text (parse_status_of e)
-parse_due text (parse.NotRead at) h = h
-parse_due text parse.Memory h = tt
+  parse_ends : (e : ParseErr) → ParseDue text e → SourceEnds text (parse_status_of e)
+  parse_ends (parse.NotRead at) h = h
+  parse_ends parse.Memory h = absurd h
 
-pub parse_ends : (text : Text) (e : ParseErr) (s : Status) → s ≡ parse_status_of e → ParseRefusalDue text e → SourceEnds text s
-parse_ends text e s is h = subst (SourceEnds text) (sym is) (parse_due text e h)
+  scope_ends : (e : ScopeErr) → HasRule (SourceDue text) (scope_rule e) → SourceEnds text (scope_status_of e)
+  scope_ends (scope.Unknown at) h = h
+  scope_ends (scope.Duplicate at first) h = h
+  scope_ends (scope.WrongKind at) h = h
+  scope_ends (scope.DefinitionCycle at) h = h
+  scope_ends scope.Memory h = absurd h
 
--- a text that is refused reads as nothing that is built
-pub refused_reads_none : (text : Text) (why : Refusal) (p : Built) → IsRefused text why → ReadsAsBuilt text p → ⊥
-refused_reads_none text (refusal.BadByte at) p h reads = refused_has_none text (lex.BadByte at) h (λ e. cc) reads.read.tokens reads.read.are_tokens
-refused_reads_none text (refusal.NumberTooBig at) p h reads = refused_has_none text (lex.NumberTooBig at) h (λ e. cc) reads.read.tokens reads.read.are_tokens
-refused_reads_none text (refusal.OpenComment at) p h reads = refused_has_none text (lex.OpenComment at) h (λ e. cc) reads.read.tokens reads.read.are_tokens
-refused_reads_none text (refusal.NotRead at) p h reads = h.no_tree reads.tree reads.read
-refused_reads_none text (refusal.NotBuilt at) p h reads =
-    h.no_plant p (subst (λ tree. HasForm tree p) (reads_one text reads.tree h.tree reads.read h.read) reads.form)
+  type_ends : (e : TypeErr) → HasRule (SourceDue text) (type_rule e) → SourceEnds text (type_status_of e)
+  type_ends (type.Initials at count) h = h
+  type_ends type.Memory h = absurd h
+
+  inst_ends : (e : InstErr) → HasRule (SourceDue text) (inst_rule e) → SourceEnds text (inst_status_of e)
+  inst_ends (inst.AlphabetLacks at) h = h
+  inst_ends (inst.TooManyObjects count) h = h
+  inst_ends inst.Memory h = absurd h
+
+  alg_ends : (e : AlgErr) → HasRule (SourceDue text) (alg_rule e) → SourceEnds text (alg_status_of e)
+  alg_ends (alg.TooLarge nodes depth) h = h
+  alg_ends alg.Memory h = absurd h
+
+  lin_ends : (e : LinErr) → HasRule (SourceDue text) (lin_rule e) → SourceEnds text (lin_status_of e)
+  lin_ends (lin.TooManyChoices count) h = h
+  lin_ends lin.Memory h = absurd h
+
+  ends : (e : Unloaded) → IsDue text e → SourceEnds text (status_of e)
+  ends (front.Lex e) h = lex_ends e h
+  ends (front.Parse e) h = parse_ends e h
+  ends (front.NotBuilt at) h = h
+  ends (front.Scope e) h = scope_ends e h
+  ends (front.Types e) h = type_ends e h
+  ends (front.Inst e) h = inst_ends e h
+  ends (front.Alg e) h = alg_ends e h
+  ends (front.Lin e) h = lin_ends e h
+  ends front.Memory h = tt
+
+pub due_ends : (text : Text) (e : Unloaded) (s : Status) → s ≡ status_of e → IsDue text e → SourceEnds text s
+due_ends text e s is h = subst (SourceEnds text) (sym is) (ends text e h)
+
+-- ---- a text that is refused reads as nothing that is built
+
+module _ (text : Text) (t : Built) (reads : ReadsAsBuilt text t) where
+  pub source_keeps : (r : rule.Refusal) → SourceDue text r → ⊥
+  source_keeps r h =
+      let same : source_of reads.tree ≡ source_of h.tree = ap source_of (reads_one text reads.tree h.tree reads.read h.read) in
+      reads.keeps r (subst (λ u. Broken u r) (sym (reads.is ∙ same)) h.due.broken)
+
+  pub too_many_none : (count : ℕ) → HasTooMany text count → ⊥
+  too_many_none count h = source_keeps (rule.too_many_choices count) h
+
+  pub refused_reads_none : (why : Refusal) → IsRefused text why → ⊥
+  refused_reads_none (refusal.BadByte at) h = refused_has_none text (lex.BadByte at) h (λ e. cc) reads.read.tokens reads.read.are_tokens
+  refused_reads_none (refusal.NumberTooBig at) h = refused_has_none text (lex.NumberTooBig at) h (λ e. cc) reads.read.tokens reads.read.are_tokens
+  refused_reads_none (refusal.OpenComment at) h = refused_has_none text (lex.OpenComment at) h (λ e. cc) reads.read.tokens reads.read.are_tokens
+  refused_reads_none (refusal.NotRead at) h = h.no_tree reads.tree reads.read
+  refused_reads_none (refusal.NotBuilt at) h =
+      let same : source_of reads.tree ≡ source_of h.tree = ap source_of (reads_one text reads.tree h.tree reads.read h.read) in
+      false-true h.other (sym (ap is_flat (reads.is ∙ same)) ∙ reads.built)
+  refused_reads_none (refusal.Unknown at) h = source_keeps (rule.unknown at) h
+  refused_reads_none (refusal.Duplicate at first) h = source_keeps (rule.duplicate at first) h
+  refused_reads_none (refusal.WrongKind at) h = source_keeps (rule.wrong_kind at) h
+  refused_reads_none (refusal.DefinitionCycle at) h = source_keeps (rule.definition_cycle at) h
+  refused_reads_none (refusal.Initials at count) h = source_keeps (rule.initials at count) h
+  refused_reads_none (refusal.AlphabetLacks at) h = source_keeps (rule.alphabet_lacks at) h
+  refused_reads_none (refusal.TooManyObjects count) h = source_keeps (rule.too_many_objects count) h
+  refused_reads_none (refusal.TooLarge nodes depth) h = source_keeps (rule.too_large nodes depth) h
+
+-- a text reads as one source at most
+pub one_built : (text : Text) (t u : Built) → ReadsAsBuilt text t → ReadsAsBuilt text u → t ≡ u
+one_built text t u h g = h.is ∙ ap source_of (reads_one text h.tree g.tree h.read g.read) ∙ sym g.is

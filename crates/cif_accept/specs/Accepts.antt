@@ -1,11 +1,15 @@
 -- What a command over one source does.
-use Rattle.std.specs.Prelude.{◌≡◌, ℕ, ◌≤◌, length}
+use Rattle.std.specs.Prelude.{◌≡◌, ◌⊎◌, ℕ, ◌≤◌, length}
 use Rattle.grammar.specs.Pieces.{Text}
 use Rattle.cif_run.specs.declared.status.Status.{Status}
 use Rattle.cif_run.specs.declared.status.Status.TheVariants as status
+use Rattle.cif_run.specs.declared.status.ProfileWhy.TheVariants as profile
 use Rattle.cif_run.specs.declared.status.Refusal.{Refusal}
 use Rattle.cif_run.specs.Works.{Content, Holds, Input, Work}
-use Rattle.cif_accept.specs.Built.{Built, ReadsAsBuilt, IsRefused}
+use Rattle.cif_net.specs.declared.guarded.Guarded.{Guarded}
+use Rattle.cif_net.specs.View.{net_tree}
+use Rattle.cif_image.specs.Represents.{Represents}
+use Rattle.cif_accept.specs.Built.{Built, ReadsAsBuilt, IsRefused, HasTooMany}
 
 -- the most bytes of a source
 abbrev pub source_limit : ℕ
@@ -15,33 +19,54 @@ source_limit = 4194304
 abbrev pub source_input : Text → Input
 source_input file = record { word = 1; name = file; limit = source_limit }
 
--- the file holds a source that is short enough and refused for this cause
-abbrev pub SourceRefused : Content → Text → Refusal → Type 0
-SourceRefused content file why = (bytes : Text) × Holds (content file) bytes × (length bytes ≤ source_limit) × IsRefused bytes why
+-- the file holds a text that is short enough, and that is so of it
+abbrev pub SourceHas : Content → Text → (Text → Type 0) → Type 0
+SourceHas content file P = (bytes : Text) × Holds (content file) bytes × (length bytes ≤ source_limit) × P bytes
 
--- the file holds a source that is short enough and reads as this
+-- the file holds a source that is refused for this cause
+abbrev pub SourceRefused : Content → Text → Refusal → Type 0
+SourceRefused content file why = SourceHas content file (λ bytes. IsRefused bytes why)
+
+-- the file holds a source with too many choices
+abbrev pub SourceHasTooMany : Content → Text → (count : ℕ) → Type 0
+SourceHasTooMany content file count = SourceHas content file (λ bytes. HasTooMany bytes count)
+
+-- the file holds a source that reads as this
 abbrev pub SourceIs : Content → Text → Built → Type 0
-SourceIs content file t = (bytes : Text) × Holds (content file) bytes × (length bytes ≤ source_limit) × ReadsAsBuilt bytes t
+SourceIs content file t = SourceHas content file (λ bytes. ReadsAsBuilt bytes t)
+
+-- the net is that of the source in the file
+abbrev pub IsLoaded : Content → Text → Guarded → Type 0
+IsLoaded content file g = (t : Built) × SourceIs content file t × Represents (net_tree g.plain.net) t
 
 -- why a source gives nothing, by the status
 abbrev pub SourceEnds : Text → Status → Type 0
 SourceEnds bytes (status.Refused why) = IsRefused bytes why
+SourceEnds bytes (status.OutsideProfile (profile.TooManyChoices count)) = HasTooMany bytes count
 SourceEnds bytes status.Memory = Unit {0}
 SourceEnds bytes _ = ⊥
 
--- how a command over the source in this file may end
-abbrev pub FileRefused : Content → Text → Status → Text → Type 0
-FileRefused content file (status.Refused why) name = SourceRefused content file why
-FileRefused content file _ name = ⊥
+-- how a command over the source in this file may end where that gives nothing
+abbrev pub FileRefused : Content → Text → Status → Type 0
+FileRefused content file (status.Refused why) = SourceRefused content file why
+FileRefused content file (status.OutsideProfile (profile.TooManyChoices count)) = SourceHasTooMany content file count
+FileRefused content file _ = ⊥
 
--- a command that may write these texts of what the source in this file is built into
-abbrev pub source_work : Content → Text → (Built → Text → Type 0) → Work
-source_work content file P = record {
+-- how a command may end over what the source is built into, where the status tells of something of this name
+abbrev pub BuiltEnds : Type 1
+BuiltEnds = Built → Status → Text → Type 0
+
+abbrev pub no_ends : BuiltEnds
+no_ends t s name = ⊥
+
+-- a command that may write these texts of what the source in this file is built into, and end so
+abbrev pub source_work : Content → Text → (Built → Text → Type 0) → BuiltEnds → Work
+source_work content file P E = record {
   asks = λ i. i ≡ source_input file;
   writes = λ text. (t : Built) × SourceIs content file t × P t text;
-  ends = FileRefused content file;
+  ends = λ s name. FileRefused content file s ⊎ ((t : Built) × SourceIs content file t × E t s name);
 }
 
 -- the same of one that writes none
 abbrev pub silent_work : Content → Text → Work
-silent_work content file = source_work content file (λ t text. ⊥)
+silent_work content file = source_work content file (λ t text. ⊥) no_ends

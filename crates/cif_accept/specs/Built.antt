@@ -1,26 +1,17 @@
--- What a source is built into, when it reads as that, and why it does not.
-use Rattle.std.specs.Prelude.{ℕ, ◌≤◌, length}
+-- What a source is built into, and why a text is refused.
+use Rattle.std.specs.Prelude.{ℕ}
 use Rattle.grammar.specs.Pieces.{Text}
 use Rattle.cif_lex.specs.Tokens.{BadByteDue, NumberTooBigDue, OpenCommentDue}
-use Rattle.cif_ast.specs.declared.components.Spec.{Spec}
-use Rattle.cif_parse.specs.Grammar.{Reads as ReadsAsTree, NotReadDue}
-use Rattle.cif_plant.specs.declared.plant.Plant.{Plant}
-use Rattle.cif_form.specs.Source.{HasForm, ReadsAsPlant}
+use Rattle.cif_parse.specs.Grammar.{NotReadDue}
+use Rattle.cif_source.specs.Source.{Source}
+use Rattle.cif_image.specs.WellFormed as rule
+use Rattle.cif_front.specs.Dues.{NotBuiltDue, SourceDue}
 use Rattle.cif_run.specs.declared.status.Refusal.{Refusal}
 use Rattle.cif_run.specs.declared.status.Refusal.TheVariants as refusal
+pub use Rattle.cif_front.specs.Loads.{ReadsAsBuilt}
 
 abbrev pub Built : Type 0
-Built = Plant
-
-abbrev pub ReadsAsBuilt : Text → Built → Type 0
-ReadsAsBuilt text p = ReadsAsPlant text p
-
--- the text's tree is that of no plant, and the place lies in the text
-pub record NotBuiltDue (text : Text) (at : ℕ) : Type 0 where
-  pub tree : Spec
-  pub read : ReadsAsTree text tree
-  pub no_plant : (p : Plant) → HasForm tree p → ⊥
-  pub within : at ≤ length text
+Built = Source
 
 -- why the text reads as nothing that is built
 abbrev pub IsRefused : Text → Refusal → Type 0
@@ -29,3 +20,15 @@ IsRefused text (refusal.NumberTooBig at) = NumberTooBigDue text at
 IsRefused text (refusal.OpenComment at) = OpenCommentDue text at
 IsRefused text (refusal.NotRead at) = NotReadDue text at
 IsRefused text (refusal.NotBuilt at) = NotBuiltDue text at
+IsRefused text (refusal.Unknown at) = SourceDue text (rule.unknown at)
+IsRefused text (refusal.Duplicate at first) = SourceDue text (rule.duplicate at first)
+IsRefused text (refusal.WrongKind at) = SourceDue text (rule.wrong_kind at)
+IsRefused text (refusal.DefinitionCycle at) = SourceDue text (rule.definition_cycle at)
+IsRefused text (refusal.Initials at count) = SourceDue text (rule.initials at count)
+IsRefused text (refusal.AlphabetLacks at) = SourceDue text (rule.alphabet_lacks at)
+IsRefused text (refusal.TooManyObjects count) = SourceDue text (rule.too_many_objects count)
+IsRefused text (refusal.TooLarge nodes depth) = SourceDue text (rule.too_large nodes depth)
+
+-- the choices of all its events are too many
+abbrev pub HasTooMany : Text → (count : ℕ) → Type 0
+HasTooMany text count = SourceDue text (rule.too_many_choices count)

@@ -1,18 +1,36 @@
-//! From the file that should hold a source to what is built of it.
+//! From the file that should hold a source to its net.
 
 ghost use Rattle.std.specs.Prelude.{◌≡◌, ◌≤◌, ℕ, List, length, IfOk, IfErr};
+ghost use Rattle.cif_front.specs.Loads.{Loads};
 ghost use Rattle.cif_run.specs.Works.{Stops, reading};
-ghost use Rattle.cif_accept.specs.Accepts.{SourceIs, silent_work};
+ghost use Rattle.cif_accept.specs.Accepts.{IsLoaded, SourceEnds, silent_work};
 
-use crate::sources::{SOURCE_LIMIT, read_source};
+use crate::refusing::status_of;
+use cif_front::load;
 use cif_io::Files;
-use cif_plant::Plant;
-use cif_run::{Ended, read_file};
+use cif_net::Guarded;
+use cif_run::{Ended, Status, read_file};
 use std::alloc::Global;
 
-/// What the source in the file is built into.
-pub fn accept_file<F: Files>(alloc: Global, file: &str, files: &mut F) -> Result<Plant, Ended>
-    ensures built { IfOk result (SourceIs (F.content files.old) file.now) }
+/// The most bytes of a source.
+pub const SOURCE_LIMIT: u32 = 4_194_304;
+
+/// The net of a source.
+#[tactic(auto, using(crate::proofs::SourceLaws::due_ends))]
+fn net_of(alloc: Global, source: &[u8]) -> Result<Guarded, Status>
+    requires { length source.now ≤ 4194304 }
+    ensures loaded { IfOk result (λ g. Loads source.now g) }
+    ensures ends { IfErr result (λ s. SourceEnds source.now s) }
+{
+    match load(alloc, source) {
+        Ok(net) => Ok(net),
+        Err(refusal) => Err(status_of(refusal)),
+    }
+}
+
+/// The net of the source in the file, with the choices of all events.
+pub fn accept_file<F: Files>(alloc: Global, file: &str, files: &mut F) -> Result<Guarded, Ended>
+    ensures loaded { IfOk result (IsLoaded (F.content files.old) file.now) }
     ensures stops { IfErr result (Stops (silent_work (F.content files.old) file.now)
         (reading (F.content files.old) (F.faults files.old) (F.faults files.new) (F.most files.new))) }
     ensures kept { (n : List ℕ) → F.content files.new n ≡ F.content files.old n }
@@ -23,8 +41,8 @@ pub fn accept_file<F: Files>(alloc: Global, file: &str, files: &mut F) -> Result
         Ok(source) => source,
         Err(ended) => return Err(ended),
     };
-    match read_source(alloc, source.as_slice()) {
-        Ok(plant) => Ok(plant),
+    match net_of(alloc, source.as_slice()) {
+        Ok(net) => Ok(net),
         Err(status) => Err(Ended::plain(alloc, status)),
     }
 }

@@ -2,7 +2,7 @@
 
 use crate::commands::tool_case;
 use crate::laws::laws_case;
-use crate::plants::{emit_case, numbers_case, plant_case};
+use crate::nets::{emit_case, form_case, load_case};
 use crate::scopes::{find_case, scopes_case};
 use crate::sources::{copy_case, source_case};
 use crate::tokens::front_case;
@@ -17,8 +17,8 @@ impl Calls for CifCalls {
         match call {
             "tool" => tool_case(fields, page),
             "laws" => laws_case(page),
-            "plant" => plant_case(fields, page),
-            "numbers" => numbers_case(fields, page),
+            "form" => form_case(fields, page),
+            "load" => load_case(fields, page),
             "emit" => emit_case(fields, page),
             "uses" => uses_case(fields, page),
             "scopes" => scopes_case(fields, page),

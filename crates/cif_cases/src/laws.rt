@@ -1,7 +1,6 @@
 //! The laws of the libraries: functions whose contracts are laws, and which do nothing.
 
 use case_text::Fault;
-use cif_form::{names_are_letters, numbers_name_things, one_plant};
 use cif_lex::{no_tokens_where_refused, one_token_list, spans_rise};
 use cif_parse::one_tree;
 
@@ -11,9 +10,6 @@ pub fn laws_case(page: &mut String) -> Result<(), Fault> {
     no_tokens_where_refused();
     spans_rise();
     one_tree();
-    one_plant();
-    names_are_letters();
-    numbers_name_things();
     page.push_str("  called\n")?;
     Ok(())
 }

@@ -10,7 +10,8 @@
 //!   `parameters`: readers of the front of a CIF source;
 //! - `items`, `automaton`, `location`, `edge`, `choice`, `outline`, `shape`, `tree`, `copy`: the tree of a CIF source: its items,
 //!   the automaton that is the last of them, its first location and the first edge of that; the value of the last declaration;
-//! - `plant`, `numbers`, `emit TEXT | UNC CON`: the plant of a CIF source, and its program;
+//! - `form TEXT`: whether a CIF source has the forms that are built so far; `load TEXT`: its net with the choices of all events and its
+//!   initial state, or why there is none; `emit TEXT | UNC CON`: its program;
 //! - `uses TEXT`: the names that the items of a source write, each with what its position asks for;
 //! - `scopes TEXT`: how many names the scope of each body of a source declares; `find BODY NAME | TEXT`: the instances that a name
 //!   passes in the body with that number, and what it finds, each as the number of a body and that of a name of its scope;
@@ -22,7 +23,7 @@ mod commands;
 mod declarations;
 mod expressions;
 mod laws;
-mod plants;
+mod nets;
 mod scopes;
 mod sources;
 mod tokens;

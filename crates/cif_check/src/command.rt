@@ -4,7 +4,8 @@ ghost use Rattle.std.specs.Prelude.{◌≡◌, ◌≤◌, ◌⊎◌, ℕ, List};
 ghost use Rattle.cif_io.specs.Written.{grown};
 ghost use Rattle.cif_run.specs.Works.{Comes, reading, writing};
 ghost use Rattle.cif_accept.specs.Built.{Built};
-ghost use Rattle.cif_accept.specs.Accepts.{SourceIs, SourceRefused};
+ghost use Rattle.cif_accept.specs.Accepts.{SourceHasTooMany, SourceIs, SourceRefused};
+ghost use Rattle.cif_run.specs.declared.status.ProfileWhy.{ProfileWhy};
 ghost use Rattle.cif_run.specs.declared.status.Refusal.{Refusal};
 ghost use Rattle.cif_check.specs.Checks.{accepted, check_of, check_work};
 
@@ -20,7 +21,7 @@ impl<'a> Command for Check<'a> {
     ghost work = { λ k content. check_work (check_of k) content };
 
     fn text<F: Files>(&self, alloc: Global, files: &mut F) -> Result<Vec<u8>, Ended> {
-        let _built = accept_file(alloc, self.file, files)?;
+        let _net = accept_file(alloc, self.file, files)?;
         match Vec::from_slice(alloc, b"ok\n") {
             Ok(text) => Ok(text),
             Err(_) => Err(Ended::plain(alloc, Status::Memory)),
@@ -28,8 +29,8 @@ impl<'a> Command for Check<'a> {
     }
 }
 
-/// Reads the source (CIF 3 language reference) of the file, and writes `ok` where it is accepted: where it is one plant
-/// automaton without data.
+/// Reads the source (CIF 3 language reference) of the file, and writes `ok` where it has the forms that are built so far and breaks
+/// no rule.
 pub fn check<F: Files, O: Sink>(
     alloc: Global,
     asked: &Check<'_>,
@@ -45,6 +46,8 @@ pub fn check<F: Files, O: Sink>(
     // A source is refused for a cause that it has.
     ensures refused { (why : Refusal) → result.status ≡ Status.Refused why →
         SourceRefused (F.content files.old) asked.now.file.now why }
+    ensures too_many { (count : ℕ) → result.status ≡ Status.OutsideProfile (ProfileWhy.TooManyChoices count) →
+        SourceHasTooMany (F.content files.old) asked.now.file.now count }
     ensures kept { (n : List ℕ) → F.content files.new n ≡ F.content files.old n }
     ensures faults_stay_or_rise { (n : List ℕ) → F.faults files.old n ≤ F.faults files.new n }
     ensures most_stays_or_rises { (n : List ℕ) → F.most files.old n ≤ F.most files.new n }

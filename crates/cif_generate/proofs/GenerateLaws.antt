@@ -1,90 +1,177 @@
--- What `generate` promises: each promise is a law on the printed program, and then one of a call that came to its end, where the
--- answer is the status of that end or want of memory.
-use Rattle.std.proofs.Common.{◌≡◌, ℕ, ◌+◌, ◌≤◌, Option, refl, sym, ap, ◌∙◌, subst, arith}
+-- What `generate` promises: each promise is a law on the printed program of the net of a source, said of the source, and then one
+-- of a call that came to its end, where the answer is the status of that end or want of memory.
+use Rattle.std.proofs.Common.{◌≡◌, ℕ, zero, suc, ◌⊎◌, true, false, List, [], ◌∷◌, map, Option, Some, None, refl, sym, ap, ◌∙◌, subst, inl, inr, length, ◌≤◌, ◌<◌, nat_lt, arith}
+use Rattle.std.specs.Prelude.{slice_get, IsTrue}
+use Rattle.std.proofs.lemmas.Bool.Decides.{nat_tests}
 use Rattle.grammar.specs.Pieces.{Text}
-use Rattle.cif_plant.specs.Numbers.{numbered}
-use Rattle.st_ast.specs.ReadsAs.{ReadsBack}
+use Rattle.cif_io.specs.Faults.{Rose}
+use Rattle.cif_system.specs.System.{System, plain}
+use Rattle.cif_system.specs.Step.{is_of}
+use Rattle.cif_source.specs.Objects.{Declared, events}
+use Rattle.cif_net.specs.View.{net_tree}
+use Rattle.cif_net.specs.declared.guarded.Guarded.{Guarded}
+use Rattle.cif_model.specs.Net.{NetEvent}
+use Rattle.cif_model.specs.Meaning.{system_of_net}
+use Rattle.cif_image.specs.Flat.{net_event, net_of_source}
+use Rattle.cif_image.specs.NetRules.{UnclassedDue}
 use Rattle.st_ast.specs.Tree.{Program}
-use Rattle.st_print.specs.Layout.{printed}
-use Rattle.st_print.proofs.PrintedPrograms.{reads_back}
-use Rattle.plc_face.specs.Face.{HasInterface}
+use Rattle.plc_face.specs.Face.{Face, HasInterface}
 use Rattle.plc_face.specs.Scans.{NeverFaults, RunsFirstSteps, ScansLegally, ScansExactly, ShowsOutputs, StaysTyped}
-use Rattle.plc_gen.specs.Emitted.{program_of}
-use Rattle.cif_plant.specs.declared.numbered.NumberedPlant.{NumberedPlant}
-use Rattle.plc_gen.specs.HasProgram.{HasProgram}
-use Rattle.plc_gen.proofs.Spellings.{program_spelled}
+use Rattle.plc_gen.specs.Faces.{face_of_net}
+use Rattle.plc_gen.specs.Makes.{is_dataless}
 use Rattle.plc_back.specs.Texts.{IsLayoutOf, TheProgram}
+use Rattle.plc_back.specs.Written as written
+use Rattle.plc_back.specs.Written.{IsFirstUnclassed}
 use Rattle.plc_back.proofs.TextLaws as law
 use Rattle.cif_run.specs.declared.status.Status.{Status}
 use Rattle.cif_run.specs.declared.status.Status.TheVariants as status
+use Rattle.cif_run.specs.declared.status.ProfileWhy.TheVariants as profile
 use Rattle.cif_run.specs.declared.ended.Ended.{Ended}
-use Rattle.cif_run.specs.Groups.{IsUnlessMemory}
-use Rattle.cif_run.specs.Works.{Comes, Reading, Writing}
-use Rattle.cif_run.proofs.CallLaws.{written}
-use Rattle.cif_accept.specs.Built.{Built}
+use Rattle.cif_run.specs.Groups.{IsUnlessMemory, group_of}
+use Rattle.cif_run.specs.Works.{Comes, Content, Reading, StopsIn, Writing}
+use Rattle.cif_run.proofs.CallLaws.{answers, ended_so, want, written as wrote}
+use Rattle.cif_accept.specs.Built.{Built, ReadsAsBuilt}
+use Rattle.cif_accept.specs.Accepts.{IsLoaded, SourceIs, source_limit}
+use Rattle.cif_accept.proofs.AcceptLaws.{TellsItsOwn, told_of}
 use Rattle.cif_generate.specs.Words.{Generate}
-use Rattle.cif_generate.specs.Meaning.{IsTextOf, StartsInitial, meant_by, shown_of}
-use Rattle.cif_generate.specs.Generates.{Writes, generate_work}
+use Rattle.cif_generate.specs.Meaning.{AreClassed, IsTextOf, StartsInitial, event_path, meant_by, shown_of}
+use Rattle.cif_generate.specs.Generates.{Writes, generate_work, is_unclassed}
+use Rattle.cif_generate.specs.Told.{IsTold, TellsOf, path_in}
+use Rattle.cif_generate.proofs.FaceLaws.{face-same}
+use Rattle.cif_generate.proofs.ProgramLaws.{flat-dataless}
 
 -- ---- texts
 
--- the text of the numbered plant is that of what the source is built into
-pub is_text : (t : Built) (n : NumberedPlant) (U C : ℕ) (text : Text) → n ≡ numbered t → HasProgram n U C → U + C ≤ 20000 → text ≡ printed (program_of n U C)
-    → IsTextOf U C t text
-is_text t n U C text is has few e = record {
-  has = subst (λ m. HasProgram m U C) is has;
-  turns = omega (arith, few);
-  is = e ∙ ap (λ m. printed (program_of m U C)) is;
-}
-
--- what is so of the program that a text reads as
-part_of : (text : Text) (P Q : Program → Type 0) → ((p : Program) → P p → Q p) → TheProgram text P → TheProgram text Q
-part_of text P Q f h = (h.0, h.1, f h.0 h.2, h.3)
-
 module _ (U C : ℕ) (t : Built) (text : Text) (h : IsTextOf U C t text) where
-  abbrev shown : Text
-  shown = printed (program_of (numbered t) U C)
-
-  -- the printed program reads back
-  back : ReadsBack shown (program_of (numbered t) U C)
-  back = reads_back (program_of (numbered t) U C) (program_spelled (numbered t) U C h.has)
-
-  -- what is so of the printed program is so of the text
-  so : (P : Text → Type 0) → P (printed (program_of (numbered t) U C)) → P text
-  so P is = subst P (sym h.is) is
+  -- what is so over what the net shows and means is so over what the source does
+  over : (P : Face → System → Program → Type 0) → TheProgram text (P (face_of_net (net_of_source t)) (system_of_net (net_of_source t)))
+      → TheProgram text (P (shown_of t) (meant_by t))
+  over P x =
+      subst (λ f. TheProgram text (P f (meant_by t))) (face-same t)
+      (subst (λ s. TheProgram text (P (face_of_net (net_of_source t)) s)) h.meaning x)
 
   pub program : TheProgram text (HasInterface (shown_of t))
-  program = so (λ x. TheProgram x (HasInterface (shown_of t))) (part_of _ _ (HasInterface (shown_of t)) (λ p q. q.0) (law.is_program_of (numbered t) U C h.has shown back))
+  program = over (λ f s. HasInterface f) (law.has_interface (net_of_source t) U C text h.of_net)
 
   pub starts_initial : TheProgram text (StartsInitial (shown_of t) (meant_by t))
-  starts_initial = so (λ x. TheProgram x (StartsInitial (shown_of t) (meant_by t)))
-      (part_of _ _ (StartsInitial (shown_of t) (meant_by t)) (λ p q. q.1) (law.is_program_of (numbered t) U C h.has shown back))
+  starts_initial = over StartsInitial (law.starts_initial (net_of_source t) U C text h.of_net)
 
   pub runs_first_steps : TheProgram text (RunsFirstSteps (shown_of t) (meant_by t))
-  runs_first_steps = so (λ x. TheProgram x (RunsFirstSteps (shown_of t) (meant_by t))) (law.runs_first_steps (numbered t) U C h.has shown back h.turns)
+  runs_first_steps = over RunsFirstSteps (law.runs_first_steps (net_of_source t) U C text h.of_net)
 
   pub never_faults : TheProgram text (NeverFaults (meant_by t))
-  never_faults = so (λ x. TheProgram x (NeverFaults (meant_by t))) (law.never_faults (numbered t) U C h.has shown back h.turns)
+  never_faults = over (λ f s. NeverFaults s) (law.never_faults (net_of_source t) U C text h.of_net)
 
   pub scans_legally : TheProgram text (ScansLegally U C (shown_of t) (meant_by t))
-  scans_legally = so (λ x. TheProgram x (ScansLegally U C (shown_of t) (meant_by t))) (law.scans_legally (numbered t) U C h.has shown back h.turns)
+  scans_legally = over (ScansLegally U C) (law.scans_legally (net_of_source t) U C text h.of_net)
 
   pub scans_exactly : TheProgram text (ScansExactly U C (shown_of t) (meant_by t))
-  scans_exactly = so (λ x. TheProgram x (ScansExactly U C (shown_of t) (meant_by t))) (law.scans_exactly (numbered t) U C h.has shown back h.turns)
+  scans_exactly = over (ScansExactly U C) (law.scans_exactly (net_of_source t) U C text h.of_net)
 
   pub shows_outputs : TheProgram text (ShowsOutputs (shown_of t) (meant_by t))
-  shows_outputs = so (λ x. TheProgram x (ShowsOutputs (shown_of t) (meant_by t))) (law.shows_outputs (numbered t) U C h.has shown back h.turns)
+  shows_outputs = over ShowsOutputs (law.shows_outputs (net_of_source t) U C text h.of_net)
 
   pub stays_typed : TheProgram text (StaysTyped (meant_by t))
-  stays_typed = so (λ x. TheProgram x (StaysTyped (meant_by t))) (law.stays_typed (numbered t) U C h.has shown back h.turns)
+  stays_typed = over (λ f s. StaysTyped s) (law.stays_typed (net_of_source t) U C text h.of_net)
 
   pub laid_out : TheProgram text (IsLayoutOf text)
-  laid_out = so (λ x. TheProgram x (IsLayoutOf x)) (law.laid_out (numbered t) U C h.has shown back refl)
+  laid_out = law.laid_out (net_of_source t) U C text h.of_net
+
+  pub classed : AreClassed t
+  classed event due = h.of_net.classed event (subst (λ s. IsTrue (is_of s plain event)) (sym h.meaning) due.0)
+
+-- ---- the net of the source in the file
+
+path-same : (ds : List Declared) (k : ℕ)
+    → (elim (slice_get (map net_event ds) k) [ None ↦ [] | Some e ↦ e.path ]) ≡ (elim (slice_get ds k) [ None ↦ [] | Some d ↦ (net_event d).path ])
+path-same [] k = refl
+path-same (d ∷ ds) zero = refl
+path-same (d ∷ ds) (suc k) = path-same ds k
+
+module _ (content : Content) (file : Text) (g : Guarded) (l : IsLoaded content file g) where
+  pub loaded_dataless : is_dataless (net_tree g.plain.net) ≡ true
+  loaded_dataless = ap is_dataless l.2.translated ∙ flat-dataless l.0 l.1.3.built
+
+  same_meaning : system_of_net (net_of_source l.0) ≡ meant_by l.0
+  same_meaning = sym (ap system_of_net l.2.translated) ∙ l.2.meaning
+
+  pub loaded_text : (U C : ℕ) (text : Text) → written.IsTextOf (net_tree g.plain.net) U C text → (t : Built) × SourceIs content file t × IsTextOf U C t text
+  loaded_text U C text h = (l.0, l.1, record { of_net = subst (λ n. written.IsTextOf n U C text) l.2.translated h; meaning = same_meaning })
+
+  first_due : (event : ℕ) → IsFirstUnclassed (net_tree g.plain.net) event → UnclassedDue l.0 event
+  first_due event h = (
+    subst (λ s. IsTrue (is_of s plain event)) l.2.meaning h.0,
+    λ k below due. h.1 k below (subst (λ s. IsTrue (is_of s plain k)) (sym l.2.meaning) due),
+  )
+
+  path_is : (event : ℕ) → path_in (net_tree g.plain.net) event ≡ event_path l.0 event
+  path_is event = ap (λ n. path_in n event) l.2.translated ∙ path-same (events l.0) event
+
+  -- the command ends so over a source with an event without a class
+  pub unclassed_stops : (q : Generate) → q.file ≡ file → (event : ℕ) → IsFirstUnclassed (net_tree g.plain.net) event → (c : Reading) (e : Ended)
+      → IsTold (net_tree g.plain.net) event e → StopsIn (generate_work q content) c e (group_of e.status)
+  unclassed_stops q this event first c e told = go e.status refl told
+    where
+      source : SourceIs content q.file l.0
+      source = subst (λ f. SourceIs content f l.0) (sym this) l.1
+
+      go : (s : Status) → e.status ≡ s → TellsOf (net_tree g.plain.net) event e.variable s → StopsIn (generate_work q content) c e (group_of e.status)
+      go (status.OutsideProfile (profile.Unclassed k)) is h =
+          subst (λ s. StopsIn (generate_work q content) c e (group_of s)) (sym is)
+          (inr (l.0, source, subst (λ s. is_unclassed l.0 s e.variable) (sym is)
+            (subst (λ j. UnclassedDue l.0 j × (e.variable ≡ event_path l.0 j)) (sym h.0) (first_due event first, h.1 ∙ path_is event))))
+      go (status.OutsideProfile (profile.TooManyChoices n)) is h = absurd h
+      go status.Memory is h = subst (λ s. StopsIn (generate_work q content) c e (group_of s)) (sym is) tt
+      go _ is h = absurd h
 
 -- ---- calls
 
-pub writes : (g : Generate) (c : Reading) (o : Writing) (e : Ended) → Comes (generate_work g c.content) c o e → (r : Status) → IsUnlessMemory r e.status
-    → (P : Built → Text → Type 0) → ((t : Built) (text : Text) → IsTextOf g.unc g.con t text → P t text)
-    → r ≡ status.Done → Writes c.content g.file o.old o.new P
-writes g c o e came r same P from q =
-    let w = written (generate_work g c.content) c o e came r same q in (w.1.0, w.1.1, (w.0, w.2, from w.1.0 w.0 w.1.2))
+order : (k m : ℕ) → (k < m) ⊎ ((m < k) ⊎ (k ≡ m))
+order k m =
+    (elim (nat_lt k m) as (λ b. nat_lt k m ≡ b → (k < m) ⊎ ((m < k) ⊎ (k ≡ m))) [
+      | true ↦ λ h. inl (grind (arith, nat_tests))
+      | false ↦ λ h.
+          (elim (nat_lt m k) as (λ b. nat_lt m k ≡ b → (k < m) ⊎ ((m < k) ⊎ (k ≡ m))) [
+            | true ↦ λ g. inr (inl (grind (arith, nat_tests)))
+            | false ↦ λ g. inr (inr (grind (arith, nat_tests)))
+          ]) refl
+    ]) refl
+
+-- it tells of nothing but events without a class besides what the source is refused for
+pub tells_own : TellsItsOwn is_unclassed
+tells_own = record { refused = λ t why name h. h; many = λ t count name h. h }
+
+module _ (g : Generate) (c : Reading) (o : Writing) (e : Ended) (came : Comes (generate_work g c.content) c o e) (r : Status) (same : IsUnlessMemory r e.status) where
+  pub writes : (P : Built → Text → Type 0) → ((t : Built) (text : Text) → IsTextOf g.unc g.con t text → P t text)
+      → r ≡ status.Done → Writes c.content g.file o.old o.new P
+  writes P from q =
+      let w = wrote (generate_work g c.content) c o e came r same q in (w.1.0, w.1.1, (w.0, w.2, from w.1.0 w.0 w.1.2))
+
+  pub unclassed : (event : ℕ) → r ≡ status.OutsideProfile (profile.Unclassed event) → (t : Built) × SourceIs c.content g.file t × UnclassedDue t event
+  unclassed event q = elim (ended_so (generate_work g c.content) c o e came r same (status.OutsideProfile (profile.Unclassed event)) (λ z. cc) refl q) [
+    | inl h ↦ absurd h
+    | inr h ↦ (h.0, h.1, h.2.0)
+  ]
+
+  -- an event without a class is told
+  pub unclassed_is_told : (bytes : Text) → c.content g.file ≡ Some bytes → (Rose (c.faults g.file) (c.faults_after g.file) → ⊥) → length bytes ≤ source_limit
+      → (t : Built) → ReadsAsBuilt bytes t → (event : ℕ) → UnclassedDue t event → IsUnlessMemory r (status.OutsideProfile (profile.Unclassed event))
+  unclassed_is_told bytes told sure short t reads event due =
+      told_of g.file (IsTextOf g.unc g.con) is_unclassed c o e came r same bytes told sure short t reads
+      (IsUnlessMemory r (status.OutsideProfile (profile.Unclassed event)))
+      (λ h. this e.status refl h)
+      (λ text h. classed g.unc g.con t text h event due)
+      (λ m. inr m)
+    where
+      same_event : (k : ℕ) → UnclassedDue t k → k ≡ event
+      same_event k other = elim (order k event) [
+        | inl h ↦ absurd (due.1 k h other.0)
+        | inr h ↦ elim h [ inl w ↦ absurd (other.1 event w due.0) | inr w ↦ w ]
+      ]
+
+      this : (s : Status) → e.status ≡ s → is_unclassed t s e.variable → IsUnlessMemory r (status.OutsideProfile (profile.Unclassed event))
+      this (status.OutsideProfile (profile.Unclassed k)) is h =
+          answers (generate_work g c.content) c o e came r same (status.OutsideProfile (profile.Unclassed event))
+          (is ∙ ap (λ n. status.OutsideProfile (profile.Unclassed n)) (same_event k h.0))
+      this (status.OutsideProfile (profile.TooManyChoices n)) is h = absurd h
+      this _ is h = absurd h

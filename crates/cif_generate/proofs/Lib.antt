@@ -1,2 +1,5 @@
 pub mod WordLemmas
 pub mod GenerateLaws
+pub mod FaceLaws
+pub mod ProgramLaws
+mod ShownRows

@@ -51,15 +51,26 @@ generate_named [] g h = absurd h
 generate_named (w ∷ []) g h = absurd h
 generate_named (w ∷ f ∷ ws) g h = h.0
 
-pub bounded_options : (ws : List Text) (u k : ℕ) → AreOptions ws u k → u + k ≤ 20000
-bounded_options [] u k h = omega (arith, h.0, h.1)
-bounded_options (w ∷ []) u k h = absurd h
-bounded_options (o ∷ w ∷ []) u k (inl h) = omega (arith, h.1.2, h.2)
-bounded_options (o ∷ w ∷ []) u k (inr h) = omega (arith, h.1, h.2.2)
-bounded_options (o ∷ w ∷ p ∷ []) u k h = absurd h
-bounded_options (o ∷ w ∷ p ∷ x ∷ []) u k (inl h) = omega (arith, h.1.2, h.3.2)
-bounded_options (o ∷ w ∷ p ∷ x ∷ []) u k (inr h) = omega (arith, h.1.2, h.3.2)
-bounded_options (o ∷ w ∷ p ∷ x ∷ y ∷ ws) u k h = absurd h
+-- options give no more rounds of a class than that
+pub few_unc : (ws : List Text) (u k : ℕ) → AreOptions ws u k → u ≤ 10000
+few_unc [] u k h = omega (arith, h.0)
+few_unc (w ∷ []) u k h = absurd h
+few_unc (o ∷ w ∷ []) u k (inl h) = h.1.2
+few_unc (o ∷ w ∷ []) u k (inr h) = omega (arith, h.1)
+few_unc (o ∷ w ∷ p ∷ []) u k h = absurd h
+few_unc (o ∷ w ∷ p ∷ x ∷ []) u k (inl h) = h.1.2
+few_unc (o ∷ w ∷ p ∷ x ∷ []) u k (inr h) = h.3.2
+few_unc (o ∷ w ∷ p ∷ x ∷ y ∷ ws) u k h = absurd h
+
+pub few_con : (ws : List Text) (u k : ℕ) → AreOptions ws u k → k ≤ 10000
+few_con [] u k h = omega (arith, h.1)
+few_con (w ∷ []) u k h = absurd h
+few_con (o ∷ w ∷ []) u k (inl h) = omega (arith, h.2)
+few_con (o ∷ w ∷ []) u k (inr h) = h.2.2
+few_con (o ∷ w ∷ p ∷ []) u k h = absurd h
+few_con (o ∷ w ∷ p ∷ x ∷ []) u k (inl h) = h.3.2
+few_con (o ∷ w ∷ p ∷ x ∷ []) u k (inr h) = h.1.2
+few_con (o ∷ w ∷ p ∷ x ∷ y ∷ ws) u k h = absurd h
 
 -- a number of rounds is read as such
 pub rounds_read : (w : Text) (n : ℕ) (r : Option ℤ) → ((z : ℤ) → FitsSigned w64 z → w ≡ signed_decimal z → r ≡ Some z) → IsRounds w n → r ≡ Some (pos n)

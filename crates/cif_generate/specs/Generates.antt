@@ -2,15 +2,24 @@
 use Rattle.std.specs.Prelude.{◌≡◌, Option}
 use Rattle.grammar.specs.Pieces.{Text}
 use Rattle.cif_io.specs.Written.{grown}
+use Rattle.cif_run.specs.declared.status.Status.{Status}
+use Rattle.cif_run.specs.declared.status.Status.TheVariants as status
+use Rattle.cif_run.specs.declared.status.ProfileWhy.TheVariants as profile
 use Rattle.cif_run.specs.Works.{Content, Work}
+use Rattle.cif_image.specs.NetRules.{UnclassedDue}
 use Rattle.cif_accept.specs.Built.{Built}
-use Rattle.cif_accept.specs.Accepts.{SourceIs, source_work}
+use Rattle.cif_accept.specs.Accepts.{BuiltEnds, SourceIs, source_work}
 use Rattle.cif_generate.specs.Words.{Generate as Asked}
-use Rattle.cif_generate.specs.Meaning.{IsTextOf}
+use Rattle.cif_generate.specs.Meaning.{IsTextOf, event_path}
 use Rattle.cif_generate.specs.declared.request.Generate.{Generate}
 
+-- the first event without a class is told by its path
+abbrev pub is_unclassed : BuiltEnds
+is_unclassed t (status.OutsideProfile (profile.Unclassed event)) name = UnclassedDue t event × (name ≡ event_path t event)
+is_unclassed t _ name = ⊥
+
 abbrev pub generate_work : Asked → Content → Work
-generate_work g content = source_work content g.file (IsTextOf g.unc g.con)
+generate_work g content = source_work content g.file (IsTextOf g.unc g.con) is_unclassed
 
 -- what is asked for, as the code holds it
 abbrev pub generate_of : Generate → Asked

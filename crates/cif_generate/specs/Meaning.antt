@@ -1,32 +1,40 @@
 -- What is said of the text that `generate` writes, over what a source is built into: its face, its system, and the text.
-use Rattle.std.specs.Prelude.{◌≡◌, ℕ, ◌+◌, ◌≤◌}
+use Rattle.std.specs.Prelude.{◌≡◌, ℕ, [], Some, None, slice_get}
 use Rattle.grammar.specs.Pieces.{Text}
 use Rattle.cif_system.specs.System.{System, initial}
-use Rattle.cif_plant.specs.Numbers.{numbered}
-use Rattle.cif_plant.specs.Meaning.{system_of}
+use Rattle.cif_source.specs.Objects.{events}
+use Rattle.cif_source.specs.Step.{system_of}
+use Rattle.cif_model.specs.Meaning.{system_of_net}
+use Rattle.cif_image.specs.Flat.{net_event, net_of_source}
+use Rattle.cif_image.specs.NetRules.{UnclassedDue}
 use Rattle.st_ast.specs.Tree.{Program}
-use Rattle.st_ast.specs.Scan.{start_memory, turns_of_scan}
-use Rattle.st_print.specs.Layout.{printed}
+use Rattle.st_ast.specs.Scan.{start_memory}
 use Rattle.plc_face.specs.Face.{Face, StateOf}
-use Rattle.plc_gen.specs.Emitted.{program_of}
-use Rattle.plc_gen.specs.Interface.{face_of}
-use Rattle.plc_gen.specs.HasProgram.{HasProgram}
+use Rattle.plc_back.specs.Written as written
 use Rattle.cif_accept.specs.Built.{Built}
+use Rattle.cif_generate.specs.Shown.{face_of}
 
 -- what a program shows of it
 abbrev pub shown_of : Built → Face
-shown_of t = face_of (numbered t)
+shown_of t = face_of t
 
 -- what it means
 abbrev pub meant_by : Built → System
 meant_by t = system_of t
 
--- the text is the printed program of it, which is one, with these most rounds of each class in a scan
+-- each event is controllable or uncontrollable
+abbrev pub AreClassed : Built → Type 0
+AreClassed t = (event : ℕ) → UnclassedDue t event → ⊥
+
+-- the text is the printed program of the net that it is translated to, which means the same, with these most rounds of each class in a scan
 pub record IsTextOf (unc con : ℕ) (t : Built) (text : Text) : Type 0 where
-  pub has : HasProgram (numbered t) unc con
-  pub turns : unc + con ≤ turns_of_scan
-  pub is : text ≡ printed (program_of (numbered t) unc con)
+  pub of_net : written.IsTextOf (net_of_source t) unc con text
+  pub meaning : system_of_net (net_of_source t) ≡ system_of t
 
 -- the memory of the declarations stands for the initial state
 abbrev pub StartsInitial : Face → System → Program → Type 0
 StartsInitial face sys p = StateOf face sys p (start_memory p) (initial sys)
+
+-- the path of an event
+abbrev pub event_path : Built → (event : ℕ) → Text
+event_path t event = elim (slice_get (events t) event) [ None ↦ [] | Some d ↦ (net_event d).path ]

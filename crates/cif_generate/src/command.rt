@@ -1,41 +1,52 @@
 //! What `generate` does, and what it promises.
 
-ghost use Rattle.std.specs.Prelude.{◌≡◌, ◌+◌, ◌≤◌, ◌⊎◌, ℕ, List, IfSome};
-ghost use Rattle.cif_plant.specs.Named.{IsNameText};
-ghost use Rattle.cif_plant.specs.Plant.{IsPlant};
+ghost use Rattle.std.specs.Prelude.{◌≡◌, ◌≤◌, ℕ, List, IfOk};
 ghost use Rattle.cif_run.specs.Works.{Comes, Stops, reading, writing};
+ghost use Rattle.cif_run.specs.declared.status.ProfileWhy.{ProfileWhy};
 ghost use Rattle.cif_run.specs.declared.status.Refusal.{Refusal};
-ghost use Rattle.cif_accept.specs.Accepts.{SourceRefused};
+ghost use Rattle.cif_net.specs.View.{net_tree};
+ghost use Rattle.cif_accept.specs.Accepts.{SourceHasTooMany, SourceIs, SourceRefused};
+ghost use Rattle.cif_accept.specs.Built.{Built};
+ghost use Rattle.cif_image.specs.NetRules.{UnclassedDue};
 ghost use Rattle.plc_face.specs.Face.{HasInterface};
 ghost use Rattle.plc_face.specs.Scans.{NeverFaults, RunsFirstSteps, ScansLegally, ScansExactly, ShowsOutputs, StaysTyped};
 ghost use Rattle.plc_back.specs.Texts.{IsLayoutOf, TheProgram};
-ghost use Rattle.cif_generate.specs.Meaning.{IsTextOf, StartsInitial, meant_by, shown_of};
+ghost use Rattle.cif_generate.specs.Meaning.{AreClassed, StartsInitial, meant_by, shown_of};
 ghost use Rattle.cif_generate.specs.Generates.{Writes, generate_of, generate_work};
+ghost use Rattle.cif_generate.specs.Told.{IsTold, path_in};
 
 use crate::request::Generate;
 use cif_accept::accept_file;
-use cif_form::number_plant;
+use cif_base::{Memory, Text};
 use cif_io::{Files, Sink};
-use cif_plant::Plant;
-use cif_run::{Command, Ended, Status, run};
-use plc_back::generate_text;
-use plc_gen::Bounds;
+use cif_net::Net;
+use cif_run::{Command, Ended, ProfileWhy, Status, run};
+use plc_back::{ProfileErr, generate_text};
 use std::alloc::Global;
 
-/// The text of the program of what a source is built into; `None` for want of memory.
-fn program_text(alloc: Global, plant: &Plant, bounds: Bounds) -> Option<Vec<u8>>
-    requires plant { IsPlant plant.now }
-    requires named { IsNameText plant.now.name }
-    requires turns { bounds.unc + bounds.con ≤ 20000 }
-    ensures { IfSome result (λ text. IsTextOf bounds.unc bounds.con plant.now text.items) }
+/// The path of an event.
+fn path_of(alloc: Global, net: &Net, event: u32) -> Result<Text, Memory>
+    ensures { IfOk result (λ path. path ≡ path_in (net_tree net.now) event) }
 {
-    let numbered = match number_plant(alloc, plant) {
-        Ok(numbered) => numbered,
-        Err(_) => return None,
-    };
-    match generate_text(alloc, &numbered, bounds) {
-        Ok(text) => Some(text),
-        Err(_) => None,
+    match net.events.get(event as usize) {
+        Some(found) => found.path.copy(alloc),
+        None => Ok(Text::new(alloc)),
+    }
+}
+
+/// The end of the command over a net whose first event without a class is this.
+fn unclassed(alloc: Global, net: &Net, event: u32) -> Ended
+    ensures { IsTold (net_tree net.now) event result }
+{
+    match path_of(alloc, net, event) {
+        Ok(variable) => Ended {
+            status: Status::OutsideProfile {
+                why: ProfileWhy::Unclassed { event },
+            },
+            variable,
+            limit: 0,
+        },
+        Err(_) => Ended::plain(alloc, Status::Memory),
     }
 }
 
@@ -45,17 +56,18 @@ impl<'a> Command for Generate<'a> {
     ghost work = { λ g content. generate_work (generate_of g) content };
 
     fn text<F: Files>(&self, alloc: Global, files: &mut F) -> Result<Vec<u8>, Ended> {
-        let plant = accept_file(alloc, self.file, files)?;
-        match program_text(alloc, &plant, self.bounds) {
-            Some(text) => Ok(text),
-            None => Err(Ended::plain(alloc, Status::Memory)),
+        let net = accept_file(alloc, self.file, files)?;
+        match generate_text(alloc, &net, self.bounds) {
+            Ok(text) => Ok(text),
+            Err(ProfileErr::Unclassed { event }) => Err(unclassed(alloc, &net.plain.net, event)),
+            Err(ProfileErr::Memory) => Err(Ended::plain(alloc, Status::Memory)),
         }
     }
 }
 
-/// Reads the source (CIF 3 language reference) of the file, which is one plant automaton without data, and writes a Structured
-/// Text program (IEC 61131-3) that makes its scans, with at most these rounds of uncontrollable and of controllable events
-/// in a scan. After Done every promise speaks of the one program that the text reads as.
+/// Reads the source (CIF 3 language reference) of the file, which has the forms that are built so far, and writes a Structured Text
+/// program (IEC 61131-3) that makes its scans, with at most these rounds of uncontrollable and of controllable events in a scan.
+/// After Done every promise speaks of the one program that the text reads as.
 pub fn generate<F: Files, O: Sink>(
     alloc: Global,
     asked: &Generate<'_>,
@@ -101,9 +113,18 @@ pub fn generate<F: Files, O: Sink>(
     ensures laid_out { result.status ≡ Status.Done →
         Writes (F.content files.old) asked.now.file.now (O.written out.old) (O.written out.new)
         (λ t text. TheProgram text (IsLayoutOf text)) }
+    // Each event of the source has a class.
+    ensures classed { result.status ≡ Status.Done →
+        Writes (F.content files.old) asked.now.file.now (O.written out.old) (O.written out.new)
+        (λ t text. AreClassed t) }
     // A source is refused for a cause that it has.
     ensures refused { (why : Refusal) → result.status ≡ Status.Refused why →
         SourceRefused (F.content files.old) asked.now.file.now why }
+    ensures too_many { (count : ℕ) → result.status ≡ Status.OutsideProfile (ProfileWhy.TooManyChoices count) →
+        SourceHasTooMany (F.content files.old) asked.now.file.now count }
+    // The event is the first of the source without a class.
+    ensures unclassed { (event : ℕ) → result.status ≡ Status.OutsideProfile (ProfileWhy.Unclassed event) →
+        (t : Built) × SourceIs (F.content files.old) asked.now.file.now t × UnclassedDue t event }
     ensures kept { (n : List ℕ) → F.content files.new n ≡ F.content files.old n }
     ensures faults_stay_or_rise { (n : List ℕ) → F.faults files.old n ≤ F.faults files.new n }
     ensures most_stays_or_rises { (n : List ℕ) → F.most files.old n ≤ F.most files.new n }

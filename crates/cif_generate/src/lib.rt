@@ -3,9 +3,11 @@
 #![tactic(auto)]
 
 mod command;
+mod laws;
 mod request;
 mod words;
 
 pub use command::generate;
+pub use laws::{flat_net_is_dataless, net_shows_the_same};
 pub use request::Generate;
 pub use words::read_words;

@@ -1,6 +1,6 @@
 //! What `generate` is asked for.
 
-ghost use Rattle.std.specs.Prelude.{◌+◌, ◌≤◌};
+ghost use Rattle.std.specs.Prelude.{◌≤◌};
 
 use plc_gen::Bounds;
 
@@ -9,5 +9,6 @@ use plc_gen::Bounds;
 pub struct Generate<'a> {
     pub file: &'a str,
     pub bounds: Bounds,
-    ghost few: { bounds.unc + bounds.con ≤ 20000 },
+    ghost few_unc: { bounds.unc ≤ 10000 },
+    ghost few_con: { bounds.con ≤ 10000 },
 }

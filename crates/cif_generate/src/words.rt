@@ -97,7 +97,7 @@ fn bounds_of(words: &[String]) -> Option<Bounds>
 }
 
 /// What `generate FILE [--unc N] [--con N]` asks for; `None` where the words are no such command line.
-#[tactic(auto, using(crate::proofs::WordLemmas::bounded_options))]
+#[tactic(auto, using(crate::proofs::WordLemmas::few_unc, crate::proofs::WordLemmas::few_con))]
 pub fn read_words(words: &[String]) -> Option<Generate<'_>>
     ensures some { IfSome result (λ g. IsGenerate (map string_bytes words.now) (generate_of g)) }
     ensures none { result ≡ None → (g : spec.Generate) → IsGenerate (map string_bytes words.now) g → ⊥ }

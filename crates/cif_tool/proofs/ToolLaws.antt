@@ -11,6 +11,7 @@ use Rattle.st_scan.specs.declared.error.ScanErr.TheVariants as scan
 use Rattle.plc_rows.specs.declared.error.RowErr.{RowErr}
 use Rattle.cif_run.specs.declared.status.Status.{Status}
 use Rattle.cif_run.specs.declared.status.Status.TheVariants as status
+use Rattle.cif_run.specs.declared.status.ProfileWhy.TheVariants as profile
 use Rattle.cif_run.specs.declared.status.Refusal.{Refusal}
 use Rattle.cif_run.specs.declared.status.StRefusal.{StRefusal}
 use Rattle.cif_run.specs.declared.ended.Ended.{Ended}
@@ -18,13 +19,15 @@ use Rattle.cif_run.specs.Groups.{Group, done, unread, too_long, unwritten, wanti
 use Rattle.cif_run.specs.Works.{Comes, Content, Reading, StopsIn, Writing}
 use Rattle.cif_run.proofs.CallLaws.{answers, came_how, ended_so, within_comes, write_fault}
 use Rattle.cif_accept.specs.Built.{Built, ReadsAsBuilt}
-use Rattle.cif_accept.specs.Accepts.{SourceIs, SourceRefused, source_limit, source_work}
+use Rattle.cif_accept.specs.Accepts.{BuiltEnds, SourceHasTooMany, SourceIs, SourceRefused, no_ends, source_limit, source_work}
+use Rattle.cif_image.specs.NetRules.{UnclassedDue}
 use Rattle.cif_accept.proofs.AcceptLaws as accept
 use Rattle.cif_check.specs.Words.{Check, IsCheck}
 use Rattle.cif_check.specs.Checks.{accepted}
 use Rattle.cif_check.proofs.CheckLaws as checks
 use Rattle.cif_generate.specs.Words.{Generate, IsGenerate}
-use Rattle.cif_generate.specs.Meaning.{IsTextOf}
+use Rattle.cif_generate.specs.Meaning.{AreClassed, IsTextOf}
+use Rattle.cif_generate.specs.Generates.{is_unclassed}
 use Rattle.cif_generate.proofs.GenerateLaws as generates
 use Rattle.cif_replay.specs.Words.{Replay, IsReplay}
 use Rattle.cif_replay.specs.Replaying.{AreRowsRefused, IsStRefused, StopsAt}
@@ -35,8 +38,8 @@ use Rattle.cif_tool.proofs.AskedLaws.{of_tool, within_tool}
 
 -- no command ends with Usage
 no_usage : (k : Command) (q : Request k) (content : Content) (name : Text) → (work_of k q content).ends status.Usage name → ⊥
-no_usage check q content name h = h
-no_usage generate q content name h = h
+no_usage check q content name h = elim h [ inl x ↦ x | inr x ↦ x.2 ]
+no_usage generate q content name h = elim h [ inl x ↦ x | inr x ↦ x.2 ]
 no_usage replay q content name h = h
 
 -- nor does its call
@@ -99,16 +102,38 @@ module _ (words : List Text) (c : Reading) (o : Writing) (e : Ended) (came : Com
 
   -- ---- a source
 
-  -- the command over a source
-  as_source : (file : Text) → AsksSource words file → (P : Built → Text → Type 0) × Comes (source_work c.content file P) c o e
+  -- a command over a source, which tells of what the source is built into where it has an event without a class
+  record Over (file : Text) : Type 1 where
+    P : Built → Text → Type 0
+    E : BuiltEnds
+    comes : Comes (source_work c.content file P E) c o e
+    silent : (t : Built) → ((g : Generate) → IsGenerate words g → AreClassed t) → (s : Status) (name : Text) → E t s name → ⊥
+
+  -- an event without a class is told where there is one
+  classed_silent : (t : Built) → AreClassed t → (s : Status) (name : Text) → is_unclassed t s name → ⊥
+  classed_silent t are (status.OutsideProfile (profile.Unclassed event)) name h = are event h.0
+  classed_silent t are (status.OutsideProfile (profile.TooManyChoices n)) name h = h
+  classed_silent t are _ name h = h
+
+  as_source : (file : Text) → AsksSource words file → Over file
   as_source file h = go h.0.command h.0.request h.1 h.2
     where
-      here : (P : Built → Text → Type 0) (f : Text) → Some f ≡ Some file → Comes (source_work c.content f P) c o e → Comes (source_work c.content file P) c o e
-      here P f is w = let at : f ≡ file = cc in subst (λ n. Comes (source_work c.content n P) c o e) at w
+      here : (P : Built → Text → Type 0) (E : BuiltEnds) (f : Text) → Some f ≡ Some file → Comes (source_work c.content f P E) c o e → Comes (source_work c.content file P E) c o e
+      here P E f is w = let at : f ≡ file = cc in subst (λ n. Comes (source_work c.content n P E) c o e) at w
 
-      go : (k : Command) (q : Request k) → IsFor k words q → source_of k q ≡ Some file → (P : Built → Text → Type 0) × Comes (source_work c.content file P) c o e
-      go check q is at = (λ t text. text ≡ accepted, here (λ t text. text ≡ accepted) q.file at (of_command check q is))
-      go generate q is at = (IsTextOf q.unc q.con, here (IsTextOf q.unc q.con) q.file at (of_command generate q is))
+      go : (k : Command) (q : Request k) → IsFor k words q → source_of k q ≡ Some file → Over file
+      go check q is at = record {
+        P = λ t text. text ≡ accepted;
+        E = no_ends;
+        comes = here (λ t text. text ≡ accepted) no_ends q.file at (of_command check q is);
+        silent = λ t are s name h. h;
+      }
+      go generate q is at = record {
+        P = IsTextOf q.unc q.con;
+        E = is_unclassed;
+        comes = here (IsTextOf q.unc q.con) is_unclassed q.file at (of_command generate q is);
+        silent = λ t are. classed_silent t (are q is);
+      }
       go replay q is at = absurd cc
 
   pub refused : (why : Refusal) → r ≡ status.Refused why → (file : Text) × AsksSource words file × SourceRefused c.content file why
@@ -116,19 +141,49 @@ module _ (words : List Text) (c : Reading) (o : Writing) (e : Ended) (came : Com
     where
       go : (k : Command) (q : Request k) → IsFor k words q → (work_of k q c.content).ends (status.Refused why) e.variable
           → (file : Text) × AsksSource words file × SourceRefused c.content file why
-      go check q is h = (q.file, (record { command = check; request = q }, is, refl), h)
-      go generate q is h = (q.file, (record { command = generate; request = q }, is, refl), h)
+      go check q is h = elim h [ inl x ↦ (q.file, (record { command = check; request = q }, is, refl), x) | inr x ↦ absurd x.2 ]
+      go generate q is h = elim h [ inl x ↦ (q.file, (record { command = generate; request = q }, is, refl), x) | inr x ↦ absurd x.2 ]
       go replay q is h = absurd h
 
+  pub too_many_choices : (count : ℕ) → r ≡ status.OutsideProfile (profile.TooManyChoices count) → (file : Text) × AsksSource words file × SourceHasTooMany c.content file count
+  too_many_choices count z = let h = ended (status.OutsideProfile (profile.TooManyChoices count)) (λ x. cc) refl (λ x. cc) z in go h.0.command h.0.request h.1 h.2
+    where
+      go : (k : Command) (q : Request k) → IsFor k words q → (work_of k q c.content).ends (status.OutsideProfile (profile.TooManyChoices count)) e.variable
+          → (file : Text) × AsksSource words file × SourceHasTooMany c.content file count
+      go check q is h = elim h [ inl x ↦ (q.file, (record { command = check; request = q }, is, refl), x) | inr x ↦ absurd x.2 ]
+      go generate q is h = elim h [ inl x ↦ (q.file, (record { command = generate; request = q }, is, refl), x) | inr x ↦ absurd x.2 ]
+      go replay q is h = absurd h
+
+  pub unclassed : (event : ℕ) → r ≡ status.OutsideProfile (profile.Unclassed event)
+      → (g : Generate) × IsGenerate words g × ((t : Built) × SourceIs c.content g.file t × UnclassedDue t event)
+  unclassed event z = let h = ended (status.OutsideProfile (profile.Unclassed event)) (λ x. cc) refl (λ x. cc) z in go h.0.command h.0.request h.1 h.2
+    where
+      go : (k : Command) (q : Request k) → IsFor k words q → (work_of k q c.content).ends (status.OutsideProfile (profile.Unclassed event)) e.variable
+          → (g : Generate) × IsGenerate words g × ((t : Built) × SourceIs c.content g.file t × UnclassedDue t event)
+      go check q is h = elim h [ inl x ↦ absurd x | inr x ↦ absurd x.2 ]
+      go generate q is h = elim h [ inl x ↦ absurd x | inr x ↦ (q, is, (x.0, x.1, x.2.0)) ]
+      go replay q is h = absurd h
+
+  pub unclassed_is_told : (g : Generate) (bytes : Text) → IsGenerate words g → c.content g.file ≡ Some bytes → (Rose (c.faults g.file) (c.faults_after g.file) → ⊥)
+      → length bytes ≤ source_limit → (t : Built) → ReadsAsBuilt bytes t → (event : ℕ) → UnclassedDue t event
+      → IsUnlessMemory r (status.OutsideProfile (profile.Unclassed event))
+  unclassed_is_told g bytes is = generates.unclassed_is_told g c o e (of_command generate g is) r same bytes
+
   module _ (file bytes : Text) (names : NamesSource words c.content file bytes) (sure : Rose (c.faults file) (c.faults_after file) → ⊥) where
+    over : Over file
+    over = as_source file names.0
+
     pub longer_is_too_big : source_limit < length bytes → IsUnlessMemory r (status.TooBig 1)
-    longer_is_too_big = let s = as_source file names.0 in accept.longer_is_too_big file s.0 c o e s.1 r same bytes names.1 sure
+    longer_is_too_big = accept.longer_is_too_big file over.P over.E c o e over.comes r same bytes names.1 sure
 
-    pub other_text_is_refused : length bytes ≤ source_limit → ((t : Built) → ReadsAsBuilt bytes t → ⊥) → ((why : Refusal) × (r ≡ status.Refused why)) ⊎ (r ≡ status.Memory)
-    other_text_is_refused = let s = as_source file names.0 in accept.other_text_is_refused file s.0 c o e s.1 r same bytes names.1 sure
+    pub other_text_is_refused : length bytes ≤ source_limit → ((t : Built) → ReadsAsBuilt bytes t → ⊥)
+        → ((why : Refusal) × (r ≡ status.Refused why)) ⊎ ((count : ℕ) × (r ≡ status.OutsideProfile (profile.TooManyChoices count))) ⊎ (r ≡ status.Memory)
+    other_text_is_refused = accept.other_text_is_refused file over.P over.E c o e over.comes r same bytes names.1 sure
 
-    pub built_is_done : length bytes ≤ source_limit → (Rose o.faults o.faults_after → ⊥) → (t : Built) → ReadsAsBuilt bytes t → IsUnlessMemory r status.Done
-    built_is_done = let s = as_source file names.0 in accept.built_is_done file s.0 c o e s.1 r same bytes names.1 sure
+    pub built_is_done : length bytes ≤ source_limit → (Rose o.faults o.faults_after → ⊥) → (t : Built) → ReadsAsBuilt bytes t
+        → ((g : Generate) → IsGenerate words g → AreClassed t) → IsUnlessMemory r status.Done
+    built_is_done short quiet t reads classed =
+        accept.built_is_done file over.P over.E c o e over.comes r same bytes names.1 sure short t reads quiet (over.silent t classed)
 
   pub checked : r ≡ status.Done → (k : Check) → IsCheck words k → ((t : Built) × SourceIs c.content k.file t) × (o.new ≡ grown o.old accepted)
   checked q k is = checks.checked k c o e (of_command check k is) r same q

@@ -14,16 +14,19 @@ ghost use Rattle.plc_rows.specs.declared.error.RowErr.{RowErr};
 ghost use Rattle.plc_face.specs.Face.{HasInterface};
 ghost use Rattle.plc_face.specs.Scans.{NeverFaults, RunsFirstSteps, ScansLegally, ScansExactly, ShowsOutputs, StaysTyped};
 ghost use Rattle.plc_back.specs.Texts.{IsLayoutOf, TheProgram};
+ghost use Rattle.cif_run.specs.declared.status.ProfileWhy.{ProfileWhy};
 ghost use Rattle.cif_run.specs.declared.status.Refusal.{Refusal};
 ghost use Rattle.cif_run.specs.declared.status.StRefusal.{StRefusal};
 ghost use Rattle.cif_run.specs.Groups.{IsUnlessMemory};
 ghost use Rattle.cif_run.specs.Works.{Comes, Output, Overlong, Unread, reading, writing};
 ghost use Rattle.cif_run.specs.Tells.{Told};
 ghost use Rattle.cif_accept.specs.Built.{Built, ReadsAsBuilt};
-ghost use Rattle.cif_accept.specs.Accepts.{SourceIs, SourceRefused, source_limit};
+ghost use Rattle.cif_accept.specs.Accepts.{SourceHasTooMany, SourceIs, SourceRefused, source_limit};
+ghost use Rattle.cif_image.specs.NetRules.{UnclassedDue};
 ghost use Rattle.cif_check.specs.Words.{Check, IsCheck};
 ghost use Rattle.cif_check.specs.Checks.{accepted};
-ghost use Rattle.cif_generate.specs.Meaning.{StartsInitial, meant_by, shown_of};
+ghost use Rattle.cif_generate.specs.Meaning.{AreClassed, StartsInitial, meant_by, shown_of};
+ghost use Rattle.cif_generate.specs.Words.{Generate, IsGenerate};
 ghost use Rattle.cif_replay.specs.Words.{Replay, IsReplay};
 ghost use Rattle.cif_replay.specs.Replaying.{AllEnd, AreRowsRefused, ComesTo, IsRowRefused, IsStRefused, IsTableFor, Reads, StopsAt, status_of_scan};
 ghost use Rattle.cif_replay.specs.Replays.{OfBoth, OfFirst, rows_limit, st_limit};
@@ -134,19 +137,36 @@ pub fn tool<F: Files, O: Sink, E: Sink>(
         Quiet r (F.faults files.old) (F.faults files.new) → length st ≤ st_limit → Reads st →
         rows_limit < length rows → IsUnlessMemory result (Status.TooBig 2) }
 
-    // The source of `check` and `generate`: it is refused exactly where it reads as nothing that is built, and else the command is
-    // done.
+    // Each event of a source whose program was written has a class.
+    ensures classed { Generated result (map string_bytes words.now) (F.content files.old)
+        (O.written out.old) (O.written out.new)
+        (λ g t text. AreClassed t) }
+
+    // The source of `check` and `generate`: it is refused, or has too many choices, exactly where it reads as nothing that is built;
+    // `generate` refuses one with an event without a class; and else the command is done.
     ensures refused { (why : Refusal) → result ≡ Status.Refused why → (file : List ℕ)
         × AsksSource (map string_bytes words.now) file × SourceRefused (F.content files.old) file why }
+    ensures too_many_choices { (count : ℕ) → result ≡ Status.OutsideProfile (ProfileWhy.TooManyChoices count) → (file : List ℕ)
+        × AsksSource (map string_bytes words.now) file × SourceHasTooMany (F.content files.old) file count }
+    ensures unclassed { (event : ℕ) → result ≡ Status.OutsideProfile (ProfileWhy.Unclassed event) → (g : Generate)
+        × IsGenerate (map string_bytes words.now) g
+        × ((t : Built) × SourceIs (F.content files.old) g.file t × UnclassedDue t event) }
     ensures other_text_is_refused { (file bytes : List ℕ) →
         NamesSource (map string_bytes words.now) (F.content files.old) file bytes →
         (Rose (F.faults files.old file) (F.faults files.new file) → ⊥) → length bytes ≤ source_limit →
         ((t : Built) → ReadsAsBuilt bytes t → ⊥) →
-        ((why : Refusal) × (result ≡ Status.Refused why)) ⊎ (result ≡ Status.Memory) }
+        ((why : Refusal) × (result ≡ Status.Refused why))
+        ⊎ ((count : ℕ) × (result ≡ Status.OutsideProfile (ProfileWhy.TooManyChoices count))) ⊎ (result ≡ Status.Memory) }
+    ensures unclassed_is_told { (g : Generate) (bytes : List ℕ) →
+        IsGenerate (map string_bytes words.now) g → F.content files.old g.file ≡ Some bytes →
+        (Rose (F.faults files.old g.file) (F.faults files.new g.file) → ⊥) → length bytes ≤ source_limit →
+        (t : Built) → ReadsAsBuilt bytes t → (event : ℕ) → UnclassedDue t event →
+        IsUnlessMemory result (Status.OutsideProfile (ProfileWhy.Unclassed event)) }
     ensures built_is_done { (file bytes : List ℕ) →
         NamesSource (map string_bytes words.now) (F.content files.old) file bytes →
         (Rose (F.faults files.old file) (F.faults files.new file) → ⊥) → length bytes ≤ source_limit →
         (Rose (O.faults out.old) (O.faults out.new) → ⊥) → (t : Built) → ReadsAsBuilt bytes t →
+        ((g : Generate) → IsGenerate (map string_bytes words.now) g → AreClassed t) →
         IsUnlessMemory result Status.Done }
     // `check` writes `ok`, whatever is told, and only over a source.
     ensures checked { result ≡ Status.Done → (k : Check) → IsCheck (map string_bytes words.now) k →

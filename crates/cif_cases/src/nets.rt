@@ -1,0 +1,159 @@
+//! Cases of nets: sources of the forms that are built, their nets with the choices of all events, and their programs.
+
+ghost use Rattle.std.specs.Prelude.{◌≤◌, length};
+
+use crate::sources::{put_no_tree, spec_of};
+use case_text::{Fault, Fields, Put, put_lines, put_text};
+use cif_base::{Memory, Text};
+use cif_form::misfit;
+use cif_front::{Refusal, load};
+use cif_net::{Auto, Choice, Class, Event, Guarded, Move, NetEdge, State};
+use plc_back::{ProfileErr, generate_text};
+use plc_gen::Bounds;
+use std::alloc::Global;
+
+/// The most bytes of a source that is loaded.
+const MOST_BYTES: usize = 4_194_304;
+
+/// The most rounds of a class in a scan.
+const MOST_ROUNDS: u32 = 10_000;
+
+/// `form TEXT`: whether a source has the forms that are built so far, or where the first thing stands that has none.
+pub fn form_case(fields: &Fields<'_>, page: &mut String) -> Result<(), Fault> {
+    let text = fields.text()?;
+    match spec_of(fields.alloc, text.as_slice()) {
+        Err(why) => put_no_tree(page, why),
+        Ok(spec) => match misfit(&spec) {
+            Some(at) => Ok(writeln!(page, "  another form at {at}")?),
+            None => Ok(page.push_str("  a built form\n")?),
+        },
+    }
+}
+
+/// `load TEXT`: the net of a source, or why there is none.
+pub fn load_case(fields: &Fields<'_>, page: &mut String) -> Result<(), Fault> {
+    let text = fields.text()?;
+    match loaded(fields.alloc, text.as_slice())? {
+        Err(refusal) => Ok(writeln!(page, "  {refusal:?}")?),
+        Ok(guarded) => put_guarded(fields.alloc, page, &guarded),
+    }
+}
+
+fn loaded(alloc: Global, text: &[u8]) -> Result<Result<Guarded, Refusal>, Fault> {
+    if text.len() > MOST_BYTES {
+        return Err(Fault::Form("a source has at most 4194304 bytes"));
+    }
+    Ok(load(alloc, text))
+}
+
+fn put_guarded(alloc: Global, page: &mut String, guarded: &Guarded) -> Result<(), Fault> {
+    let net = &guarded.plain.net;
+    put_events(page, net.events.as_slice())?;
+    put_autos(page, net.autos.as_slice())?;
+    put_choices(page, guarded.choices.as_slice())?;
+    let state = State::initial(alloc, net)?;
+    Ok(put_numbers(page, "  starts in", state.locs.as_slice())?)
+}
+
+fn put_events(page: &mut String, events: &[Event]) -> Put {
+    for event in events {
+        page.push_str("  event ")?;
+        put_text(page, event.path.as_slice())?;
+        page.push_str(match event.class {
+            Class::Plain => "\n",
+            Class::Con => " controllable\n",
+            Class::Unc => " uncontrollable\n",
+        })?;
+    }
+    Ok(())
+}
+
+fn put_autos(page: &mut String, autos: &[Auto]) -> Put {
+    for auto in autos {
+        page.push_str("  automaton ")?;
+        put_text(page, auto.path.as_slice())?;
+        put_names(page, auto.locs.as_slice())?;
+        put_numbers(page, "    alphabet", auto.alphabet.as_slice())?;
+        put_numbers(page, "    monitors", auto.monitors.as_slice())?;
+        put_edges(page, auto.edges.as_slice())?;
+    }
+    Ok(())
+}
+
+fn put_names(page: &mut String, names: &[Text]) -> Put {
+    page.push_str(":")?;
+    for name in names {
+        page.push(' ')?;
+        put_text(page, name.as_slice())?;
+    }
+    page.push('\n')
+}
+
+fn put_numbers(page: &mut String, head: &str, numbers: &[u32]) -> Put {
+    page.push_str(head)?;
+    for number in numbers {
+        write!(page, " {number}")?;
+    }
+    page.push('\n')
+}
+
+fn put_edges(page: &mut String, edges: &[NetEdge]) -> Put {
+    page.push_str("    edges")?;
+    for edge in edges {
+        let (event, from, to) = (edge.event, edge.from, edge.to);
+        write!(page, " {event}:{from}>{to}")?;
+    }
+    page.push('\n')
+}
+
+fn put_moves(page: &mut String, moves: &[Move]) -> Put {
+    for one in moves {
+        let auto = one.auto;
+        match one.edge {
+            Some(edge) => write!(page, " {auto}/{edge}")?,
+            None => write!(page, " {auto}/stays")?,
+        }
+    }
+    page.push('\n')
+}
+
+fn put_choices(page: &mut String, choices: &[Choice]) -> Put {
+    for choice in choices {
+        let event = choice.event;
+        write!(page, "  choice {event}:")?;
+        put_moves(page, choice.moves.as_slice())?;
+    }
+    Ok(())
+}
+
+/// `emit TEXT | UNC CON`: the program of a source, with these most rounds.
+pub fn emit_case(fields: &Fields<'_>, page: &mut String) -> Result<(), Fault> {
+    let numbers = fields.numbers(fields.written(1))?;
+    let [unc, con] = numbers.as_slice() else {
+        return Err(Fault::Form("two bounds are wanted"));
+    };
+    let (unc, con) = (*unc, *con);
+    if unc > MOST_ROUNDS || con > MOST_ROUNDS {
+        return Err(Fault::Form("a bound is at most 10000"));
+    }
+    let text = fields.text()?;
+    match loaded_text(fields.alloc, text.as_slice(), Bounds { unc, con })? {
+        Some(program) => Ok(put_lines(page, "program", program.as_slice())?),
+        None => Ok(page.push_str("  no program\n")?),
+    }
+}
+
+/// The text of the program of a source, and none where it is refused.
+fn loaded_text(alloc: Global, text: &[u8], bounds: Bounds) -> Result<Option<Vec<u8>>, Fault>
+    requires unc { bounds.unc ≤ 10000 }
+    requires con { bounds.con ≤ 10000 }
+{
+    match loaded(alloc, text)? {
+        Err(_) => Ok(None),
+        Ok(guarded) => match generate_text(alloc, &guarded, bounds) {
+            Ok(program) => Ok(Some(program)),
+            Err(ProfileErr::Unclassed { .. }) => Ok(None),
+            Err(ProfileErr::Memory) => Err(Fault::from(Memory)),
+        },
+    }
+}

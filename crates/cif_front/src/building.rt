@@ -1,0 +1,96 @@
+//! From the tree of a source to its net with the choices of all events.
+
+ghost use Rattle.std.specs.Prelude.{◌≡◌, true, IfOk, IfErr};
+ghost use Rattle.cif_ast.specs.Countable.{IsCountable};
+ghost use Rattle.cif_source.specs.Source.{source_of};
+ghost use Rattle.cif_scope.specs.Scopes.{AreScopesOf};
+ghost use Rattle.cif_net.specs.View.{net_tree};
+ghost use Rattle.cif_image.specs.Built.{is_flat};
+ghost use Rattle.cif_image.specs.Represents.{Represents};
+ghost use Rattle.cif_flat.specs.Kept.{KeepsNames, KeepsInitials, KeepsObjects, KeepsSize};
+ghost use Rattle.cif_front.specs.Dues.{IsDueOf};
+ghost use Rattle.cif_front.specs.Loads.{IsLoadedFrom};
+
+use crate::refusal::Refusal;
+use cif_alg::inline;
+use cif_ast::Spec;
+use cif_guard::guard;
+use cif_inst::instantiate;
+use cif_lin::linearise;
+use cif_net::{Guarded, Net, Plain};
+use cif_resolve::names_fit;
+use cif_scope::Scopes;
+use cif_sync::roles;
+use cif_types::check_kinds;
+use std::alloc::Global;
+
+/// The scopes of a source.
+#[tactic(auto, using(crate::proofs::PhaseLaws::scopes_stand, crate::proofs::PhaseLaws::scope_due))]
+fn scopes_of(alloc: Global, spec: &Spec) -> Result<Scopes, Refusal>
+    requires forms { is_flat (source_of spec.now) ≡ true }
+    ensures scopes { IfOk result (λ s. AreScopesOf (source_of spec.now) s) }
+    ensures refused { IfErr result (λ e. IsDueOf (source_of spec.now) e) }
+{
+    Ok(names_fit(alloc, spec)?)
+}
+
+/// The net of a source, by its scopes.
+#[tactic(auto, using(crate::proofs::PhaseLaws::names_kept, crate::proofs::PhaseLaws::initials_kept, crate::proofs::PhaseLaws::objects_kept, crate::proofs::PhaseLaws::type_due, crate::proofs::PhaseLaws::inst_due))]
+fn net_of(alloc: Global, spec: &Spec, scopes: &Scopes) -> Result<Net, Refusal>
+    requires countable { IsCountable spec.now }
+    requires scopes { AreScopesOf (source_of spec.now) scopes.now }
+    requires forms { is_flat (source_of spec.now) ≡ true }
+    ensures represents { IfOk result (λ n. Represents (net_tree n) (source_of spec.now)) }
+    ensures names { IfOk result (λ n. KeepsNames (source_of spec.now)) }
+    ensures initials { IfOk result (λ n. KeepsInitials (source_of spec.now)) }
+    ensures objects { IfOk result (λ n. KeepsObjects (source_of spec.now)) }
+    ensures refused { IfErr result (λ e. IsDueOf (source_of spec.now) e) }
+{
+    let kinds = check_kinds(alloc, spec, scopes)?;
+    Ok(instantiate(alloc, spec, scopes, &kinds)?)
+}
+
+/// The plain net of a source, by its net.
+#[tactic(auto, using(crate::proofs::PhaseLaws::net_bare, crate::proofs::PhaseLaws::size_kept, crate::proofs::PhaseLaws::alg_due))]
+fn plain_of(alloc: Global, _spec: &Spec, net: Net) -> Result<Plain, Refusal>
+    requires represents { Represents (net_tree net) (source_of _spec.now) }
+    requires names { KeepsNames (source_of _spec.now) }
+    requires initials { KeepsInitials (source_of _spec.now) }
+    requires objects { KeepsObjects (source_of _spec.now) }
+    requires forms { is_flat (source_of _spec.now) ≡ true }
+    ensures represents { IfOk result (λ p. Represents (net_tree p.net) (source_of _spec.now)) }
+    ensures size { IfOk result (λ p. KeepsSize (source_of _spec.now)) }
+    ensures refused { IfErr result (λ e. IsDueOf (source_of _spec.now) e) }
+{
+    Ok(inline(alloc, net)?)
+}
+
+/// The net of a source with the choices of all events, by its plain net.
+#[tactic(auto, using(crate::proofs::PhaseLaws::all_kept, crate::proofs::PhaseLaws::lin_due))]
+fn guarded_of(alloc: Global, _spec: &Spec, plain: Plain) -> Result<Guarded, Refusal>
+    requires represents { Represents (net_tree plain.net) (source_of _spec.now) }
+    requires names { KeepsNames (source_of _spec.now) }
+    requires initials { KeepsInitials (source_of _spec.now) }
+    requires objects { KeepsObjects (source_of _spec.now) }
+    requires size { KeepsSize (source_of _spec.now) }
+    requires forms { is_flat (source_of _spec.now) ≡ true }
+    ensures loaded { IfOk result (λ g. IsLoadedFrom (source_of _spec.now) g) }
+    ensures refused { IfErr result (λ e. IsDueOf (source_of _spec.now) e) }
+{
+    let roles = roles(alloc, &plain)?;
+    let linear = linearise(alloc, &plain, &roles)?;
+    Ok(guard(alloc, plain, linear)?)
+}
+
+/// The net of a source of the forms that are built so far, with the choices of all events, or the first rule that it breaks.
+pub fn build(alloc: Global, spec: &Spec) -> Result<Guarded, Refusal>
+    requires countable { IsCountable spec.now }
+    requires forms { is_flat (source_of spec.now) ≡ true }
+    ensures loaded { IfOk result (λ g. IsLoadedFrom (source_of spec.now) g) }
+    ensures refused { IfErr result (λ e. IsDueOf (source_of spec.now) e) }
+{
+    let scopes = scopes_of(alloc, spec)?;
+    let net = net_of(alloc, spec, &scopes)?;
+    let plain = plain_of(alloc, spec, net)?;
+    guarded_of(alloc, spec, plain)
+}
