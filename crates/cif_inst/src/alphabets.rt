@@ -128,7 +128,7 @@ fn monitor_places(alloc: Global, automaton: &AutoBody) -> Result<Items<u32>, Mem
     }
 }
 
-/// Gives events a mark.
+/// Gives each of these events a mark.
 #[tactic(auto, using(crate::proofs::MarkLaws::past_set))]
 fn give_mark(marks: &mut Items<u32>, mark: u32, events: &[u32])
     ensures { marks.new ≡ alphabets.marked mark events.now marks.old }
@@ -164,7 +164,8 @@ fn check_marks(marks: &Items<u32>, mark: u32, events: &[u32], places: &[u32]) ->
     }
 }
 
-/// The alphabet of an automaton, which is a body with a mark, whose edges have these events. Or the first event outside.
+/// The alphabet of an automaton and what it monitors, or where an event outside the alphabet is named first. `own` is the
+/// number of the automaton's body, and its mark, which no automaton before it has; `used` are the events of its edges.
 pub fn alphabet_of(
     alloc: Global,
     naming: &Naming,

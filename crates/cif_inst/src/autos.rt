@@ -79,7 +79,8 @@ fn own_path(alloc: Global, prefix: &Text) -> Result<Text, Memory>
     Ok(path)
 }
 
-/// An automaton of the net, or the first event outside its alphabet. Each event has the number of a component before as its mark.
+/// An automaton of the net, or where an event outside its alphabet is named first. `own` is the number of the automaton's
+/// body, and its mark, which no automaton before it has.
 fn automaton(
     alloc: Global,
     naming: &Naming,
@@ -112,7 +113,8 @@ fn automaton(
     })
 }
 
-/// The automata among these components, or the first event outside the alphabet of one.
+/// The automata among these components, or where an event outside the alphabet of one is named first. Each event has the mark
+/// of the last automaton that has it in its alphabet, so none is searched for.
 pub fn all_autos(
     alloc: Global,
     naming: &Naming,

@@ -28,7 +28,7 @@ use cif_scope::Scopes;
 use cif_types::Kinds;
 use std::alloc::Global;
 
-/// The net of a source with these components, or the first event outside an alphabet.
+/// The net of a source with these components, or where an event outside an alphabet is named.
 #[tactic(auto, using(crate::proofs::NetLaws::named))]
 fn net_of_rows(alloc: Global, spec: &Spec, scopes: &Scopes, rows: &[Row]) -> Result<Net, InstErr>
     requires scopes { AreScopesOf (source_of spec.now) scopes.now }
