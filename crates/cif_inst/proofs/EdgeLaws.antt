@@ -1,7 +1,7 @@
 -- The edges that are made are those of the net of a source.
-use Rattle.std.proofs.Common.{◌≡◌, ℕ, zero, suc, ◌+◌, ◌≤◌, ◌<◌, Bool, true, false, cond, inl, inr, List, [], ◌∷◌, ◌++◌, length, map, find, Option, Some, None, refl, sym, ◌∙◌, ap, subst, arith}
-use Rattle.std.specs.Prelude.{◌&&◌, ◌||◌, not, flat_map, filter_map, option_map, slice_get, unwrap_or, if◌then◌else◌}
-use Rattle.std.specs.List.{list_all, list_any, enumerate_from, position_or_len, cons_option}
+use Rattle.std.proofs.Common.{◌≡◌, ℕ, suc, ◌+◌, Bool, true, false, cond, inl, inr, List, [], ◌∷◌, ◌++◌, length, map, find, Option, Some, None, refl, sym, ◌∙◌, ap, arith}
+use Rattle.std.specs.Prelude.{not, flat_map, filter_map, option_map, if◌then◌else◌}
+use Rattle.std.specs.List.{list_all, enumerate_from, position_or_len, cons_option}
 use Rattle.std.specs.Cmp.Lexicographic as words
 use Rattle.std.proofs.lemmas.List.{map-append}
 use Rattle.cif_ast.specs.declared.names.Ident.{Ident}
@@ -11,27 +11,24 @@ use Rattle.cif_system.specs.System.{syncing}
 use Rattle.cif_system.specs.Step.{same_role}
 use Rattle.cif_system.proofs.Lists.{false-true, some-same, none-some, find-passes}
 use Rattle.cif_system.proofs.Picks.{and-left, and-right, map-member, append-left, append-right}
-use Rattle.cif_term.specs.Tree.{net_expr, n_truth, no_net_updates}
 use Rattle.cif_model.specs.Net.{NetEdge}
-use Rattle.cif_source.specs.Source.{Text, syncs, UseTree, EdgeTree, LocationTree, DeclTree, type_decl, enum_decl, event_decl, const_decl, alg_decl, input_decl, disc_decl, equation_decl, invariant_decl, marked_decl, AutomatonTree, SourceBody, group_body, automaton_body, Source, tree_at}
-use Rattle.cif_source.specs.Components.{Component, body_of, scope_of, same_text, body_entries, decl_entries, location_entry, entry_named, Entry, Entries, declared, literal, location, inner, definition, instance, parameter}
-use Rattle.cif_source.specs.Objects.{bodies, locs_of, EventEdge, event_edges, edges_of_uses}
+use Rattle.cif_source.specs.Source.{Text, UseTree, EdgeTree, LocationTree, DeclTree, type_decl, enum_decl, event_decl, const_decl, alg_decl, input_decl, disc_decl, equation_decl, invariant_decl, marked_decl, AutomatonTree, automaton_body, Source, tree_at}
+use Rattle.cif_source.specs.Components.{Component, scope_of, same_text, body_entries, decl_entries, location_entry, entry_named, Entry, Entries, declared, literal, location, inner, definition, instance, parameter}
+use Rattle.cif_source.specs.Objects.{locs_of, EventEdge, event_edges, edges_of_uses}
 use Rattle.cif_source.specs.Lookup.{denotes}
 use Rattle.cif_source.specs.Step.{is_named, role_of, end_of, event_at}
 use Rattle.cif_rules.specs.BodyRules.{targets_of_all}
 use Rattle.cif_rules.specs.InstanceRules.{synchronised_name}
 use Rattle.cif_scope.specs.declared.scope.What.{What}
-use Rattle.cif_scope.specs.declared.scope.What.TheVariants as what
 use Rattle.cif_scope.specs.declared.scopes.Scopes.{Scopes}
-use Rattle.cif_scope.specs.Looks.{slot_at, what_at}
 use Rattle.cif_scope.specs.Tables.{IsBody, IsWhat}
 use Rattle.cif_scope.specs.Scopes.{AreScopesOf}
-use Rattle.cif_scope.proofs.LookLaws.{Slotted, slot-is, what-is}
+use Rattle.cif_scope.proofs.LookLaws.{Slotted, what-is}
 use Rattle.cif_image.specs.Translation.{net_of, net_guard}
-use Rattle.cif_image.specs.Flat.{event_number, sent_tree, net_updates_of, value_places, net_edge, named_events}
+use Rattle.cif_image.specs.Flat.{event_number, sent_tree, net_updates_of, net_edge, named_events}
 use Rattle.cif_image.proofs.EdgeLaws.{names_its_objects, names_event, names_variable, number-found}
 use Rattle.cif_image.proofs.KeptLaws.{has_twice}
-use Rattle.cif_image.proofs.PathLaws.{names, names-append, not-twice-right}
+use Rattle.cif_image.proofs.PathLaws.{names, not-twice-right}
 use Rattle.cif_image.proofs.BodyLaws.{other-name}
 use Rattle.cif_model.proofs.Passing.{all-member}
 use Rattle.cif_image.proofs.SystemLaws.{map-map}

@@ -1,7 +1,7 @@
 -- The net of a source that keeps its rules is a net.
-use Rattle.std.proofs.Common.{◌≡◌, ◌≢◌, ℕ, zero, suc, ◌+◌, ◌≤◌, ◌<◌, Bool, true, false, cond, inl, inr, List, [], ◌∷◌, ◌++◌, length, map, Option, Some, None, refl, sym, ◌∙◌, ap, subst, arith}
-use Rattle.std.specs.Prelude.{◌&&◌, ◌||◌, not, nat_eq, nat_le, nat_lt, flat_map, filter, sum, unwrap_or, option_map}
-use Rattle.std.specs.List.{list_all, list_any, enumerate_from, position_or_len}
+use Rattle.std.proofs.Common.{◌≡◌, ◌≢◌, ℕ, ◌+◌, ◌≤◌, ◌<◌, Bool, true, false, cond, inl, inr, List, [], ◌∷◌, ◌++◌, length, map, Option, Some, None, refl, sym, ◌∙◌, ap, subst, arith}
+use Rattle.std.specs.Prelude.{◌&&◌, ◌||◌, nat_eq, nat_le, nat_lt, flat_map, filter, sum, unwrap_or, option_map}
+use Rattle.std.specs.List.{list_all, list_any, position_or_len}
 use Rattle.std.proofs.lemmas.Bool.Decides.{nat_tests}
 use Rattle.std.proofs.lemmas.List.{length-append}
 use Rattle.std.proofs.lemmas.List.Sums.{sum_by-cons, sum-map}
@@ -11,32 +11,33 @@ use Rattle.cif_system.specs.Words.{Member}
 use Rattle.cif_system.specs.System.{syncing}
 use Rattle.cif_system.proofs.Lists.{false-true, filter-within, filter-passes, map-length}
 use Rattle.cif_system.proofs.Distinct.{member-map}
-use Rattle.cif_system.proofs.Picks.{and-left, and-right, map-member}
+use Rattle.cif_system.proofs.Picks.{map-member, append-left, append-right}
 use Rattle.cif_term.specs.Tree.{net_expr, n_truth, no_net_updates}
-use Rattle.cif_model.specs.Net.{NetEdge, NetAuto, NetEvent, NetStored, Net, no_net_chan}
+use Rattle.cif_model.specs.Net.{NetEdge, NetAuto, Net}
 use Rattle.cif_model.specs.Facts.{is_net, things, event_stands, auto_stands, edge_stands, are_below, has, auto_targets, are_all_apart, are_apart}
 use Rattle.cif_model.specs.Exprs.{targets}
-use Rattle.cif_source.specs.Source.{tree_at, DeclTree, type_decl, enum_decl, event_decl, const_decl, alg_decl, input_decl, disc_decl, equation_decl, invariant_decl, marked_decl, always, needs, disables, SourceBody, group_body, automaton_body, LocationTree, AutomatonTree, Source}
+use Rattle.cif_source.specs.Source.{tree_at, DeclTree, type_decl, enum_decl, event_decl, const_decl, alg_decl, input_decl, disc_decl, equation_decl, invariant_decl, marked_decl, SourceBody, group_body, automaton_body, LocationTree, AutomatonTree, Source}
 use Rattle.cif_source.specs.Components.{Component, whole, part, blank, copy, body_of}
-use Rattle.cif_source.specs.Objects.{components_of, most_objects, bodies, automata, is_automaton, locs_of, locs_in, EventEdge, event_edges, events, inputs, variables, algs, is_event, is_input, is_variable, is_alg, Declared, declarations, decls_of, number_in}
-use Rattle.cif_source.specs.Lookup.{denotes}
-use Rattle.cif_source.specs.Step.{event_at, end_of, is_named, first_place, role_of}
-use Rattle.cif_rules.specs.BodyRules.{HasInitials, InitialsDue, initial_count, name_at}
+use Rattle.cif_source.specs.Objects.{components_of, bodies, automata, is_automaton, locs_of, EventEdge, event_edges, events, is_event, is_input, is_variable, is_alg, Declared, declarations, decls_of, number_in}
+use Rattle.cif_source.specs.Step.{end_of, is_named, first_place, role_of}
+use Rattle.cif_rules.specs.BodyRules.{HasInitials, initial_count, name_at}
 use Rattle.cif_rules.specs.InstanceRules.{decl_objects, component_objects}
 use Rattle.cif_types.specs.Kinds.{KeepsKinds}
-use Rattle.cif_image.specs.Flat.{net_of_source, net_auto, net_edge, net_event, net_stored, net_alg, net_exclusions, net_invariants, event_number, location_name, alphabet_of, alphabet_in, monitored_in, monitored_events, named_events, sent_tree, net_updates_of}
+use Rattle.cif_image.specs.Flat.{net_of_source, net_auto, net_edge, net_event, net_stored, net_alg, net_exclusions, net_invariants, event_number, location_name, alphabet_of, monitored_in, monitored_events, named_events, sent_tree, net_updates_of}
 use Rattle.cif_image.specs.Translation.{net_of, net_guard}
 use Rattle.cif_rules.specs.BodyRules.{targets_of_all}
 use Rattle.cif_rules.specs.InstanceRules.{synchronised_name}
-use Rattle.cif_image.specs.Built.{finds_its_alphabet, is_left_out}
+use Rattle.cif_rules.specs.InstanceRules as rules
+use Rattle.cif_rules.specs.InstanceRules.{AlphabetLacksDue}
 use Rattle.cif_image.proofs.KeptLaws.{member-passes}
 use Rattle.cif_image.proofs.RuleLaws.{declaration-cases, all-from, member-any}
 use Rattle.cif_image.proofs.NumberLaws.{event_total, kept-all}
-use Rattle.cif_image.proofs.FormLaws.{IsEvent, IsBare, flat-nothing, is_plain_part, only-events, only-bare, only-parts, found-alphabet, edge-stands, enumerated}
-use Rattle.cif_image.proofs.NamedLaws.{LeadsToEvent, event-number, event-below, position-below}
+use Rattle.cif_image.proofs.FormLaws.{IsEvent, IsBare, flat-nothing, is_plain_part, only-events, only-bare, only-parts, edge-stands, enumerated}
+use Rattle.cif_image.proofs.NamedLaws.{event-number, event-below, position-below}
 use Rattle.cif_inst.proofs.NamingLaws.{IsSound, listed, few}
-use Rattle.cif_inst.proofs.EdgeLaws.{event_of, found-events}
-use Rattle.cif_inst.proofs.UseLaws.{edge-leads, body-named, automaton-body, target-there}
+use Rattle.cif_inst.proofs.AlphabetLaws.{use_name, synchronised-all, edge-numbered, named-are, monitor-numbered, alphabet-below}
+use Rattle.cif_inst.proofs.LackLaws.{asked_names, inside-alphabet}
+use Rattle.cif_inst.proofs.UseLaws.{edge-leads, automaton-body, target-there}
 
 -- ---- tests
 
@@ -80,6 +81,10 @@ abbrev bare_net : Source → Net
 bare_net t = record { autos = map net_auto (automata t); events = map net_event (events t); inputs = []; vars = []; algs = []; exclusions = []; invariants = [] }
 
 module _ (t : Source) (h : IsSound t) (kinds : KeepsKinds t) where
+  -- each event that is asked for stands in the alphabet
+  abbrev Keeps : Type 0
+  Keeps = (at : ℕ) → AlphabetLacksDue t at → ⊥
+
   declared-event : (d : Declared) → Member d (declarations t) → IsEvent d.1
   declared-event d m = let c = declaration-cases t d m in only-events t h.flat d.0 (subst (Member d.0) (listed t h) c.0) d.1 c.1
 
@@ -193,26 +198,6 @@ module _ (t : Source) (h : IsSound t) (kinds : KeepsKinds t) where
                 absurd (kinds.started name.0 (initial_count c) (member-any (λ d. HasInitials d name.0 (initial_count c)) c (bodies t) m (record { automaton = a; named = name.1; counted = refl; other = λ g. false-true e (ap (λ k. nat_eq k 1) g ∙ eq-true 1) })))
           ]) refl
 
-  no-alphabet : (c : Component) (b : SourceBody) → finds_its_alphabet b ≡ true → is_automaton b ≡ true → (a : AutomatonTree) × (b ≡ automaton_body a) × (a.alphabet ≡ None) × (a.monitor ≡ None)
-  no-alphabet c (group_body is) f a = absurd (false-true refl a)
-  no-alphabet c (automaton_body x) f a = (x, refl, left-out x.alphabet (and-left (is_left_out x.alphabet) (is_left_out x.monitor) f), left-out x.monitor (and-right (is_left_out x.alphabet) (is_left_out x.monitor) f))
-    where
-      left-out : (o : Option (List Name)) → is_left_out o ≡ true → o ≡ None
-      left-out None g = refl
-      left-out (Some x) g = absurd (false-true refl g)
-
-  pub alphabet-is : (c : Component) → Member c (bodies t) → is_automaton (body_of c) ≡ true → alphabet_of c ≡ map event_of (map (net_edge c) (event_edges c))
-  alphabet-is c m a =
-      let f = no-alphabet c (body_of c) (found-alphabet t h.flat c m) a in
-      ap (alphabet_in c) f.1
-      ∙ ap (λ o. named_events c (elim o [ None ↦ flat_map synchronised_name (event_edges c) | Some nms ↦ nms ])) f.2
-      ∙ found-events c (event_edges c) (only-bare t h.flat c m) (body-named t h c m)
-
-  pub monitors-none : (c : Component) → Member c (bodies t) → is_automaton (body_of c) ≡ true → monitored_in c (body_of c) ≡ []
-  monitors-none c m a =
-      let f = no-alphabet c (body_of c) (found-alphabet t h.flat c m) a in
-      ap (monitored_in c) f.1 ∙ ap (monitored_events c) f.3
-
   -- ---- edges
 
   abbrev plain_edge : (event from to at : ℕ) → NetEdge
@@ -246,14 +231,15 @@ module _ (t : Source) (h : IsSound t) (kinds : KeepsKinds t) where
       target None e = from-small c w k
       target (Some n) e = position-below (is_named n.text) (locs_of c) (target-there t h c m w k n e)
 
-  one-edge : (c : Component) → Member c (bodies t) → is_automaton (body_of c) ≡ true → (w : EventEdge) → Member w (event_edges c) → edge_stands (bare_net t) (net_auto c) (net_edge c w) ≡ true
-  one-edge c m a w k =
-      let here : has (alphabet_of c) (event_number c w.event_use.name) ≡ true =
-      subst (λ es. has es (event_number c w.event_use.name) ≡ true) (sym (alphabet-is c m a))
-      (member-passes (nat_eq (event_number c w.event_use.name)) (map event_of (map (net_edge c) (event_edges c))) (event_number c w.event_use.name)
-      (map-member event_of (net_edge c w) (map (net_edge c) (event_edges c)) (map-member (net_edge c) w (event_edges c) k)) (eq-true (event_number c w.event_use.name))) in
+  one-edge : Keeps → (c : Component) → Member c (automata t) → (w : EventEdge) → Member w (event_edges c) → edge_stands (bare_net t) (net_auto c) (net_edge c w) ≡ true
+  one-edge keeps c a w k =
+      let m : Member c (bodies t) = automaton-body t h c a in
+      let asked : Member w.event_use.name (asked_names c) =
+      append-left w.event_use.name (flat_map synchronised_name (event_edges c)) (rules.monitored_in (body_of c))
+      (subst (Member w.event_use.name) (sym (synchronised-all (event_edges c) (only-bare t h.flat c m))) (map-member use_name w (event_edges c) k)) in
       ap (edge_stands (bare_net t) (net_auto c)) (edge-plain c w (only-bare t h.flat c m w k))
-      ∙ stands (event_number c w.event_use.name) w.from (end_of c w) w.event_use.name.at (event-small c m w k) (from-small c w k) (end-small c m w k) here
+      ∙ stands (event_number c w.event_use.name) w.from (end_of c w) w.event_use.name.at (event-small c m w k) (from-small c w k) (end-small c m w k)
+      (inside-alphabet t keeps c a w.event_use.name asked (edge-numbered t h c m w k).number)
     where
       stands : (e j k at : ℕ) → e < length (map net_event (events t)) → j < length (locs_of c) → k < length (locs_of c) → has (alphabet_of c) e ≡ true → edge_stands (bare_net t) (net_auto c) (plain_edge e j k at) ≡ true
       stands e j k at x y z here =
@@ -263,22 +249,42 @@ module _ (t : Source) (h : IsSound t) (kinds : KeepsKinds t) where
           (lt-true k (length (map location_name (locs_of c))) (omega (arith, z, map-length location_name (locs_of c))))
           here
 
-  one-auto : (c : Component) → Member c (automata t) → auto_stands (bare_net t) (net_auto c) ≡ true
-  one-auto c m =
+  automaton-tree : (b : SourceBody) → is_automaton b ≡ true → (a : AutomatonTree) × (b ≡ automaton_body a)
+  automaton-tree (group_body is) g = absurd (false-true refl g)
+  automaton-tree (automaton_body a) g = (a, refl)
+
+  -- what is monitored stands in the alphabet
+  monitors-inside : Keeps → (c : Component) → Member c (automata t) → (a : AutomatonTree) → body_of c ≡ automaton_body a → list_all (has (alphabet_of c)) (monitored_in c (body_of c)) ≡ true
+  monitors-inside keeps c m a e = ap (λ b. list_all (has (alphabet_of c)) (monitored_in c b)) e ∙ named a.monitor refl
+    where
+      each : (nms : List Name) → a.monitor ≡ Some nms → (x : ℕ) → Member x (named_events c nms) → has (alphabet_of c) x ≡ true
+      each nms is x y =
+          let numbered = λ (nm : Name) (k : Member nm nms). monitor-numbered t h c (automaton-body t h c m) a e nm (subst (λ o. Member nm (unwrap_or o [])) (sym is) k) in
+          let nm = member-map (event_number c) x nms (subst (Member x) (named-are c nms (λ nm k. (numbered nm k).number)) y) in
+          let asked : Member nm.0 (rules.monitored_in (body_of c)) = subst (λ b. Member nm.0 (rules.monitored_in b)) (sym e) (subst (λ o. Member nm.0 (unwrap_or o [])) (sym is) nm.1) in
+          ap (has (alphabet_of c)) nm.2
+          ∙ inside-alphabet t keeps c m nm.0 (append-right nm.0 (flat_map synchronised_name (event_edges c)) (rules.monitored_in (body_of c)) asked) (numbered nm.0 nm.1).number
+
+      named : (o : Option (List Name)) → a.monitor ≡ o → list_all (has (alphabet_of c)) (monitored_events c o) ≡ true
+      named None is = refl
+      named (Some []) is = all-from (has (alphabet_of c)) (alphabet_of c) (λ x k. member-passes (nat_eq x) (alphabet_of c) x k (eq-true x))
+      named (Some (nm ∷ nms)) is = all-from (has (alphabet_of c)) (named_events c (nm ∷ nms)) (each (nm ∷ nms) is)
+
+  one-auto : Keeps → (c : Component) → Member c (automata t) → auto_stands (bare_net t) (net_auto c) ≡ true
+  one-auto keeps c m =
       let home = automaton-body t h c m in
       let a : is_automaton (body_of c) ≡ true = filter-passes (λ c. is_automaton (body_of c)) (components_of t) c m in
+      let tree = automaton-tree (body_of c) a in
       both (nat_lt (first_place c) (length (map location_name (locs_of c))) && are_below (length (map net_event (events t))) (alphabet_of c) && list_all (has (alphabet_of c)) (monitored_in c (body_of c))) (list_all (edge_stands (bare_net t) (net_auto c)) (map (net_edge c) (event_edges c)))
       (both (nat_lt (first_place c) (length (map location_name (locs_of c))) && are_below (length (map net_event (events t))) (alphabet_of c)) (list_all (has (alphabet_of c)) (monitored_in c (body_of c)))
       (both (nat_lt (first_place c) (length (map location_name (locs_of c)))) (are_below (length (map net_event (events t))) (alphabet_of c))
       (lt-true (first_place c) (length (map location_name (locs_of c))) (omega (arith, started c home a, map-length location_name (locs_of c))))
       (all-from (λ e. nat_lt e (length (map net_event (events t)))) (alphabet_of c) (λ e k.
-      let x = member-map event_of e (map (net_edge c) (event_edges c)) (subst (Member e) (alphabet-is c home a) k) in
-      let w = member-map (net_edge c) x.0 (event_edges c) x.1 in
-      lt-true e (length (map net_event (events t))) (omega (arith, event-small c home w.0 w.1, x.2, ap event_of w.2)))))
-      (ap (list_all (has (alphabet_of c))) (monitors-none c home a)))
+      lt-true e (length (map net_event (events t))) (omega (arith, alphabet-below t h c home tree.0 tree.1 e k, map-length net_event (events t))))))
+      (monitors-inside keeps c m tree.0 tree.1))
       (all-from (edge_stands (bare_net t) (net_auto c)) (map (net_edge c) (event_edges c)) (λ x k.
       let w = member-map (net_edge c) x (event_edges c) k in
-      ap (edge_stands (bare_net t) (net_auto c)) w.2 ∙ one-edge c home a w.0 w.1))
+      ap (edge_stands (bare_net t) (net_auto c)) w.2 ∙ one-edge keeps c m w.0 w.1))
 
   no-targets : (c : Component) → Member c (automata t) → auto_targets (net_auto c) ≡ []
   no-targets c m =
@@ -293,8 +299,8 @@ module _ (t : Source) (h : IsSound t) (kinds : KeepsKinds t) where
       (all-from (are_apart xs) xss (λ ys m. ap (λ zs. are_apart zs ys) (e xs (inl refl))))
       (none-apart xss (λ ys m. e ys (inr m)))
 
-  bare-fits : is_net (bare_net t) ≡ true
-  bare-fits =
+  bare-fits : Keeps → is_net (bare_net t) ≡ true
+  bare-fits keeps =
       net-tests (nat_le (things (bare_net t)) 100000) (list_all event_stands (map net_event (events t))) (list_all (auto_stands (bare_net t)) (map net_auto (automata t))) (are_all_apart (map auto_targets (map net_auto (automata t))))
       (le-true (things (bare_net t)) 100000 few-things)
       (all-from event_stands (map net_event (events t)) (λ x m.
@@ -302,11 +308,11 @@ module _ (t : Source) (h : IsSound t) (kinds : KeepsKinds t) where
       ap event_stands (d.2 ∙ ap (λ y. net_event (d.0.0, y)) (declared-event d.0 (filter-within (λ (d : Declared). is_event d.1) (declarations t) d.0 d.1)).2)))
       (all-from (auto_stands (bare_net t)) (map net_auto (automata t)) (λ x m.
       let c = member-map net_auto x (automata t) m in
-      ap (auto_stands (bare_net t)) c.2 ∙ one-auto c.0 c.1))
+      ap (auto_stands (bare_net t)) c.2 ∙ one-auto keeps c.0 c.1))
       (none-apart (map auto_targets (map net_auto (automata t))) (λ xs m.
       let x = member-map auto_targets xs (map net_auto (automata t)) m in
       let c = member-map net_auto x.0 (automata t) x.1 in
       x.2 ∙ ap auto_targets c.2 ∙ no-targets c.0 c.1))
 
-  pub net-fits : is_net (net_of_source t) ≡ true
-  net-fits = ap is_net net-bare ∙ bare-fits
+  pub net-fits : Keeps → is_net (net_of_source t) ≡ true
+  net-fits keeps = ap is_net net-bare ∙ bare-fits keeps

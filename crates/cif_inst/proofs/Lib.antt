@@ -3,6 +3,12 @@ pub mod SlotLaws
 pub mod NamingLaws
 pub mod EdgeLaws
 pub mod UseLaws
+pub mod MarkLaws
+pub mod AlphabetLaws
+pub mod LackLaws
+pub mod AutomatonLaws
+pub mod TellLaws
 pub mod FitLaws
 pub mod NetLaws
+pub mod RowAutoLaws
 pub mod AutoLaws

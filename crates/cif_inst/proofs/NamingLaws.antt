@@ -1,22 +1,21 @@
 -- What a name finds by numbers is what it denotes.
-use Rattle.std.proofs.Common.{◌≡◌, ℕ, zero, suc, ◌+◌, ◌≤◌, ◌<◌, Bool, true, false, List, [], ◌∷◌, ◌++◌, length, map, take, Option, Some, None, refl, sym, ◌∙◌, ap, subst, arith}
+use Rattle.std.proofs.Common.{◌≡◌, ℕ, zero, suc, ◌≤◌, ◌<◌, true, false, List, [], ◌∷◌, ◌++◌, length, map, Option, Some, None, refl, sym, ◌∙◌, ap, subst, arith}
 use Rattle.std.specs.Prelude.{slice_get, unwrap_or, not}
-use Rattle.std.specs.List.{list_all}
 use Rattle.cif_ast.specs.declared.names.Ident.{Ident}
 use Rattle.cif_ast.specs.Tree.{Tree}
 use Rattle.cif_ast.specs.declared.names.Name.{Name}
 use Rattle.cif_system.specs.Words.{Member, AreDistinct}
-use Rattle.cif_system.proofs.Lists.{false-true, some-same, none-some}
+use Rattle.cif_system.proofs.Lists.{false-true}
 use Rattle.cif_system.proofs.Picks.{at-member}
-use Rattle.cif_source.specs.Source.{DeclTree, type_decl, enum_decl, event_decl, const_decl, alg_decl, input_decl, disc_decl, equation_decl, invariant_decl, marked_decl, Source}
-use Rattle.cif_source.specs.Components.{Component, whole, part, blank, copy, body_of, params_of, path_of, as_written, specification_of, scope_of, param_entries, body_entries, Entry, declared, literal, location, inner, definition, instance, parameter}
+use Rattle.cif_source.specs.Source.{type_decl, enum_decl, event_decl, const_decl, alg_decl, input_decl, disc_decl, equation_decl, invariant_decl, marked_decl, Source}
+use Rattle.cif_source.specs.Components.{Component, whole, part, blank, copy, body_of, params_of, path_of, as_written, scope_of, param_entries, body_entries, Entry, declared, literal, location, inner, definition, instance, parameter}
 use Rattle.cif_source.specs.Lookup.{ScopeEntry, Reached, reached, missing, blocked, found, thing, given, denotes, Object}
 use Rattle.cif_source.specs.Objects.{components_of, bodies, most_objects, events, number_in}
 use Rattle.cif_source.specs.Step.{event_at}
 use Rattle.cif_source.proofs.NameLaws.{met, follow-met, denotes-found}
 use Rattle.cif_source.proofs.ReachLaws.{frames-listed}
-use Rattle.cif_scope.specs.Tables.{IsBody, Beside, IsTable, IsScope}
-use Rattle.cif_scope.specs.Scopes.{AreNumbered, Finds, IsFound, KeepsScoping}
+use Rattle.cif_scope.specs.Tables.{IsBody, IsScope}
+use Rattle.cif_scope.specs.Scopes.{AreNumbered, Finds, KeepsScoping}
 use Rattle.cif_scope.specs.declared.scopes.Found.{Found}
 use Rattle.cif_scope.proofs.Places.{beside-length}
 use Rattle.cif_image.specs.Built.{is_flat}
@@ -27,12 +26,10 @@ use Rattle.cif_image.proofs.RuleLaws.{few-kept, all-from}
 use Rattle.cif_image.proofs.SingleLaws.{scopes-single}
 use Rattle.cif_image.proofs.WalkLaws.{body_objects, bodies-components, few-objects}
 use Rattle.cif_image.proofs.BodyLaws.{is_single, paths-distinct}
-use Rattle.cif_image.proofs.NumberLaws.{as_event, number-is}
+use Rattle.cif_image.proofs.NumberLaws.{number-is}
 use Rattle.cif_image.proofs.FormLaws.{is_plain_part, no-definitions, no-params, only-parts}
 use Rattle.cif_image.proofs.NamedLaws.{plain-thing}
-use Rattle.cif_inst.specs.Rows.{rows_of}
 use Rattle.cif_inst.specs.Events.{rows_slots}
-use Rattle.cif_inst.specs.Objects.{rows_count}
 use Rattle.cif_inst.specs.Naming.{or_whole, body_at, source_for, component_at, slot_number, number_at, AreNamesOf}
 use Rattle.cif_inst.specs.declared.naming.Naming.{Naming}
 use Rattle.cif_inst.proofs.RowLaws.{row_for, rows-are, objects-are}

@@ -1,27 +1,26 @@
 -- Rows are the bodies of a source without definitions, and their objects and events are the source's.
-use Rattle.std.proofs.Common.{◌≡◌, ℕ, zero, suc, ◌+◌, ◌≤◌, ◌<◌, Bool, true, false, cond, inl, inr, List, [], ◌∷◌, ◌++◌, length, map, Option, Some, None, refl, sym, ◌∙◌, ap, subst, arith, append_assoc}
-use Rattle.std.specs.Prelude.{◌&&◌, flat_map, filter, sum}
-use Rattle.std.specs.List.{list_all, enumerate_from, join_with_byte}
+use Rattle.std.proofs.Common.{◌≡◌, ℕ, ◌+◌, true, inl, inr, List, [], ◌∷◌, ◌++◌, length, map, refl, sym, ◌∙◌, ap, subst, arith, append_assoc}
+use Rattle.std.specs.Prelude.{flat_map, filter, sum}
+use Rattle.std.specs.List.{list_all, enumerate_from}
 use Rattle.std.proofs.lemmas.List.{length-append, map-append}
 use Rattle.std.proofs.lemmas.List.Sums.{sum_by-cons, sum-map}
 use Rattle.cif_ast.specs.declared.names.Ident.{Ident}
-use Rattle.cif_ast.specs.declared.declarations.Class.{Class}
 use Rattle.cif_system.specs.Words.{Member}
 use Rattle.cif_system.proofs.Lists.{false-true, map-length}
 use Rattle.cif_system.proofs.Picks.{and-left, and-right}
-use Rattle.cif_model.specs.Net.{NetEvent, no_net_chan}
+use Rattle.cif_model.specs.Net.{no_net_chan}
 use Rattle.cif_model.proofs.Passing.{both-pass}
-use Rattle.cif_source.specs.Source.{Text, no_type, UseTree, EdgeTree, LocationTree, DeclTree, type_decl, enum_decl, event_decl, const_decl, alg_decl, input_decl, disc_decl, equation_decl, invariant_decl, marked_decl, SourceItem, decl_item, component_item, definition_item, instance_item, SourceBody, group_body, automaton_body, Source, no_source, source, list_of_items}
+use Rattle.cif_source.specs.Source.{Text, UseTree, EdgeTree, LocationTree, DeclTree, decl_item, component_item, definition_item, instance_item, SourceBody, group_body, automaton_body, Source, no_source, source, list_of_items}
 use Rattle.cif_source.specs.Components.{Component, whole, part, body_of, Path, path_of}
-use Rattle.cif_source.specs.Objects.{bodies, bodies_in, bodies_under, items_in, item_decls, decls_in, decls_of, locs_in, EventEdge, event_edges, edges_of_uses, components_of, is_event, events, declarations, Declared}
+use Rattle.cif_source.specs.Objects.{bodies, bodies_in, bodies_under, items_in, item_decls, decls_in, decls_of, locs_in, EventEdge, edges_of_uses, components_of, is_event, events, Declared}
 use Rattle.cif_source.specs.Step.{class_of}
 use Rattle.cif_rules.specs.InstanceRules.{decl_objects, component_objects}
 use Rattle.cif_image.specs.Built.{stands_alone, has_no_definitions, is_flat}
-use Rattle.cif_image.specs.Flat.{dotted, own_path, net_event}
+use Rattle.cif_image.specs.Flat.{dotted, net_event}
 use Rattle.cif_image.proofs.WalkLaws.{is_written_out, body_objects}
 use Rattle.cif_image.proofs.NumberLaws.{kept-all, append-kept}
 use Rattle.cif_image.proofs.FormLaws.{IsEvent, no-definitions, only-events}
-use Rattle.cif_inst.specs.Rows.{RowTree, inner, rows_in, rows_at, rows_from, rows_of}
+use Rattle.cif_inst.specs.Rows.{RowTree, rows_in, rows_from, rows_of}
 use Rattle.cif_inst.specs.Objects as objects
 use Rattle.cif_inst.specs.Events as events
 

@@ -1,6 +1,6 @@
 -- The numbers at the slots of bodies are those of events.
-use Rattle.std.proofs.Common.{◌≡◌, ℕ, zero, suc, ◌+◌, ◌≤◌, ◌<◌, Bool, true, false, cond, List, [], ◌∷◌, ◌++◌, length, map, take, Option, Some, None, refl, sym, ◌∙◌, ap, subst, arith, append_assoc}
-use Rattle.std.specs.Prelude.{flat_map, filter, filter_map, slice_get, unwrap_or, option_map, replicate}
+use Rattle.std.proofs.Common.{◌≡◌, ℕ, zero, suc, ◌+◌, List, [], ◌∷◌, ◌++◌, length, map, take, Option, Some, None, refl, sym, ◌∙◌, ap, subst, arith}
+use Rattle.std.specs.Prelude.{flat_map, filter, filter_map, slice_get, unwrap_or, option_map}
 use Rattle.std.specs.List.{enumerate_from, cons_option}
 use Rattle.cif_ast.specs.declared.names.Ident.{Ident}
 use Rattle.cif_ast.specs.declared.declarations.Class.{Class}
@@ -8,8 +8,7 @@ use Rattle.cif_system.proofs.Lists.{some-same, none-some}
 use Rattle.cif_source.specs.Source.{ChannelTree, LocationTree, DeclTree, type_decl, enum_decl, event_decl, const_decl, alg_decl, input_decl, disc_decl, equation_decl, invariant_decl, marked_decl, SourceItem, decl_item, component_item, definition_item, instance_item, SourceBody, group_body, automaton_body, Source, no_source, source, list_of_items}
 use Rattle.cif_source.specs.Components.{Component, body_of, Entry, Entries, declared, literal, location, decl_entries, item_entries, body_entries, location_entry}
 use Rattle.cif_source.specs.Objects.{decls_in, decls_of, item_decls, is_event}
-use Rattle.cif_image.proofs.NumberLaws.{as_event, event_rank, event_total, literals-nothing, append-filtered, append-kept}
-use Rattle.cif_inst.specs.Rows.{RowTree}
+use Rattle.cif_image.proofs.NumberLaws.{as_event, event_rank, event_total, literals-nothing}
 use Rattle.cif_inst.specs.Events as events
 use Rattle.cif_inst.specs.Events.{zeros, decl_slots, decls_slots, items_slots, body_slots, rows_slots}
 use Rattle.cif_inst.specs.Naming.{slot_number}

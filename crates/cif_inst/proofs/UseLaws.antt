@@ -1,23 +1,20 @@
 -- The events of edges are uses of their automaton.
-use Rattle.std.proofs.Common.{◌≡◌, ℕ, ◌+◌, Bool, true, false, inl, inr, List, [], ◌∷◌, ◌++◌, length, map, Option, Some, None, refl, sym, ◌∙◌, ap, subst}
+use Rattle.std.proofs.Common.{◌≡◌, ℕ, ◌+◌, true, false, inl, inr, List, [], ◌∷◌, ◌++◌, map, Option, Some, None, refl, sym, ◌∙◌, ap, subst}
 use Rattle.std.specs.Prelude.{◌&&◌, flat_map, unwrap_or}
 use Rattle.std.specs.List.{list_all, enumerate_from}
-use Rattle.cif_ast.specs.Tree.{no_updates}
 use Rattle.cif_ast.specs.declared.names.Name.{Name}
 use Rattle.cif_system.specs.Words.{Member}
-use Rattle.cif_system.proofs.Lists.{false-true, filter-within, filter-passes}
-use Rattle.cif_system.proofs.Picks.{append-left, append-right, flat_map-member, and-left, and-right}
-use Rattle.cif_source.specs.Source.{UseTree, EquationTree, EdgeTree, LocationTree, AutomatonTree, SourceBody, group_body, automaton_body, Source}
+use Rattle.cif_system.proofs.Lists.{false-true, filter-within}
+use Rattle.cif_system.proofs.Picks.{append-left, append-right, flat_map-member}
+use Rattle.cif_source.specs.Source.{UseTree, EquationTree, EdgeTree, LocationTree, SourceBody, group_body, automaton_body, Source}
 use Rattle.cif_source.specs.Components.{Component, body_of, params_of}
-use Rattle.cif_source.specs.Lookup.{denotes}
 use Rattle.cif_source.specs.Objects.{components_of, bodies, automata, is_automaton, locs_of, locs_in, EventEdge, event_edges}
 use Rattle.cif_source.specs.Uses.{Use, uses, event_asked, asking, param_uses, body_uses, decl_uses, location_uses, value_uses, edge_uses, event_uses, updates_uses}
-use Rattle.cif_source.specs.Step.{event_at}
 use Rattle.cif_rules.specs.BodyRules.{targets_of_all}
-use Rattle.cif_image.proofs.EdgeLaws.{is_some, names_event, names_variable, names_its_objects}
+use Rattle.cif_image.proofs.EdgeLaws.{is_some, names_variable, names_its_objects}
 use Rattle.cif_image.proofs.SystemLaws.{names_all}
 use Rattle.cif_image.proofs.RuleLaws.{all-from}
-use Rattle.cif_image.proofs.FormLaws.{EdgeStands, edge-stands, enumerated, only-bare}
+use Rattle.cif_image.proofs.FormLaws.{edge-stands, enumerated, only-bare}
 use Rattle.cif_image.proofs.NamedLaws.{LeadsToEvent, leads, event-number}
 use Rattle.cif_inst.proofs.NamingLaws.{IsSound, listed, few}
 use Rattle.cif_inst.proofs.EdgeLaws.{entry_passes, all-flat, is_no_location, decl-no_location, decls-no_location}
@@ -41,7 +38,7 @@ use Rattle.cif_image.proofs.KeptLaws.{or-right}
 use Rattle.cif_image.proofs.RuleLaws.{member-any}
 use Rattle.cif_image.proofs.FormLaws.{no-params}
 
-abbrev event-use : Name → Use
+abbrev pub event-use : Name → Use
 event-use nm = record { name = nm; asks = event_asked }
 
 edge-used : (e : EdgeTree) (u : UseTree) → Member u e.uses → Member (event-use u.name) (edge_uses e)

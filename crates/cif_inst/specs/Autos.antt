@@ -1,11 +1,11 @@
 -- The automata of a source without data, by what names are looked up in.
-use Rattle.std.specs.Prelude.{ℕ, ◌+◌, ◌-◌, Bool, List, [], ◌∷◌, ◌++◌, map, length, take}
+use Rattle.std.specs.Prelude.{ℕ, ◌+◌, ◌-◌, Bool, List, [], ◌∷◌, ◌++◌, map, length, take, Option, None}
 use Rattle.std.specs.List.{position_or_len}
-use Rattle.cif_model.specs.Net.{NetEdge, NetAuto}
+use Rattle.cif_model.specs.Net.{NetAuto}
 use Rattle.cif_source.specs.Source.{Text, LocationTree, AutomatonTree, SourceBody, group_body, automaton_body}
 use Rattle.cif_image.specs.Flat.{location_name}
 use Rattle.cif_inst.specs.Rows.{RowTree}
-use Rattle.cif_inst.specs.Edges.{locations_edges}
+use Rattle.cif_inst.specs.Alphabets.{automaton_edges, alphabet_for, monitors_for, automaton_lacks, or_later}
 use Rattle.cif_inst.specs.declared.naming.Naming.{Naming}
 
 abbrev pub is_initial : LocationTree → Bool
@@ -14,17 +14,13 @@ is_initial l = l.initial
 abbrev pub without_dot : Text → Text
 without_dot p = take (length p - 1) p
 
-abbrev pub automaton_edges : Naming → (body : ℕ) → AutomatonTree → List NetEdge
-automaton_edges n k a = locations_edges n k (length a.locs) 0 a.locs
-
--- it synchronises on the events of its edges
 abbrev pub bare_auto : Naming → (body : ℕ) → Text → AutomatonTree → NetAuto
 bare_auto n k p a = record {
   path = without_dot p;
   locs = map location_name a.locs;
   first = position_or_len is_initial a.locs;
-  alphabet = map (λ (e : NetEdge). e.event) (automaton_edges n k a);
-  monitors = [];
+  alphabet = alphabet_for n k a;
+  monitors = monitors_for n k a;
   edges = automaton_edges n k a;
 }
 
@@ -36,3 +32,14 @@ body_autos n k p (automaton_body a) = bare_auto n k p a ∷ []
 abbrev pub rows_autos : Naming → ℕ → List RowTree → List NetAuto
 rows_autos n k [] = []
 rows_autos n k (r ∷ rs) = body_autos n k r.0 r.1 ++ rows_autos n (k + 1) rs
+
+-- ---- events outside alphabets
+
+abbrev pub body_lacks : Naming → (body : ℕ) → SourceBody → Option ℕ
+body_lacks n k (group_body is) = None
+body_lacks n k (automaton_body a) = automaton_lacks n k a
+
+-- where the rows from body k on first name an event outside the alphabet
+abbrev pub rows_lacks : Naming → ℕ → List RowTree → Option ℕ
+rows_lacks n k [] = None
+rows_lacks n k (r ∷ rs) = or_later (body_lacks n k r.1) (rows_lacks n (k + 1) rs)

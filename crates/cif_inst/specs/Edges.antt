@@ -1,12 +1,11 @@
 -- The edges of an automaton without data, by what names are looked up in.
-use Rattle.std.specs.Prelude.{ℕ, ◌+◌, true, List, [], ◌∷◌, ◌++◌, map, flat_map, length, Option, Some, None}
+use Rattle.std.specs.Prelude.{ℕ, ◌+◌, true, List, [], ◌∷◌, ◌++◌, map, flat_map, Option, Some, None}
 use Rattle.cif_ast.specs.declared.names.Ident.{Ident}
 use Rattle.cif_system.specs.System.{syncing}
 use Rattle.cif_term.specs.Tree.{net_expr, n_truth, no_net_updates}
-use Rattle.cif_model.specs.Net.{NetEdge, NetAuto}
-use Rattle.cif_source.specs.Source.{Text, UseTree, EdgeTree, LocationTree, AutomatonTree, SourceBody, group_body, automaton_body}
-use Rattle.cif_image.specs.Flat.{event_number, location_name}
-use Rattle.cif_inst.specs.Rows.{RowTree}
+use Rattle.cif_model.specs.Net.{NetEdge}
+use Rattle.cif_source.specs.Source.{UseTree, EdgeTree, LocationTree}
+use Rattle.cif_image.specs.Flat.{event_number}
 use Rattle.cif_inst.specs.Naming.{component_at, target_place}
 use Rattle.cif_inst.specs.declared.naming.Naming.{Naming}
 

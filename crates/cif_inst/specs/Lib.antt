@@ -4,5 +4,6 @@ pub mod Objects
 pub mod Events
 pub mod Naming
 pub mod Edges
+pub mod Alphabets
 pub mod Autos
 pub mod Net

@@ -1,16 +1,18 @@
 -- What a net of a source says of its rules on instances, and why a source has none.
 use Rattle.std.specs.Prelude.{ℕ}
 use Rattle.cif_source.specs.Source.{Source}
-use Rattle.cif_rules.specs.InstanceRules.{TooManyObjectsDue, ConstantRangeDue}
+use Rattle.cif_rules.specs.InstanceRules.{AlphabetLacksDue, TooManyObjectsDue, ConstantRangeDue}
 use Rattle.cif_inst.specs.declared.error.InstErr.{InstErr}
-use Rattle.cif_inst.specs.declared.error.InstErr.TheVariants.{TooManyObjects, Memory}
+use Rattle.cif_inst.specs.declared.error.InstErr.TheVariants.{AlphabetLacks, TooManyObjects, Memory}
 
 -- none of the rules on instances that are checked so far is broken
 pub record KeepsInstances (t : Source) : Type 0 where
+  pub alphabets : (at : ℕ) → AlphabetLacksDue t at → ⊥
   pub few : (count : ℕ) → TooManyObjectsDue t count → ⊥
   pub ranges : (at : ℕ) → ConstantRangeDue t at → ⊥
 
 -- the rule of the refusal is broken, with its fields
 abbrev pub due : Source → InstErr → Type 0
+due t (AlphabetLacks at) = AlphabetLacksDue t at
 due t (TooManyObjects count) = TooManyObjectsDue t count
 due t Memory = Unit {0}

@@ -11,18 +11,8 @@ use crate::naming::Naming;
 use cif_ast::{Edge, EventUse, Loc};
 use cif_base::{Items, Memory};
 use cif_net::{NetEdge, NetExpr, NetForm, NetRole};
+use cif_scope::number;
 use std::alloc::Global;
-
-/// A number below 2^32. No automaton has so many locations that it isn't.
-fn number(count: usize) -> Result<u32, Memory>
-    ensures { IfOk result (λ n. n ≡ count) }
-{
-    if count < 4_294_967_296 {
-        Ok(count as u32)
-    } else {
-        Err(Memory)
-    }
-}
 
 /// Adds an edge for each use of an event.
 fn add_uses(

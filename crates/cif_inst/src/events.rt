@@ -11,6 +11,7 @@ use crate::rows::{Row, RowBody};
 use cif_ast::{Decl, Item};
 use cif_base::{Items, Memory, Text};
 use cif_net::{Class, Event, NetChan};
+use cif_scope::number;
 use std::alloc::Global;
 
 /// The events of a source in the order of their numbers. For each body and each name that it declares there is the number of
@@ -19,17 +20,6 @@ use std::alloc::Global;
 pub struct Events {
     pub all: Items<Event>,
     pub numbers: Items<Items<u32>>,
-}
-
-/// A number below 2^32. No source has so many events that it isn't.
-fn number(count: usize) -> Result<u32, Memory>
-    ensures { IfOk result (λ n. n ≡ count) }
-{
-    if count < 4_294_967_296 {
-        Ok(count as u32)
-    } else {
-        Err(Memory)
-    }
 }
 
 fn net_class(class: cif_ast::Class) -> Class

@@ -22,29 +22,32 @@ use crate::naming::Naming;
 use crate::objects::{TOO_MANY, count_objects};
 use crate::rows::{Row, all_rows};
 use cif_ast::Spec;
-use cif_base::{Items, Memory};
+use cif_base::Items;
 use cif_net::Net;
 use cif_scope::Scopes;
 use cif_types::Kinds;
 use std::alloc::Global;
 
-/// The net of a source with these components.
+/// The net of a source with these components, or where an event outside an alphabet is named.
 #[tactic(auto, using(crate::proofs::NetLaws::named))]
-fn net_of_rows(alloc: Global, spec: &Spec, scopes: &Scopes, rows: &[Row]) -> Result<Net, Memory>
+fn net_of_rows(alloc: Global, spec: &Spec, scopes: &Scopes, rows: &[Row]) -> Result<Net, InstErr>
     requires scopes { AreScopesOf (source_of spec.now) scopes.now }
     requires kinds { KeepsKinds (source_of spec.now) }
     requires forms { is_flat (source_of spec.now) ≡ true }
     requires rows { map row_tree rows.now ≡ rows_of (source_of spec.now) }
     requires few { rows_count (map row_tree rows.now) ≤ most_objects }
-    ensures { IfOk result (λ n. Represents (net_tree n) (source_of spec.now)) }
+    ensures represents { IfOk result (λ n. Represents (net_tree n) (source_of spec.now)) }
+    ensures none { IfOk result (λ n. KeepsInstances (source_of spec.now)) }
+    ensures refused { IfErr result (λ e. due (source_of spec.now) e) }
 {
     let Events { all, numbers } = all_events(alloc, rows)?;
+    let events = all.len();
     let naming = Naming {
         spec,
         scopes,
         numbers: numbers.as_slice(),
     };
-    let autos = all_autos(alloc, &naming, rows)?;
+    let autos = all_autos(alloc, &naming, rows, events)?;
     Ok(Net {
         autos,
         events: all,
@@ -57,7 +60,7 @@ fn net_of_rows(alloc: Global, spec: &Spec, scopes: &Scopes, rows: &[Row]) -> Res
 }
 
 /// The net of a source of the forms that are built so far, or the rule on instances that it breaks.
-#[tactic(auto, using(crate::proofs::NetLaws::kept_rules, crate::proofs::NetLaws::few_rows, crate::proofs::NetLaws::too_many))]
+#[tactic(auto, using(crate::proofs::NetLaws::few_rows, crate::proofs::NetLaws::too_many))]
 pub fn instantiate(
     alloc: Global,
     spec: &Spec,
@@ -79,5 +82,5 @@ pub fn instantiate(
             count: TOO_MANY as u32,
         });
     }
-    Ok(net_of_rows(alloc, spec, scopes, rows.as_slice())?)
+    net_of_rows(alloc, spec, scopes, rows.as_slice())
 }

@@ -2,6 +2,7 @@
 //! "Groups", "Automata", "Synchronization").
 #![tactic(auto)]
 
+mod alphabets;
 mod autos;
 mod edges;
 mod error;

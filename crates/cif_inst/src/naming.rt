@@ -19,7 +19,8 @@ pub struct Naming<'a> {
     pub numbers: &'a [Items<u32>],
 }
 
-fn number_in(slots: &Items<u32>, slot: u32) -> u32
+/// The number at a place, and 0 past the end.
+pub fn number_in(slots: &Items<u32>, slot: u32) -> u32
     ensures { result ≡ naming.slot_number (Some slots.now) slot }
 {
     match slots.get(slot as usize) {

@@ -1,4 +1,4 @@
-use Rattle.std.proofs.Common.{◌≡◌, List, map, ◌∙◌, ap}
+use Rattle.std.proofs.Common.{List, map, ◌∙◌, ap}
 use Rattle.cif_source.specs.Source.{source_of}
 use Rattle.cif_inst.specs.Objects.{stop, rows_count}
 use Rattle.cif_inst.specs.Views.{row_tree}

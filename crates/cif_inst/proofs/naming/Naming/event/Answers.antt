@@ -1,4 +1,4 @@
-use Rattle.std.proofs.Common.{◌≡◌, ◌∙◌}
+use Rattle.std.proofs.Common.{◌∙◌}
 use Rattle.cif_inst.proofs.NamingLaws.{body_scope, found_number}
 use Rattle.cif_inst.proofs.naming.Naming.event.Goals as goal
 

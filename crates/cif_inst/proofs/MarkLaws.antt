@@ -1,0 +1,152 @@
+-- Events are marked exactly where they stand in the alphabet.
+use Rattle.std.proofs.Common.{◌≡◌, ◌≢◌, ℕ, zero, suc, ◌+◌, ◌≤◌, ◌<◌, Bool, true, false, cond, inl, inr, List, [], ◌∷◌, length, get_or, replicate, refl, sym, ◌∙◌, ap, subst, arith}
+use Rattle.std.specs.Prelude.{◌&&◌, ◌||◌, not, nat_eq, nat_le, slice_set}
+use Rattle.std.specs.List.{list_all, position_or_len}
+use Rattle.std.proofs.lemmas.Bool.Decides.{nat_tests}
+use Rattle.std.proofs.lemmas.List.{length-set, get_or-set_same, get_or-set_other}
+use Rattle.std.proofs.lemmas.Option.{unwrap_or-slice_get}
+use Rattle.cif_system.specs.Words.{Member}
+use Rattle.cif_system.proofs.Picks.{and-left, and-right}
+use Rattle.cif_model.specs.Facts.{has}
+use Rattle.cif_inst.specs.Naming.{slot_number, source_for}
+use Rattle.cif_inst.specs.Alphabets.{is_outside, first_failing, marked, is_unmarked, AreMarks}
+use Rattle.cif_inst.specs.declared.naming.Naming.{Naming}
+use Rattle.cif_source.specs.Objects.{events}
+use Rattle.std.specs.Prelude.{Some, slice_get}
+
+-- ---- one mark
+
+pub past_set : (ms : List ℕ) (e mark : ℕ) → length ms ≤ e → slice_set ms e mark ≡ ms
+past_set [] e mark h = refl
+past_set (m ∷ ms) zero mark h = absurd (omega (arith, h))
+past_set (m ∷ ms) (suc e) mark h = ap (λ xs. m ∷ xs) (past_set ms e mark (omega (arith, h)))
+
+same-number : (a : ℕ) → nat_eq a a ≡ true
+same-number a =
+    (elim (nat_eq a a) as (λ c. nat_eq a a ≡ c → c ≡ true) [
+      | true ↦ λ e. refl
+      | false ↦ λ e. absurd (let g : a ≢ a = grind (arith, nat_tests) in g refl)
+    ]) refl
+
+abbrev mark_of : List ℕ → ℕ → ℕ
+mark_of ms e = slot_number (Some ms) e
+
+mark-at : (ms : List ℕ) (x e mark : ℕ) → e < length ms → nat_eq (mark_of (slice_set ms x mark) e) mark ≡ (nat_eq e x || nat_eq (mark_of ms e) mark)
+mark-at ms x e mark h =
+    (elim (nat_eq e x) as (λ b. nat_eq e x ≡ b → nat_eq (mark_of (slice_set ms x mark) e) mark ≡ (b || nat_eq (mark_of ms e) mark)) [
+      | true ↦ λ g.
+          let same : e ≡ x = grind (arith, nat_tests) in
+          ap (λ y. nat_eq y mark) (unwrap_or-slice_get (slice_set ms x mark) e 0 ∙ ap (λ k. get_or (slice_set ms x mark) k 0) same ∙ get_or-set_same ms x mark 0 (omega (arith, h, same))) ∙ same-number mark
+      | false ↦ λ g.
+          let other : e ≢ x = grind (arith, nat_tests) in
+          ap (λ y. nat_eq y mark) (unwrap_or-slice_get (slice_set ms x mark) e 0 ∙ get_or-set_other ms x e mark 0 other ∙ sym (unwrap_or-slice_get ms e 0))
+    ]) refl
+
+regrouped : (a b c : Bool) → (a || (b || c)) ≡ ((b || a) || c)
+regrouped true true c = refl
+regrouped true false c = refl
+regrouped false true c = refl
+regrouped false false c = refl
+
+-- ---- all marks
+
+pub marked-length : (mark : ℕ) (es ms : List ℕ) → length (marked mark es ms) ≡ length ms
+marked-length mark [] ms = refl
+marked-length mark (e ∷ es) ms = marked-length mark es (slice_set ms e mark) ∙ length-set ms e mark
+
+marked-has : (mark : ℕ) (es ms : List ℕ) (e : ℕ) → e < length ms → nat_eq (mark_of (marked mark es ms) e) mark ≡ (has es e || nat_eq (mark_of ms e) mark)
+marked-has mark [] ms e h = refl
+marked-has mark (x ∷ es) ms e h =
+    marked-has mark es (slice_set ms x mark) e (omega (arith, h, length-set ms x mark))
+    ∙ ap (λ b. has es e || b) (mark-at ms x e mark h)
+    ∙ regrouped (has es e) (nat_eq e x) (nat_eq (mark_of ms e) mark)
+
+-- ---- small marks
+
+le-holds : (a b : ℕ) → nat_le a b ≡ true → a ≤ b
+le-holds a b h = grind (arith, nat_tests)
+
+le-true : (a b : ℕ) → a ≤ b → nat_le a b ≡ true
+le-true a b h =
+    (elim (nat_le a b) as (λ c. nat_le a b ≡ c → c ≡ true) [
+      | true ↦ λ e. refl
+      | false ↦ λ e. absurd (let g : b < a = grind (arith, nat_tests) in omega (arith, g, h))
+    ]) refl
+
+abbrev AreSmall : ℕ → List ℕ → Type 0
+AreSmall k ms = list_all (λ m. nat_le m k) ms ≡ true
+
+both : (a b : Bool) → a ≡ true → b ≡ true → (a && b) ≡ true
+both a b h g = ap (λ c. c && b) h ∙ g
+
+mark-small : (k : ℕ) (ms : List ℕ) (e : ℕ) → AreSmall k ms → mark_of ms e ≤ k
+mark-small k [] e h = omega arith
+mark-small k (m ∷ ms) zero h = le-holds m k (and-left (nat_le m k) (list_all (λ m. nat_le m k) ms) h)
+mark-small k (m ∷ ms) (suc e) h = mark-small k ms e (and-right (nat_le m k) (list_all (λ m. nat_le m k) ms) h)
+
+pub more-small : (k j : ℕ) (ms : List ℕ) → k ≤ j → AreSmall k ms → AreSmall j ms
+more-small k j [] below h = refl
+more-small k j (m ∷ ms) below h =
+    both (nat_le m j) (list_all (λ m. nat_le m j) ms)
+    (le-true m j (omega (arith, below, le-holds m k (and-left (nat_le m k) (list_all (λ m. nat_le m k) ms) h))))
+    (more-small k j ms below (and-right (nat_le m k) (list_all (λ m. nat_le m k) ms) h))
+
+set-small : (mark : ℕ) (ms : List ℕ) (e : ℕ) → AreSmall mark ms → AreSmall mark (slice_set ms e mark)
+set-small mark [] e h = refl
+set-small mark (m ∷ ms) zero h = both (nat_le mark mark) (list_all (λ m. nat_le m mark) ms) (le-true mark mark (omega arith)) (and-right (nat_le m mark) (list_all (λ m. nat_le m mark) ms) h)
+set-small mark (m ∷ ms) (suc e) h =
+    both (nat_le m mark) (list_all (λ m. nat_le m mark) (slice_set ms e mark))
+    (and-left (nat_le m mark) (list_all (λ m. nat_le m mark) ms) h)
+    (set-small mark ms e (and-right (nat_le m mark) (list_all (λ m. nat_le m mark) ms) h))
+
+marked-small : (mark : ℕ) (es ms : List ℕ) → AreSmall mark ms → AreSmall mark (marked mark es ms)
+marked-small mark [] ms h = h
+marked-small mark (e ∷ es) ms h = marked-small mark es (slice_set ms e mark) (set-small mark ms e h)
+
+-- ---- marks of an automaton
+
+other-mark : (k m : ℕ) → m ≤ k → nat_eq m (k + 1) ≡ false
+other-mark k m h =
+    (elim (nat_eq m (k + 1)) as (λ b. nat_eq m (k + 1) ≡ b → b ≡ false) [
+      | true ↦ λ e. absurd (let g : m ≡ k + 1 = grind (arith, nat_tests) in omega (arith, g, h))
+      | false ↦ λ e. refl
+    ]) refl
+
+or-false : (a : Bool) → (a || false) ≡ a
+or-false true = refl
+or-false false = refl
+
+-- with the next mark those events are marked that stand in the list
+pub marked-outside : (k : ℕ) (es ms : List ℕ) (e : ℕ) → AreSmall k ms → e < length ms → is_unmarked (k + 1) (marked (k + 1) es ms) e ≡ is_outside es e
+marked-outside k es ms e small below =
+    ap not (marked-has (k + 1) es ms e below ∙ ap (λ b. has es e || b) (other-mark k (mark_of ms e) (mark-small k ms e small)) ∙ or-false (has es e))
+
+same-position : (p q : ℕ → Bool) (xs : List ℕ) → ((x : ℕ) → Member x xs → p x ≡ q x) → position_or_len p xs ≡ position_or_len q xs
+same-position p q [] h = refl
+same-position p q (x ∷ xs) h =
+    ap (λ b. cond (not b) (1 + position_or_len p xs) 0) (h x (inl refl)) ∙ ap (λ k. cond (not (q x)) (1 + k) 0) (same-position p q xs (λ y m. h y (inr m)))
+
+pub same-failing : (p q : ℕ → Bool) (xs ps : List ℕ) → ((x : ℕ) → Member x xs → p x ≡ q x) → first_failing p xs ps ≡ first_failing q xs ps
+same-failing p q xs ps h = ap (slice_get ps) (same-position p q xs h)
+
+pub next_marks : (n : Naming) (k mark : ℕ) (es ms new : List ℕ) → mark ≡ k + 1 → new ≡ marked mark es ms → AreMarks n k ms → AreMarks n mark new
+next_marks n k mark es ms new next is h =
+    subst (λ x. AreMarks n x new) (sym next)
+    (subst (AreMarks n (k + 1)) (sym (is ∙ ap (λ x. marked x es ms) next)) (record {
+      every = marked-length (k + 1) es ms ∙ h.every;
+      small = marked-small (k + 1) es ms (more-small k (k + 1) ms (omega arith) h.small);
+    }))
+
+pub later_marks : (n : Naming) (k : ℕ) (ms : List ℕ) → AreMarks n k ms → AreMarks n (k + 1) ms
+later_marks n k ms h = record { every = h.every; small = more-small k (k + 1) ms (omega arith) h.small }
+
+pub first_marks : (n : Naming) (count : ℕ) (ms : List ℕ) → count ≡ length (events (source_for n)) → ms ≡ replicate count 0 → AreMarks n 0 ms
+first_marks n count ms as_many is = subst (AreMarks n 0) (sym is) (record { every = replicated count ∙ as_many; small = zeros-small count })
+  where
+    replicated : (c : ℕ) → length {A = ℕ} (replicate c 0) ≡ c
+    replicated zero = refl
+    replicated (suc c) = omega (arith, replicated c)
+
+    zeros-small : (c : ℕ) → AreSmall 0 (replicate c 0)
+    zeros-small zero = refl
+    zeros-small (suc c) = both (nat_le 0 0) (list_all (λ m. nat_le m 0) (replicate c 0)) refl (zeros-small c)

@@ -1,0 +1,198 @@
+//! The alphabets of automata, and what they monitor (CIF 3 language reference, "Synchronization", "Monitoring").
+
+ghost use Rattle.std.specs.Prelude.{◌≡◌, ◌+◌, ◌<◌, ◌++◌, [], None, map, flat_map, length, unwrap_or, IfOk, OnOk};
+ghost use Rattle.std.specs.Result.{IfErr};
+ghost use Rattle.std.specs.List.{position_or_len};
+ghost use Rattle.cif_source.specs.Objects.{bodies};
+ghost use Rattle.cif_source.specs.Components.{body_of};
+ghost use Rattle.cif_source.specs.Source as source;
+ghost use Rattle.cif_inst.specs.Alphabets as alphabets;
+ghost use Rattle.cif_inst.specs.Naming.{AreNamesOf, source_for, component_at};
+
+use crate::error::InstErr;
+use crate::naming::{Naming, number_in};
+use cif_ast::{AutoBody, Edge, EventUse, Loc, Name};
+use cif_base::{Items, Memory};
+use std::alloc::Global;
+
+/// The events of an alphabet, and those of them that are monitored, in the order of the text and with repetitions.
+#[derive(Drop)]
+pub struct Alphabet {
+    pub events: Items<u32>,
+    pub monitors: Items<u32>,
+}
+
+/// The events that names in a body denote.
+fn events_named(
+    alloc: Global,
+    naming: &Naming,
+    body: u32,
+    names: &[Name],
+) -> Result<Items<u32>, Memory>
+    requires names { AreNamesOf naming.now }
+    requires body { body < length (bodies (source_for naming.now)) }
+    ensures { IfOk result (λ all. all ≡ alphabets.events_named naming.now body names.now) }
+{
+    let mut all = Items::new(alloc);
+    for name in names {
+        let event = naming.event(alloc, body, name)?;
+        all.push(event)?;
+    }
+    Ok(all)
+}
+
+/// Where names stand.
+fn name_places(alloc: Global, names: &[Name]) -> Result<Items<u32>, Memory>
+    ensures { IfOk result (λ all. all ≡ alphabets.name_places names.now) }
+{
+    let mut all = Items::new(alloc);
+    for name in names {
+        all.push(name.at)?;
+    }
+    Ok(all)
+}
+
+fn add_use_places(uses: &[EventUse], places: &mut Items<u32>) -> Result<(), Memory>
+    ensures { OnOk result (places.new ≡ places.old ++ map alphabets.use_place (map source.use_tree uses.now)) }
+{
+    for event_use in uses {
+        places.push(event_use.name.at)?;
+    }
+    Ok(())
+}
+
+fn add_edge_places(edges: &[Edge], places: &mut Items<u32>) -> Result<(), Memory>
+    ensures { OnOk result (places.new ≡ places.old ++ flat_map alphabets.edge_places (map source.edge_tree edges.now)) }
+{
+    for edge in edges {
+        add_use_places(edge.uses.as_slice(), places)?;
+    }
+    Ok(())
+}
+
+/// Where the events of edges are named.
+fn use_places(alloc: Global, locs: &[Loc]) -> Result<Items<u32>, Memory>
+    ensures { IfOk result (λ all. all ≡ flat_map alphabets.location_places (map source.location_tree locs.now)) }
+{
+    let mut places = Items::new(alloc);
+    for loc in locs {
+        add_edge_places(loc.edges.as_slice(), &mut places)?;
+    }
+    Ok(places)
+}
+
+/// The declared alphabet, or else the events of the edges.
+fn alphabet_by(
+    alloc: Global,
+    naming: &Naming,
+    body: u32,
+    automaton: &AutoBody,
+    used: &Items<u32>,
+) -> Result<Items<u32>, Memory>
+    requires names { AreNamesOf naming.now }
+    requires body { body < length (bodies (source_for naming.now)) }
+    ensures { IfOk result (λ all. all ≡ alphabets.alphabet_by naming.now body automaton.now.alphabet used.now) }
+{
+    match &automaton.alphabet {
+        Some(names) => events_named(alloc, naming, body, names.as_slice()),
+        None => used.copy(alloc),
+    }
+}
+
+/// The events that are monitored, which are all of the alphabet where none is named.
+fn monitors_by(
+    alloc: Global,
+    naming: &Naming,
+    body: u32,
+    automaton: &AutoBody,
+    events: &Items<u32>,
+) -> Result<Items<u32>, Memory>
+    requires names { AreNamesOf naming.now }
+    requires body { body < length (bodies (source_for naming.now)) }
+    ensures { IfOk result (λ all. all ≡ alphabets.monitors_by naming.now body automaton.now.monitor events.now) }
+{
+    match &automaton.monitor {
+        Some(names) if names.is_empty() => events.copy(alloc),
+        Some(names) => events_named(alloc, naming, body, names.as_slice()),
+        None => Ok(Items::new(alloc)),
+    }
+}
+
+/// Where the events that are monitored are named.
+fn monitor_places(alloc: Global, automaton: &AutoBody) -> Result<Items<u32>, Memory>
+    ensures { IfOk result (λ all. all ≡ alphabets.name_places (unwrap_or automaton.now.monitor [])) }
+{
+    match &automaton.monitor {
+        Some(names) => name_places(alloc, names.as_slice()),
+        None => Ok(Items::new(alloc)),
+    }
+}
+
+/// Gives each of these events a mark.
+#[tactic(auto, using(crate::proofs::MarkLaws::past_set))]
+fn give_mark(marks: &mut Items<u32>, mark: u32, events: &[u32])
+    ensures { marks.new ≡ alphabets.marked mark events.now marks.old }
+{
+    for event in events {
+        let at = *event as usize;
+        if at < marks.len() {
+            marks.set(at, mark);
+        }
+    }
+}
+
+/// The place of the first of these events that has another mark, and their number where there is none.
+fn first_unmarked(marks: &Items<u32>, mark: u32, events: &[u32]) -> usize
+    ensures { result ≡ position_or_len (alphabets.is_unmarked mark marks.now) events.now }
+{
+    for (place, event) in events.iter().enumerate() {
+        if number_in(marks, *event) != mark {
+            return place;
+        }
+    }
+    events.len()
+}
+
+/// Tells where the first of these events that has another mark is named.
+fn check_marks(marks: &Items<u32>, mark: u32, events: &[u32], places: &[u32]) -> Result<(), InstErr>
+    ensures within { OnOk result (alphabets.first_failing (alphabets.is_unmarked mark marks.now) events.now places.now ≡ None) }
+    ensures told { IfErr result (λ e. alphabets.tells e (alphabets.first_failing (alphabets.is_unmarked mark marks.now) events.now places.now)) }
+{
+    match places.get(first_unmarked(marks, mark, events)) {
+        Some(at) => Err(InstErr::AlphabetLacks { at: *at }),
+        None => Ok(()),
+    }
+}
+
+/// The alphabet of an automaton and what it monitors, or where an event outside the alphabet is named first. `own` is the
+/// number of the automaton's body, and its mark, which no automaton before it has; `used` are the events of its edges.
+pub fn alphabet_of(
+    alloc: Global,
+    naming: &Naming,
+    own: (u32, u32),
+    automaton: &AutoBody,
+    used: &Items<u32>,
+    marks: &mut Items<u32>,
+) -> Result<Alphabet, InstErr>
+    requires names { AreNamesOf naming.now }
+    requires body { own.0 < length (bodies (source_for naming.now)) }
+    requires written { body_of (component_at naming.now own.0) ≡ source.automaton_body (source.automaton_tree automaton.now) }
+    requires mark { own.1 ≡ own.0 + 1 }
+    requires used { used.now ≡ alphabets.used_events naming.now own.0 (source.automaton_tree automaton.now) }
+    requires before { alphabets.AreMarks naming.now own.0 marks.old }
+    ensures events { IfOk result (λ a. a.events ≡ alphabets.alphabet_for naming.now own.0 (source.automaton_tree automaton.now)) }
+    ensures monitors { IfOk result (λ a. a.monitors ≡ alphabets.monitors_for naming.now own.0 (source.automaton_tree automaton.now)) }
+    ensures within { IfOk result (λ a. alphabets.automaton_lacks naming.now own.0 (source.automaton_tree automaton.now) ≡ None) }
+    ensures told { IfErr result (λ e. alphabets.tells e (alphabets.automaton_lacks naming.now own.0 (source.automaton_tree automaton.now))) }
+    ensures after { OnOk result (alphabets.AreMarks naming.now own.1 marks.new) }
+{
+    let (body, mark) = own;
+    let events = alphabet_by(alloc, naming, body, automaton, used)?;
+    give_mark(marks, mark, events.as_slice());
+    let places = use_places(alloc, automaton.locs.as_slice())?;
+    check_marks(marks, mark, used.as_slice(), places.as_slice())?;
+    let monitors = monitors_by(alloc, naming, body, automaton, &events)?;
+    let places = monitor_places(alloc, automaton)?;
+    check_marks(marks, mark, monitors.as_slice(), places.as_slice())?;
+    Ok(Alphabet { events, monitors })
+}
