@@ -1,0 +1,13 @@
+pub mod Parties
+pub mod Picked
+pub mod Agreeing
+pub mod Permitting
+pub mod Valuing
+pub mod Received
+pub mod Ranging
+pub mod Sound
+pub mod Updating
+pub mod Standing
+pub mod Stands
+pub mod Sets
+pub mod Steps
