@@ -1,4 +1,2 @@
-pub mod ExprSets
-pub mod Guarding
 pub mod ClassLaws
 pub mod TextLaws

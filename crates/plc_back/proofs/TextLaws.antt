@@ -8,6 +8,7 @@ use Rattle.cif_model.specs.Net.{Net}
 use Rattle.cif_model.specs.Listing.{guarded_of}
 use Rattle.cif_model.specs.Meaning.{system_of_net}
 use Rattle.cif_model.specs.Table.{IsGuarded}
+use Rattle.cif_choices.proofs.Stands.{guarded-stands}
 use Rattle.st_ast.specs.ReadsAs.{ReadsBack}
 use Rattle.st_ast.specs.Scan.{start_memory}
 use Rattle.st_ast.specs.Spelled.{is_spelled}
@@ -25,9 +26,12 @@ use Rattle.plc_gen.proofs.Whole.{program-spelled}
 use Rattle.plc_back.specs.Texts.{IsLayoutOf, TheProgram}
 use Rattle.plc_back.specs.Written.{IsTextOf}
 
-module _ (n : Net) (U C : ℕ) (text : Text) (guarded : IsGuarded n (guarded_of n)) (h : IsTextOf n U C text) where
+module _ (n : Net) (U C : ℕ) (text : Text) (h : IsTextOf n U C text) where
   abbrev written : Program
   written = program_of n (guarded_of n) U C
+
+  guarded : IsGuarded n (guarded_of n)
+  guarded = guarded-stands n h.has.plain
 
   net : is_net n ≡ true
   net = and-left _ _ (and-left _ _ (and-left _ _ h.has.plain))

@@ -1,7 +1,6 @@
 //! The text of the program of a net.
 
 ghost use Rattle.std.specs.Prelude.{◌≡◌, ◌<◌, ◌≤◌, ◌^◌, ℕ, true, length, map, IfOk, Err};
-ghost use Rattle.cif_model.specs.Listing.{guarded_of};
 ghost use Rattle.cif_model.specs.Table.{IsGuarded};
 ghost use Rattle.cif_net.specs.View.{net_tree, choice_tree, event_tree};
 ghost use Rattle.st_print.specs.Layout.{printed};
@@ -25,7 +24,6 @@ pub fn generate_text(
     guarded: &Guarded,
     bounds: Bounds,
 ) -> Result<Vec<u8>, ProfileErr>
-    requires guarded { IsGuarded (net_tree guarded.now.plain.net) (guarded_of (net_tree guarded.now.plain.net)) }
     requires data { is_dataless (net_tree guarded.now.plain.net) ≡ true }
     requires unc { bounds.unc ≤ 10000 }
     requires con { bounds.con ≤ 10000 }
@@ -34,15 +32,12 @@ pub fn generate_text(
     ensures unclassed { (event : ℕ) → result ≡ Err (Unclassed event) →
         IsFirstUnclassed (net_tree guarded.now.plain.net) event }
 {
-    if let Some(event) = unclassed_event(guarded.plain.net.events.as_slice()) {
+    let net = &guarded.plain.net;
+    if let Some(event) = unclassed_event(net.events.as_slice()) {
         return Err(ProfileErr::Unclassed { event });
     }
-    let text = program_text(
-        alloc,
-        &guarded.plain.net,
-        guarded.choices.as_slice(),
-        bounds,
-    )?;
+    let choices = guarded.choices.as_slice();
+    let text = program_text(alloc, net, choices, bounds)?;
     Ok(text)
 }
 
