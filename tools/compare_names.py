@@ -11,51 +11,11 @@ import random
 import subprocess
 import sys
 
+from plain_names import (
+    ALG, ALG_PARAMETER, ASKED, Body, COMPONENT, CONSTANT, DEFINITION, DISC, EVENT, EVENT_PARAMETER, INPUT, INSTANCE, Instance,
+    LITERAL, LOCATION, LOCATION_PARAMETER, Slot, TYPE, due, found_slot, of_scope, written)
+
 NAMES = "abcdefghij"
-
-# The sorts of what a scope declares, as what they are when a position asks for them.
-EVENT, TYPE, CONSTANT, ALG, INPUT, DISC, LITERAL, LOCATION = "event type constant alg input disc literal location".split()
-COMPONENT, DEFINITION, INSTANCE = "component definition instance".split()
-EVENT_PARAMETER, ALG_PARAMETER, LOCATION_PARAMETER = "event parameter", "alg parameter", "location parameter"
-
-VALUES = {CONSTANT, ALG, INPUT, DISC, LITERAL, LOCATION, ALG_PARAMETER, LOCATION_PARAMETER}
-ASKED = {
-    "event": {EVENT, EVENT_PARAMETER},
-    "location": {LOCATION, LOCATION_PARAMETER},
-    "type": {TYPE},
-    "definition": {DEFINITION},
-    "variable": {DISC},
-    "value": VALUES,
-}
-
-
-class Slot:
-    """What a scope declares: its name, where that stands, its sort, and the body or instance that it brings."""
-
-    def __init__(self, name, at, sort, body=None, instance=None):
-        self.name, self.at, self.sort, self.body, self.instance = name, at, sort, body, instance
-        # the names in the type and value of a type or a constant
-        self.names = []
-
-
-class Body:
-    """A body as written: its slots in the order of the text, and the uses of names in it as (name, at, what is asked)."""
-
-    def __init__(self, outer, is_automaton=False):
-        self.outer, self.is_automaton, self.slots, self.uses, self.own = outer, is_automaton, [], [], []
-        self.parameters = []
-        self.instances = []
-        # the bodies of components in it, without those of definitions
-        self.inner = []
-
-    def slot(self, name, from_=0):
-        """The first slot of that name, or none."""
-        return next((slot for slot in self.slots[from_:] if slot.name == name), None)
-
-
-class Instance:
-    def __init__(self, body, name, at, definition, arguments):
-        self.body, self.name, self.at, self.definition, self.arguments = body, name, at, definition, arguments
 
 
 class Writer:
@@ -340,145 +300,6 @@ class Writer:
             self.own_name(body, [slot.name for slot in body.slots if slot.sort == LOCATION], LOCATION)
 
 
-def written(name):
-    return ("." if name[0] is None else "") + ".".join(part for part in name if part is not None)
-
-
-# ---- looking names up
-
-MISSING, BLOCKED = "missing", "blocked"
-
-
-def in_body(body, part):
-    """What a body declares as that part, its parameters left out."""
-    return body.slot(part, len(body.parameters)) or MISSING
-
-
-def behind(root, slot, part, through):
-    """One further part behind what was found, through instances where `through` is a list of those passed."""
-    if slot.sort == COMPONENT:
-        return in_body(slot.body, part)
-    if slot.sort == INSTANCE and through is not None:
-        through.append(slot)
-        found = found_slot(root, slot.instance.body, slot.instance.definition, True)
-        return in_body(found.body, part) if isinstance(found, Slot) and found.sort == DEFINITION else MISSING
-    return BLOCKED
-
-
-def found_slot(root, body, name, as_written=False, through=None):
-    """The slot that a name denotes, MISSING or BLOCKED; a definition is not reached through an instance."""
-    through = None if as_written else ([] if through is None else through)
-    if name[0] is None:
-        body, name = root, name[1:]
-        found = body.slot(name[0]) or MISSING
-    else:
-        while body.outer is not None and not body.slot(name[0]):
-            body = body.outer
-        found = body.slot(name[0]) or MISSING
-    for part in name[1:]:
-        if not isinstance(found, Slot):
-            break
-        found = behind(root, found, part, through)
-    return found
-
-
-# ---- the rules on names
-
-def uses_of(writer, body):
-    """All uses in a body, with those of its instances' arguments, which ask for what the parameters are."""
-    uses = list(body.uses)
-    for instance in body.instances:
-        found = found_slot(writer.root, body, instance.definition, True)
-        parameters = found.body.parameters if isinstance(found, Slot) and found.sort == DEFINITION else []
-        for k, (name, at, is_bare) in enumerate(instance.arguments):
-            sort = parameters[k] if k < len(parameters) else None
-            asked = "any" if sort is None else {EVENT_PARAMETER: "event", LOCATION_PARAMETER: "location"}.get(sort, "value")
-            uses.append((name, at, asked if is_bare else "value"))
-    return uses
-
-
-def judged(writer, body, use):
-    """The refusal of one use of a name, or none."""
-    name, at, asked = use
-    found = found_slot(writer.root, body, name)
-    if asked == "definition" and found != MISSING:
-        found = found_slot(writer.root, body, name, True)
-    if found == MISSING:
-        return "Unknown at %d" % at
-    if found == BLOCKED or asked != "any" and found.sort not in ASKED[asked]:
-        return "WrongKind at %d" % at
-    return None
-
-
-def of_scope(body):
-    for k, slot in enumerate(body.slots):
-        for first in body.slots[:k]:
-            if first.name == slot.name:
-                yield "Duplicate { at: %d, first: %d }" % (slot.at, first.at)
-
-
-def of_own(body):
-    for name, at, asked in body.own:
-        slot = body.slot(name)
-        if slot is None:
-            yield "Unknown at %d" % at
-        elif slot.sort != asked:
-            yield "WrongKind at %d" % at
-
-
-def of_counts(writer, body):
-    for instance in body.instances:
-        found = found_slot(writer.root, body, instance.definition, True)
-        if isinstance(found, Slot) and found.sort == DEFINITION and len(found.body.parameters) != len(instance.arguments):
-            yield "WrongKind at %d" % instance.at
-
-
-def instances_within(body):
-    for instance in body.instances:
-        yield instance
-    for inner in body.inner:
-        yield from instances_within(inner)
-
-
-def cyclic(starts, reached):
-    """Those that reach themselves."""
-    for start in starts:
-        seen, left = set(), list(reached(start))
-        while left:
-            one = left.pop()
-            if id(one) not in seen:
-                seen.add(id(one))
-                left += reached(one)
-        if id(start) in seen:
-            yield start
-
-
-def of_cycles(writer):
-    home = {id(slot): body for body in writer.bodies for slot in body.slots}
-    slots = [slot for body in writer.bodies for slot in body.slots]
-
-    def definitions(slot):
-        if slot.sort != DEFINITION:
-            return []
-        found = [found_slot(writer.root, one.body, one.definition, True) for one in instances_within(slot.body)]
-        return [one for one in found if isinstance(one, Slot)]
-
-    def types(slot):
-        found = [found_slot(writer.root, home[id(slot)], name) for name, _, _ in slot.names]
-        return [one for one in found if isinstance(one, Slot)]
-
-    for slot in list(cyclic(slots, definitions)) + list(cyclic(slots, types)):
-        yield "DefinitionCycle at %d" % slot.at
-
-
-def due(writer):
-    found = set(of_cycles(writer))
-    for body in writer.bodies:
-        found.update(of_scope(body), of_own(body), of_counts(writer, body))
-        found.update(told for told in (judged(writer, body, use) for use in uses_of(writer, body)) if told)
-    return found
-
-
 # ---- the comparison
 
 def answer_of(writer, body, name):
@@ -491,9 +312,14 @@ def answer_of(writer, body, name):
     return " ".join(["%d:%d" % home[id(slot)] for slot in through] + ["%d:%d" % home[id(found)]])
 
 
+def printed(duplicate):
+    """The refusal as the program of the cases prints it."""
+    return "%s { %s }" % (duplicate[0], ", ".join("%s: %d" % field for field in duplicate[1:]))
+
+
 def cases_of(choose, writer):
     """The cases of a source, and what is allowed as their answers."""
-    twice = {told for body in writer.bodies for told in of_scope(body)}
+    twice = {printed(told) for body in writer.bodies for told in of_scope(body)}
     if twice:
         return [("scopes " + writer.text, twice)]
     cases = [("scopes " + writer.text, {" ".join(str(len(body.slots)) for body in writer.bodies)})]
@@ -508,7 +334,7 @@ def made(choose):
     """A source, half of the time one in which no rule is broken, where such a one is found."""
     writer = Writer(choose)
     for _ in range(choose.choice([0, 30])):
-        if not due(writer):
+        if not due(writer.root, writer.bodies):
             break
         writer = Writer(choose)
     return writer

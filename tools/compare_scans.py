@@ -1,25 +1,32 @@
 #!/usr/bin/env python3
-"""Compares the scans of generated programs with a simulation of their plants, on random plants.
+"""Compares the scans of generated programs with a simulation of their sources, on random automata that synchronise.
 
-    tools/compare_scans.py PROGRAM [PLANTS [SEED]]
+    tools/compare_scans.py PROGRAM [SOURCES [SEED]]
+    tools/compare_scans.py --self-test
 
-A scan makes its rounds of the uncontrollable events, and then those of the controllable ones. A round takes the events of its
-class in the order of their declarations, and for each the first edge of the present location, if it has one. `generate` writes
-the program of a plant, and `replay` gives the location after each scan. The status is 1 where the two differ.
+A scan makes its rounds of the uncontrollable events, and then those of the controllable ones. A round takes the events of its class
+in ascending number, and for each the first choice that makes a step, if there is one: the automata that have the event in their
+alphabet take an edge for it, or stay where they monitor it and have no such edge. `generate` writes the program of a source, and
+`replay` gives the locations after each scan. Compared are that table, and the variables in which the program holds the locations.
+The status is 1 where the two differ. The simulation is in `plain_nets.py`; with `--self-test` it is compared with worked examples.
 """
 import os
 import random
+import re
 import subprocess
 import sys
 import tempfile
-from collections import namedtuple
+from collections import Counter, namedtuple
 
-# Whether each event is uncontrollable; the edges of each location, as (event, location or None where it stays); the initial
-# location; and the most rounds of each class.
-Plant = namedtuple("Plant", "classes edges initial unc con")
+from plain_nets import Net, Source, broken, line_of
+from random_nets import Maker, spelled, tokens_of
 
-MOST_SCANS = 6
+MOST_SCANS, MOST_CHOICES, DEFAULT_ROUNDS = 6, 400, 100
+# What is generated and replayed: a source, the words of its options, the most rounds of each class, and how many scans.
+Trial = namedtuple("Trial", "text options unc con scans")
 
+
+# ---- random sources
 
 def letters(kind, number):
     """A name of letters alone, another for each kind and number."""
@@ -31,77 +38,167 @@ def letters(kind, number):
     return kind + name
 
 
-def made(choose):
+def plant_alone(choose):
+    """A source of one plant whose events are its own and whose names have letters alone."""
     events, locations = choose.randint(1, 8), choose.randint(1, 8)
-    targets = [None] + list(range(locations))
-    edges = [[(choose.randrange(events), choose.choice(targets)) for _ in range(choose.randint(0, 5))]
-             for _ in range(locations)]
-    classes = [choose.random() < 0.5 for _ in range(events)]
-    return Plant(classes, edges, choose.randrange(locations), choose.randint(1, 6), choose.randint(1, 6))
-
-
-def source(plant):
-    lines = ["plant P:"]
-    for event, is_uncontrollable in enumerate(plant.classes):
-        lines.append("%s %s;" % ("uncontrollable" if is_uncontrollable else "controllable", letters("E", event)))
-    for location, edges in enumerate(plant.edges):
-        lines.append("location %s:%s" % (letters("L", location), " initial;" if location == plant.initial else ""))
-        for event, target in edges:
-            lines.append("  edge %s%s;" % (letters("E", event), "" if target is None else " goto " + letters("L", target)))
+    targets = [""] + [" goto " + letters("L", location) for location in range(locations)]
+    initial, lines = choose.randrange(locations), ["plant P:"]
+    for event in range(events):
+        lines.append("%s %s;" % (choose.choice(["uncontrollable", "controllable"]), letters("E", event)))
+    for location in range(locations):
+        lines.append("location %s:%s" % (letters("L", location), " initial;" if location == initial else ""))
+        for _ in range(choose.randint(0, 5)):
+            lines.append("  edge %s%s;" % (letters("E", choose.randrange(events)), choose.choice(targets)))
     return "\n".join(lines + ["end", ""])
 
 
-def after(plant, location, event):
-    """The location after the first edge for an event, or the same where there is none."""
-    for own, target in plant.edges[location]:
-        if own == event:
-            return location if target is None else target
-    return location
+def automata_together(choose):
+    """A source that breaks no rule and whose program isn't too long to try."""
+    while True:
+        text = spelled(choose, tokens_of(Maker(choose).text))
+        due, net = broken(Source(text))
+        if not due and sum(map(net.count, range(len(net.events)))) <= MOST_CHOICES:
+            return text
 
 
-def scanned(plant, location):
-    for is_uncontrollable, rounds in ((True, plant.unc), (False, plant.con)):
-        events = [event for event, own in enumerate(plant.classes) if own == is_uncontrollable]
-        for event in events * rounds:
-            location = after(plant, location, event)
-    return location
+def rounds(choose):
+    """The most rounds of a class as they are asked for, or None."""
+    return choose.choice([None, 1, 1, 2, 3, 4, 5, 6, 7, 10, 99, 101, choose.choice([1000, 9999, 10000])])
 
 
-def simulated(plant, scans):
-    table, location = ["scan,P0_P"], plant.initial
-    for scan in range(1, scans + 1):
-        location = scanned(plant, location)
-        table.append("%d,%d" % (scan, location))
-    return "\n".join(table + [""])
+def made(choose):
+    text = choose.choice([plant_alone, automata_together, automata_together, automata_together])(choose)
+    unc, con = rounds(choose), rounds(choose)
+    options = [[word, str(number)] for word, number in (("--unc", unc), ("--con", con)) if number is not None]
+    choose.shuffle(options)
+    return Trial(text, sum(options, []), unc or DEFAULT_ROUNDS, con or DEFAULT_ROUNDS, choose.randint(1, MOST_SCANS))
 
 
-def replayed(program, folder, plant, scans):
+# ---- the comparison
+
+def declared(program):
+    """The variables of a program that hold locations, those that are outputs in their order: name, last location, first one."""
+    found = re.findall(r"\b([LP][0-9]\w*)\s*:\s*LINT\s*\(\s*0\s*\.\.\s*([0-9]+)\s*\)\s*:=\s*([0-9]+)\s*;", program)
+    return sorted(it for it in found if it[0][0] == "L"), [it for it in found if it[0][0] == "P"]
+
+
+def wanted_variables(net):
+    def of_letter(letter):
+        return [(name, str(party.places - 1), str(party.first)) for name, party in zip(net.variables(letter), net.parties)]
+    return sorted(of_letter("L")), of_letter("P")
+
+
+def answers(program, folder, trial):
+    """What the program generates, and what it replays, or else what it tells."""
     def written(name, text):
-        with open(os.path.join(folder, name), "w") as file:
+        with open(os.path.join(folder, name), "w", newline="") as file:
             file.write(text)
 
     def run(*words):
-        return subprocess.run((program,) + words, cwd=folder, capture_output=True, text=True).stdout
+        ran = subprocess.run((program,) + words, cwd=folder, stdout=subprocess.PIPE, stderr=subprocess.PIPE)
+        if ran.returncode or ran.stderr:
+            return "status %d %s" % (ran.returncode, ran.stderr.decode("latin-1"))
+        return ran.stdout.decode("latin-1")
 
-    written("plant", source(plant))
-    written("program", run("generate", "plant", "--unc", str(plant.unc), "--con", str(plant.con)))
-    written("rows", "\n".join(["scan"] + ["%d" % scan for scan in range(1, scans + 1)] + [""]))
-    return run("replay", "program", "rows")
+    written("source", trial.text)
+    generated = run("generate", "source", *trial.options)
+    written("program", generated)
+    written("rows", "\n".join(["scan"] + ["%d" % scan for scan in range(1, trial.scans + 1)] + [""]))
+    return generated, run("replay", "program", "rows")
 
 
-def main(program, plants=500, seed=1):
-    program, choose, differ, moves = os.path.abspath(program), random.Random(seed), 0, 0
+def noted(net, trial, notes):
+    """Counts what the trial shows in its first scan."""
+    after, is_bounded = net.scan(trial.unc, trial.con, net.initial())
+    fired = [net.options(event) for (event, _), end in net.steps.items() if end is not None]
+    notes["move"] += after != net.initial()
+    notes["run to a bound"] += is_bounded
+    notes["fire an event of several automata"] += any(len(options) > 1 for options in fired)
+    notes["have an event that nobody takes part in"] += any(not net.options(event) for event in range(len(net.events)))
+    notes["have no automaton"] += not net.parties
+
+
+def differences(program, folder, trial, notes):
+    """What is wrong with the answers, a line for each."""
+    net = Net(Source(trial.text))
+    noted(net, trial, notes)
+    generated, given = answers(program, folder, trial)
+    if generated.startswith("status "):
+        return ["generate: %s" % generated]
+    found, wanted = [], net.table(trial.unc, trial.con, trial.scans)
+    if declared(generated) != wanted_variables(net):
+        found.append("variables: wanted %s, given %s" % (wanted_variables(net), declared(generated)))
+    if given != wanted:
+        found.append("table: wanted %r, given %r" % (wanted, given))
+    return found
+
+
+def main(program, sources=500, seed=1):
+    program, choose, differ, notes = os.path.abspath(program), random.Random(seed), 0, Counter()
     with tempfile.TemporaryDirectory() as folder:
-        for _ in range(plants):
-            plant, scans = made(choose), choose.randint(1, MOST_SCANS)
-            wanted, given = simulated(plant, scans), replayed(program, folder, plant, scans)
-            moves += scanned(plant, plant.initial) != plant.initial
-            if given != wanted:
+        for _ in range(sources):
+            trial = made(choose)
+            found = differences(program, folder, trial, notes)
+            if found:
                 differ += 1
-                print("%s%s: wanted %r, given %r" % (source(plant), plant, wanted, given))
-    print("%d plants, %d of them leave their location in the first scan: %d differences" % (plants, moves, differ))
+                print("%r %s, %d scans\n  %s" % (trial.text, " ".join(trial.options), trial.scans, "\n  ".join(found)))
+    shown = ", ".join("%d %s" % (count, what) for what, count in sorted(notes.items()))
+    print("%d sources, of which in the first scan %s: %d differences" % (sources, shown, differ))
     return 1 if differ else 0
 
 
+# ---- worked examples: a source, the most rounds of each class, and the table of so many scans
+
+WORKED = [
+    ("plant A: uncontrollable u; controllable c; location x: initial; edge u goto y; location y: edge c goto x; end", 3, 3,
+     "scan,P0_A\n1,0\n"),
+    # what monitors stays where it has no edge, and moves where it has one
+    ("controllable e; plant A: location p: initial; edge e goto q; location q; end "
+     "automaton B: monitor e; location x: initial; location y: edge e; end", 100, 100, "scan,P0_A,P1_B\n1,1,0\n2,1,0\n"),
+    ("uncontrollable u; plant A: location p: initial; edge u goto q; location q; end "
+     "automaton B: monitor u; location x: initial; edge u goto y; location y; end", 100, 100, "scan,P0_A,P1_B\n1,1,1\n"),
+    # who monitors alone runs up to the bound
+    ("uncontrollable e; automaton A: monitor e; location: initial; edge e; end", 100, 100, "scan,P0_A\n1,0\n"),
+    ("uncontrollable e; automaton A: monitor; location x: initial; location y: edge e; end", 100, 100, "scan,P0_A\n1,0\n"),
+    # who has an event in its alphabet and no edge for it blocks it
+    ("controllable e; automaton A: alphabet e; location: initial; end "
+     "automaton B: location x: initial; edge e goto y; location y; end", 100, 100, "scan,P0_A,P1_B\n1,0,0\n"),
+    # an empty alphabet with no edge has no part in anything
+    ("controllable e; automaton A: alphabet; location: initial; end "
+     "automaton B: location x: initial; edge e goto y; location y; end", 100, 100, "scan,P0_A,P1_B\n1,0,1\n"),
+    # dotted names and names from the specification
+    ("group g: uncontrollable u; plant A: location x: initial; edge g.u goto y; location y: edge .g.u goto x; end end", 3, 100,
+     "scan,P0_g_A\n1,1\n"),
+    # the inner `u` decides for the name `u`, the outer one for the name `.u`
+    ("uncontrollable u; group g: controllable u; plant A: location x: initial; edge u goto y; edge .u goto z; location y; "
+     "location z: edge u goto x; end end", 1, 1, "scan,P0_g_A\n1,0\n2,0\n"),
+    ("uncontrollable u; group g: controllable u; plant A: location x: initial; edge u goto y; location y: edge .u goto z; "
+     "location z; end end", 1, 1, "scan,P0_g_A\n1,1\n2,2\n"),
+    # events of the specification come before those of components that stand before them
+    ("plant A: controllable late; location x: initial; edge first goto y; edge late goto z; location y; location z; end "
+     "controllable first;", 100, 1, "scan,P0_A\n1,1\n"),
+    # the first edge in text order, each use an edge of its own
+    ("plant A: controllable c, d; location x: initial; edge d, c goto y; edge c goto z; location y; location z; end", 100, 1,
+     "scan,P0_A\n1,1\n"),
+    ("plant __a__b: controllable c; location x: initial; edge c; end", 100, 100, "scan,P0_a_b\n1,0\n"),
+    ("automaton a: location: initial; end automaton a_b: location: initial; end automaton P: location: initial; end "
+     "automaton p: location: initial; end automaton $end: location: initial; end automaton _: location: initial; end", 100, 100,
+     "scan,P0_a,P1_a_b,P2_P,P3_p,P4_end,P5_x\n1,0,0,0,0,0,0\n"),
+    ("group %s: plant b: location: initial; end end" % ("n" * 39), 1, 1, "scan,P0_%s\n1,0\n" % ("n" * 39)),
+    ("", 100, 100, "scan\n"),
+    ("controllable e;", 100, 100, "scan\n1\n"),
+]
+
+
+def self_test():
+    for text, unc, con, table in WORKED:
+        due, net = broken(Source(text))
+        assert not due, (text, list(map(line_of, due)))
+        given = net.table(unc, con, table.count("\n") - 1)
+        assert given == table, (text, table, given)
+    print("the simulation agrees with %d worked examples" % len(WORKED))
+    return 0
+
+
 if __name__ == "__main__":
-    sys.exit(main(sys.argv[1], *map(int, sys.argv[2:])))
+    sys.exit(self_test() if sys.argv[1:] == ["--self-test"] else main(sys.argv[1], *map(int, sys.argv[2:])))

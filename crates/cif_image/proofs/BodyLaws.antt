@@ -1,6 +1,6 @@
 -- Where no scope declares a name twice, bodies have different paths, so a body stands at one place in the list.
-use Rattle.std.proofs.Common.{◌≡◌, ◌≢◌, ℕ, zero, suc, ◌+◌, ◌≤◌, ◌<◌, ◌⊎◌, Bool, true, false, inl, inr, List, [], ◌∷◌, ◌++◌, length, map, Some, refl, sym, ◌∙◌, ap, subst, arith, append_assoc}
-use Rattle.std.specs.Prelude.{◌&&◌, not, flat_map}
+use Rattle.std.proofs.Common.{◌≡◌, Bool, true, false, inl, inr, List, [], ◌∷◌, ◌++◌, map, refl, sym, ◌∙◌, ap, subst}
+use Rattle.std.specs.Prelude.{not, flat_map}
 use Rattle.std.specs.List.{list_all}
 use Rattle.std.proofs.lemmas.List.{append_cancel_left, map-append}
 use Rattle.std.proofs.lemmas.Cmp.{nat_list_eq_equiv}
@@ -8,11 +8,11 @@ use Rattle.cif_ast.specs.declared.names.Ident.{Ident}
 use Rattle.cif_system.specs.Words.{Member, AreDistinct}
 use Rattle.cif_system.proofs.Lists.{false-true}
 use Rattle.cif_system.proofs.Distinct.{member-map, append-distinct}
-use Rattle.cif_system.proofs.Picks.{and-left, and-right, append-left, append-right}
+use Rattle.cif_system.proofs.Picks.{and-left, and-right, append-right}
 use Rattle.cif_model.proofs.Passing.{both-pass, not-true}
-use Rattle.cif_source.specs.Source.{Text, ParamTree, SourceItem, decl_item, component_item, definition_item, instance_item, SourceBody, group_body, automaton_body, Source, no_source, source, list_of_items}
+use Rattle.cif_source.specs.Source.{Text, SourceItem, decl_item, component_item, definition_item, instance_item, SourceBody, group_body, automaton_body, Source, no_source, source, list_of_items}
 use Rattle.cif_source.specs.Components.{Component, whole, part, blank, body_of, Path, path_of, same_text, item_entries, body_entries}
-use Rattle.cif_source.specs.Objects.{bodies, bodies_in, bodies_at, bodies_under}
+use Rattle.cif_source.specs.Objects.{bodies, bodies_in, bodies_under}
 use Rattle.cif_source.proofs.ComponentLaws.{append-cases}
 use Rattle.cif_image.proofs.KeptLaws.{has_twice, or-left, member-passes}
 use Rattle.cif_image.proofs.PathLaws.{names, names-append, not-twice-right}

@@ -6,11 +6,11 @@ use Rattle.cif_ast.specs.declared.declarations.Class.TheVariants as class
 use Rattle.cif_source.specs.Source.{no_type, syncs, event_decl, decl_item, component_item, group_body, automaton_body, Source}
 use Rattle.cif_source.proofs.Terms.{word, dotted, event_use, edge_by, place, behaviour, source_list}
 use Rattle.cif_source.proofs.Rows.{two_classes, counter, invariant, frames}
-use Rattle.cif_image.specs.Built.{has_no_definitions, has_no_data, has_no_channels, has_no_invariants, has_no_alphabets, has_one_automaton, classes_its_events, names_its_locations, has_single_uses, has_few_edges, is_flat, is_built}
-use Rattle.cif_image.proofs.Trees.{channel, classless, fixed}
+use Rattle.cif_image.specs.Built.{has_no_definitions, has_no_data, has_no_channels, has_no_invariants, is_flat}
+use Rattle.cif_image.proofs.Trees.{channel, classless, fixed, monitored}
 
-two_classes_is_built : is_built two_classes ≡ true
-two_classes_is_built = refl
+two_classes_is_flat : is_flat two_classes ≡ true
+two_classes_is_flat = refl
 
 -- group g: uncontrollable u; plant A: location x: initial; edge g.u goto y; location y: edge .g.u goto x; end end
 abbrev pub grouped : Source
@@ -24,21 +24,12 @@ grouped = source_list (component_item (word (codes "g") 6) (group_body (source_l
     ∷ [])))
     ∷ [])
 
-grouped_is_built : is_built grouped ≡ true
-grouped_is_built = refl
+grouped_is_flat : is_flat grouped ≡ true
+grouped_is_flat = refl
 
 -- an event without a class, and a location without a name
 classless_is_flat : is_flat classless ≡ true
 classless_is_flat = refl
-
-classless_has_no_class : classes_its_events classless ≡ false
-classless_has_no_class = refl
-
-classless_has_a_nameless_location : names_its_locations classless ≡ false
-classless_has_a_nameless_location = refl
-
-classless_is_not_built : is_built classless ≡ false
-classless_is_not_built = refl
 
 -- data
 counter_has_data : has_no_data counter ≡ false
@@ -50,12 +41,9 @@ fixed_has_data = refl
 fixed_is_not_flat : is_flat fixed ≡ false
 fixed_is_not_flat = refl
 
--- channels, and three automata
+-- channels
 channel_has_a_channel : has_no_channels channel ≡ false
 channel_has_a_channel = refl
-
-channel_has_three_automata : has_one_automaton channel ≡ false
-channel_has_three_automata = refl
 
 -- definitions
 frames_has_definitions : has_no_definitions frames ≡ false
@@ -64,12 +52,6 @@ frames_has_definitions = refl
 invariant_has_invariants : has_no_invariants invariant ≡ false
 invariant_has_invariants = refl
 
--- what is built of each
-two_classes_has_single_uses : has_single_uses two_classes ≡ true
-two_classes_has_single_uses = refl
-
-two_classes_has_few_edges : has_few_edges two_classes ≡ true
-two_classes_has_few_edges = refl
-
-two_classes_has_no_alphabets : has_no_alphabets two_classes ≡ true
-two_classes_has_no_alphabets = refl
+-- alphabets and monitors
+monitored_is_flat : is_flat monitored ≡ true
+monitored_is_flat = refl

@@ -1,21 +1,21 @@
 -- What the built forms leave of a source: events without channels, and edges without guards and updates that synchronise.
-use Rattle.std.proofs.Common.{◌≡◌, ◌≢◌, ℕ, zero, suc, ◌+◌, ◌<◌, ◌⊎◌, Bool, true, false, inl, inr, List, [], ◌∷◌, ◌++◌, length, map, Option, Some, None, refl, sym, ◌∙◌, ap, subst, arith}
-use Rattle.std.specs.Prelude.{◌&&◌, flat_map, slice_index_or, filter}
+use Rattle.std.proofs.Common.{◌≡◌, ℕ, zero, suc, ◌+◌, ◌<◌, ◌⊎◌, Bool, true, false, inl, inr, List, [], ◌∷◌, ◌++◌, length, map, refl, sym, ◌∙◌, ap, subst, arith}
+use Rattle.std.specs.Prelude.{◌&&◌, flat_map, slice_index_or}
 use Rattle.std.specs.List.{list_all, Any, enumerate_from}
 use Rattle.cif_ast.specs.Tree.{UpdateTrees, no_updates, updates}
 use Rattle.cif_ast.specs.declared.names.Ident.{Ident}
 use Rattle.cif_ast.specs.declared.declarations.Class.{Class}
 use Rattle.cif_system.specs.Words.{Member}
-use Rattle.cif_system.proofs.Lists.{false-true, filter-within, filter-passes}
+use Rattle.cif_system.proofs.Lists.{false-true}
 use Rattle.cif_system.proofs.Picks.{and-left, and-right}
 use Rattle.cif_system.proofs.Distinct.{member-map}
 use Rattle.cif_model.proofs.Passing.{both-pass, all-member}
-use Rattle.cif_source.specs.Source.{no_type, void_type, value_type, ChannelTree, RoleTree, syncs, sends, receives, UseTree, EdgeTree, LocationTree, DeclTree, type_decl, enum_decl, event_decl, const_decl, alg_decl, input_decl, disc_decl, equation_decl, invariant_decl, marked_decl, SourceItem, decl_item, component_item, definition_item, instance_item, SourceBody, group_body, automaton_body, Source, no_source, source, list_of_items}
+use Rattle.cif_source.specs.Source.{no_type, void_type, value_type, RoleTree, syncs, sends, receives, EdgeTree, LocationTree, DeclTree, type_decl, enum_decl, event_decl, const_decl, alg_decl, input_decl, disc_decl, equation_decl, invariant_decl, marked_decl, decl_item, component_item, definition_item, instance_item, SourceBody, group_body, automaton_body, Source, no_source, source, list_of_items}
 use Rattle.cif_source.specs.Components.{Component, whole, part, blank, copy, body_of, params_of}
-use Rattle.cif_source.specs.Objects.{components_of, bodies, bodies_in, bodies_at, bodies_under, items_in, decls_of, decls_in, locs_of, locs_in, EventEdge, event_edges, edges_of_uses}
+use Rattle.cif_source.specs.Objects.{components_of, bodies, bodies_in, bodies_under, items_in, decls_of, decls_in, locs_of, locs_in, EventEdge, event_edges, edges_of_uses}
 use Rattle.cif_rules.specs.Constants.{types_of, param_types, decl_types, bounds_of, bounds_in, bound_values, Bounds, decl_constants, typed_constants, constants_of}
 use Rattle.cif_rules.specs.InstanceRules.{ConstantRangeDue, FaultyConstant, LeavesRange, LongBound, EmptyRange}
-use Rattle.cif_image.specs.Built.{stands_alone, has_no_definitions, is_no_data, has_no_predicates, is_nothing, updates_nothing, is_bare, has_no_data, is_no_channel, only_syncs, has_no_channels, is_no_invariant, has_no_invariants, finds_its_alphabet, has_no_alphabets, every_decl, every_location, every_edge, is_flat}
+use Rattle.cif_image.specs.Built.{stands_alone, has_no_definitions, is_no_data, has_no_predicates, is_nothing, updates_nothing, is_bare, has_no_data, is_no_channel, only_syncs, has_no_channels, is_no_invariant, has_no_invariants, every_decl, every_location, every_edge, is_flat}
 use Rattle.cif_image.proofs.FoundLaws.{flat-cases}
 use Rattle.cif_image.proofs.WalkLaws.{is_written_out}
 
@@ -141,7 +141,7 @@ its-role receives h = absurd (false-true refl h)
 
 module _ (t : Source) (flat : is_flat t ≡ true) where
   two : (has_no_definitions t && has_no_data t) ≡ true
-  two = and-left (has_no_definitions t && has_no_data t) (has_no_channels t) (and-left (has_no_definitions t && has_no_data t && has_no_channels t) (has_no_invariants t) (and-left (has_no_definitions t && has_no_data t && has_no_channels t && has_no_invariants t) (has_no_alphabets t) flat))
+  two = and-left (has_no_definitions t && has_no_data t) (has_no_channels t) (and-left (has_no_definitions t && has_no_data t && has_no_channels t) (has_no_invariants t) flat)
 
   pub no-definitions : has_no_definitions t ≡ true
   no-definitions = and-left (has_no_definitions t) (has_no_data t) two
@@ -150,13 +150,10 @@ module _ (t : Source) (flat : is_flat t ≡ true) where
   data-free = and-right (has_no_definitions t) (has_no_data t) two
 
   channel-free : has_no_channels t ≡ true
-  channel-free = and-right (has_no_definitions t && has_no_data t) (has_no_channels t) (and-left (has_no_definitions t && has_no_data t && has_no_channels t) (has_no_invariants t) (and-left (has_no_definitions t && has_no_data t && has_no_channels t && has_no_invariants t) (has_no_alphabets t) flat))
+  channel-free = and-right (has_no_definitions t && has_no_data t) (has_no_channels t) (and-left (has_no_definitions t && has_no_data t && has_no_channels t) (has_no_invariants t) flat)
 
   invariant-free : has_no_invariants t ≡ true
-  invariant-free = and-right (has_no_definitions t && has_no_data t && has_no_channels t) (has_no_invariants t) (and-left (has_no_definitions t && has_no_data t && has_no_channels t && has_no_invariants t) (has_no_alphabets t) flat)
-
-  alphabet-free : has_no_alphabets t ≡ true
-  alphabet-free = and-right (has_no_definitions t && has_no_data t && has_no_channels t && has_no_invariants t) (has_no_alphabets t) flat
+  invariant-free = and-right (has_no_definitions t && has_no_data t && has_no_channels t) (has_no_invariants t) flat
 
   decls-free : every_decl is_no_data t ≡ true
   decls-free = and-left (every_decl is_no_data t) (every_location has_no_predicates t) (and-left (every_decl is_no_data t && every_location has_no_predicates t) (every_edge is_bare t) data-free)
@@ -204,10 +201,6 @@ module _ (t : Source) (flat : is_flat t ≡ true) where
         updates = no-updates w.edge.updates (and-right (is_nothing w.edge.guards) (updates_nothing w.edge.updates) bare);
         role = its-role w.event_use.role (all-member only_syncs w.edge.uses w.event_use sync e.event_use);
       }
-
-  -- its alphabet is found
-  pub found-alphabet : (a : Component) → Member a (bodies t) → finds_its_alphabet (body_of a) ≡ true
-  found-alphabet a m = all-member (λ c. finds_its_alphabet (body_of c)) (bodies t) a alphabet-free m
 
   -- ---- constant expressions
 

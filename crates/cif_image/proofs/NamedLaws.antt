@@ -1,21 +1,20 @@
 -- The events that edges name: where names keep their rules and the forms are those built so far, each is declared, and has a
 -- number below that of all events.
-use Rattle.std.proofs.Common.{◌≡◌, ◌≢◌, ℕ, zero, suc, ◌+◌, ◌<◌, ◌≤◌, ◌⊎◌, Bool, true, false, cond, inl, inr, List, [], ◌∷◌, ◌++◌, length, map, Option, Some, None, refl, sym, ◌∙◌, ap, subst, arith}
-use Rattle.std.specs.Prelude.{◌&&◌, ◌||◌, not, flat_map, filter, filter_map}
-use Rattle.std.specs.List.{list_all, list_any, Any, enumerate_from, position_or_len, cons_option}
+use Rattle.std.proofs.Common.{◌≡◌, ℕ, suc, ◌+◌, ◌<◌, ◌≤◌, ◌⊎◌, Bool, true, false, cond, inl, List, [], ◌∷◌, length, Some, refl, sym, ◌∙◌, ap, subst, arith}
+use Rattle.std.specs.Prelude.{◌&&◌, ◌||◌, not}
+use Rattle.std.specs.List.{list_any, position_or_len}
 use Rattle.std.specs.Cmp.Lexicographic.{pointwise}
 use Rattle.std.proofs.lemmas.Cmp.{nat_list_eq_equiv}
 use Rattle.cif_ast.specs.declared.names.Ident.{Ident}
 use Rattle.cif_ast.specs.declared.names.Name.{Name}
 use Rattle.cif_ast.specs.declared.declarations.Class.{Class}
 use Rattle.cif_system.specs.Words.{Member}
-use Rattle.cif_system.proofs.Lists.{false-true, filter-member, filter-within, filter-passes}
-use Rattle.cif_system.proofs.Picks.{and-left, and-right, append-left, append-right, flat_map-member}
-use Rattle.cif_source.specs.Source.{Text, ChannelTree, DeclTree, type_decl, enum_decl, event_decl, const_decl, alg_decl, input_decl, disc_decl, equation_decl, invariant_decl, marked_decl, ParamTree, event_param, alg_param, location_param, SourceBody, group_body, automaton_body, LocationTree, EdgeTree, UseTree, Source}
-use Rattle.cif_source.specs.Components.{Component, whole, part, blank, copy, body_of, params_of, specification_of, path_of, same_text, Entry, declared, literal, location, inner, definition, instance, parameter}
-use Rattle.cif_source.specs.Lookup.{ScopeEntry, Reached, reached, missing, blocked, in_scope, outward, or_outward, go_on, inside, passed, looked_up, found, thing, denotes, stands_for_argument}
-use Rattle.cif_source.specs.Objects.{components_of, bodies, most_objects, automata, is_automaton, decls_of, locs_of, locs_in, Declared, declarations, events, is_event, is_declared, number_in, EventEdge, event_edges}
-use Rattle.cif_source.specs.Uses.{Use, uses, event_asked, is_asked, sought, param_uses, body_uses, decl_uses, asking, location_uses, value_uses, edge_uses, event_uses}
+use Rattle.cif_system.proofs.Lists.{false-true, filter-member}
+use Rattle.cif_source.specs.Source.{Text, ChannelTree, type_decl, enum_decl, event_decl, const_decl, alg_decl, input_decl, disc_decl, equation_decl, invariant_decl, marked_decl, Source}
+use Rattle.cif_source.specs.Components.{Component, whole, part, blank, copy, specification_of, path_of, same_text, Entry, declared, literal, location, inner, definition, instance, parameter}
+use Rattle.cif_source.specs.Lookup.{ScopeEntry, Reached, reached, missing, blocked, in_scope, outward, or_outward, go_on, inside, passed, found, denotes, stands_for_argument}
+use Rattle.cif_source.specs.Objects.{components_of, bodies, most_objects, decls_of, Declared, declarations, events, is_event, is_declared, number_in}
+use Rattle.cif_source.specs.Uses.{Use, uses, event_asked, is_asked, sought}
 use Rattle.cif_source.specs.Step.{event_at}
 use Rattle.cif_source.specs.Scoping.{is_missing, is_wrong, UnknownDue, UnknownName, UnknownOwn, WrongKindDue, WrongName, WrongOwn, WrongCount}
 use Rattle.cif_source.proofs.ReachLaws.{frames-listed}
@@ -24,7 +23,7 @@ use Rattle.cif_image.specs.Built.{is_flat}
 use Rattle.cif_image.proofs.KeptLaws.{member-passes}
 use Rattle.cif_image.proofs.FoundLaws.{Ok, outward-ok, root-ok, inside-ok, declaration-listed, reached-same}
 use Rattle.cif_image.proofs.RuleLaws.{member-any}
-use Rattle.cif_image.proofs.FormLaws.{is_plain_part, only-parts, edge-stands, enumerated}
+use Rattle.cif_image.proofs.FormLaws.{is_plain_part, only-parts}
 
 -- ---- no parameter is found
 

@@ -1,21 +1,20 @@
 -- The number of an event: those of earlier bodies come first, and then those that the body declares before it.
-use Rattle.std.proofs.Common.{◌≡◌, ℕ, zero, suc, ◌+◌, ◌≤◌, ◌<◌, Bool, true, false, cond, inl, inr, List, [], ◌∷◌, ◌++◌, length, map, take, Option, Some, None, refl, sym, ◌∙◌, ap, subst, arith, append_assoc}
-use Rattle.std.specs.Prelude.{◌&&◌, not, flat_map, filter, filter_map, slice_get, sum}
+use Rattle.std.proofs.Common.{◌≡◌, ℕ, zero, suc, ◌+◌, ◌<◌, Bool, true, false, cond, List, [], ◌∷◌, ◌++◌, length, map, take, Option, Some, None, refl, sym, ◌∙◌, ap, subst, arith}
+use Rattle.std.specs.Prelude.{◌&&◌, not, flat_map, filter, filter_map, slice_get}
 use Rattle.std.specs.List.{list_all, position_or_len, cons_option, enumerate_from}
 use Rattle.std.specs.Cmp.Lexicographic as words
-use Rattle.std.proofs.lemmas.List.{length-append}
 use Rattle.std.proofs.lemmas.Cmp.{nat_list_eq_equiv}
 use Rattle.cif_ast.specs.declared.names.Ident.{Ident}
 use Rattle.cif_ast.specs.declared.declarations.Class.{Class}
 use Rattle.cif_system.specs.Words.{Member, AreDistinct}
-use Rattle.cif_system.proofs.Lists.{false-true, some-same, none-some}
+use Rattle.cif_system.proofs.Lists.{some-same, none-some}
 use Rattle.cif_system.proofs.Picks.{and-left, and-right, map-member, at-member}
 use Rattle.cif_source.specs.Source.{Text, ChannelTree, DeclTree, type_decl, enum_decl, event_decl, const_decl, alg_decl, input_decl, disc_decl, equation_decl, invariant_decl, marked_decl, LocationTree, SourceItem, decl_item, component_item, definition_item, instance_item, SourceBody, group_body, automaton_body, Source, list_of_items}
-use Rattle.cif_source.specs.Components.{Component, body_of, path_of, same_text, same_path, Entry, Entries, declared, literal, location, inner, definition, instance, parameter, decl_entries, item_entries, body_entries, location_entry, literal_entries}
-use Rattle.cif_source.specs.Objects.{components_of, bodies, item_decls, decls_in, decls_of, is_event, events, declares, is_declared, Declared, declarations, number_in}
+use Rattle.cif_source.specs.Components.{Component, body_of, path_of, same_text, same_path, Entry, Entries, declared, literal, location, inner, definition, instance, parameter, decl_entries, item_entries, body_entries, location_entry}
+use Rattle.cif_source.specs.Objects.{components_of, bodies, item_decls, decls_in, decls_of, is_event, events, declares, is_declared, Declared, number_in}
 use Rattle.cif_image.proofs.KeptLaws.{has_twice}
 use Rattle.cif_image.proofs.PathLaws.{names, not-twice-right, path-told}
-use Rattle.cif_image.proofs.BodyLaws.{is_single, other-name}
+use Rattle.cif_image.proofs.BodyLaws.{other-name}
 
 -- ---- the events among the names of a scope
 

@@ -17,7 +17,7 @@ use Rattle.cif_source.proofs.Cell.{cell_tree}
 use Rattle.cif_source.proofs.Features.{features_tree}
 use Rattle.cif_image.specs.Translation.{net_of, net_guard}
 use Rattle.cif_image.specs.Flat.{net_of_source}
-use Rattle.cif_image.proofs.Trees.{swap, channel, fixed}
+use Rattle.cif_image.proofs.Trees.{swap, channel, fixed, monitored}
 
 abbrev net_system : Source → System
 net_system t = system_of_net (net_of_source t)
@@ -113,6 +113,23 @@ four_is_received = refl
 -- the places of a sent value and of an assigned name
 channel_places : map (λ (a : NetAuto). map (λ (x : NetEdge). x.places) a.edges) (net_of_source channel).autos ≡ ((58 ∷ []) ∷ []) ∷ ((104 ∷ []) ∷ []) ∷ ((176 ∷ []) ∷ []) ∷ []
 channel_places = refl
+
+-- ---- alphabets and monitors, in the order of the text and with repetitions
+
+monitored_is_a_net : is_net (net_of_source monitored) ≡ true
+monitored_is_a_net = refl
+
+-- declared by a, and those of the edges of b
+monitored_alphabets : map (λ (a : NetAuto). a.alphabet) (net_of_source monitored).autos ≡ (1 ∷ 0 ∷ 1 ∷ []) ∷ (1 ∷ 0 ∷ 1 ∷ []) ∷ []
+monitored_alphabets = refl
+
+-- a monitors all of its alphabet, and b what it names
+monitored_events : map (λ (a : NetAuto). a.monitors) (net_of_source monitored).autos ≡ (1 ∷ 0 ∷ 1 ∷ []) ∷ (1 ∷ 1 ∷ []) ∷ []
+monitored_events = refl
+
+-- a has no edge for f, and stays
+f_passes : first_step (net_system monitored) (start monitored) 1 ≡ Some (at (0 ∷ 0 ∷ []) [])
+f_passes = refl
 
 -- ---- a boolean constant is true or false
 

@@ -1,15 +1,15 @@
 -- Without definitions and instances the components of a source are its bodies, in the same order, or they nest too deep.
-use Rattle.std.proofs.Common.{◌≡◌, ℕ, zero, suc, ◌+◌, ◌≤◌, ◌<◌, ◌⊎◌, Bool, true, false, inl, inr, List, [], ◌∷◌, ◌++◌, length, map, refl, sym, ◌∙◌, ap, subst, arith}
-use Rattle.std.specs.Prelude.{◌&&◌, flat_map, filter_map, sum}
+use Rattle.std.proofs.Common.{◌≡◌, ℕ, zero, suc, ◌≤◌, ◌<◌, ◌⊎◌, Bool, true, inl, inr, List, ◌∷◌, ◌++◌, length, map, refl, sym, ◌∙◌, ap, subst, arith}
+use Rattle.std.specs.Prelude.{flat_map, filter_map, sum}
 use Rattle.std.specs.List.{list_all}
 use Rattle.std.proofs.lemmas.List.{length-append}
 use Rattle.cif_system.proofs.Lists.{false-true}
 use Rattle.cif_system.proofs.Picks.{and-left, and-right}
 use Rattle.cif_model.proofs.Passing.{both-pass}
 use Rattle.cif_ast.specs.declared.names.Ident.{Ident}
-use Rattle.cif_source.specs.Source.{SourceItem, decl_item, component_item, definition_item, instance_item, SourceBody, group_body, automaton_body, Source, no_source, source, list_of_items}
+use Rattle.cif_source.specs.Source.{decl_item, component_item, definition_item, instance_item, SourceBody, group_body, automaton_body, Source, no_source, source, list_of_items}
 use Rattle.cif_source.specs.Components.{Component, whole, part, body_of}
-use Rattle.cif_source.specs.Objects.{components_of, components_below, children, child_of, items_in, most_objects, bodies, bodies_in, bodies_at, bodies_under}
+use Rattle.cif_source.specs.Objects.{components_of, components_below, child_of, items_in, most_objects, bodies, bodies_in, bodies_under}
 use Rattle.cif_rules.specs.InstanceRules.{component_objects, object_count, TooManyObjectsDue}
 use Rattle.cif_image.specs.Built.{stands_alone, has_no_definitions}
 use Rattle.cif_image.proofs.RuleLaws.{components-counted}

@@ -1,13 +1,10 @@
 -- The forms of a source that are built so far. Each test names one form that is not built yet, and is about bodies as written.
-use Rattle.std.specs.Prelude.{ℕ, Bool, true, false, ◌&&◌, nat_eq, nat_le, List, [], ◌∷◌, filter, flat_map, length, Option, Some, None}
+use Rattle.std.specs.Prelude.{Bool, true, false, ◌&&◌, List, [], ◌∷◌}
 use Rattle.std.specs.List.{list_all}
 use Rattle.cif_ast.specs.Tree.{UpdateTrees, no_updates, updates}
-use Rattle.cif_ast.specs.declared.names.Name.{Name}
-use Rattle.cif_ast.specs.declared.declarations.Class.{Class}
-use Rattle.cif_ast.specs.declared.declarations.Class.TheVariants as class
-use Rattle.cif_source.specs.Source.{ChannelTree, no_type, void_type, value_type, RoleTree, syncs, sends, receives, UseTree, EdgeTree, LocationTree, DeclTree, type_decl, enum_decl, event_decl, const_decl, alg_decl, input_decl, disc_decl, equation_decl, invariant_decl, marked_decl, SourceItem, decl_item, component_item, definition_item, instance_item, SourceBody, group_body, automaton_body, Source}
-use Rattle.cif_source.specs.Components.{Component, body_of}
-use Rattle.cif_source.specs.Objects.{bodies, items_in, decls_in, locs_in, is_automaton, event_edges}
+use Rattle.cif_source.specs.Source.{no_type, void_type, value_type, syncs, sends, receives, UseTree, EdgeTree, LocationTree, DeclTree, event_decl, invariant_decl, SourceItem, decl_item, component_item, definition_item, instance_item, SourceBody, Source}
+use Rattle.cif_source.specs.Components.{body_of}
+use Rattle.cif_source.specs.Objects.{bodies, items_in, decls_in, locs_in}
 
 -- ---- tests of all bodies
 
@@ -81,54 +78,8 @@ is_no_invariant _ = true
 abbrev pub has_no_invariants : Source → Bool
 has_no_invariants t = every_decl is_no_invariant t
 
--- ---- alphabets
+-- ---- all
 
-abbrev pub is_left_out : Option (List Name) → Bool
-is_left_out None = true
-is_left_out (Some nms) = false
-
-abbrev pub finds_its_alphabet : SourceBody → Bool
-finds_its_alphabet (group_body is) = true
-finds_its_alphabet (automaton_body a) = is_left_out a.alphabet && is_left_out a.monitor
-
-abbrev pub has_no_alphabets : Source → Bool
-has_no_alphabets t = every_body finds_its_alphabet t
-
--- ---- automata that synchronise
-
-abbrev pub has_one_automaton : Source → Bool
-has_one_automaton t = nat_eq (length (filter (λ c. is_automaton (body_of c)) (bodies t))) 1
-
-abbrev pub is_classed : DeclTree → Bool
-is_classed (event_decl class.Plain h n) = false
-is_classed (event_decl class.Con h n) = true
-is_classed (event_decl class.Unc h n) = true
-is_classed _ = true
-
-abbrev pub classes_its_events : Source → Bool
-classes_its_events t = every_decl is_classed t
-
-abbrev pub is_named : LocationTree → Bool
-is_named l = elim l.name [ None ↦ false | Some n ↦ true ]
-
-abbrev pub names_its_locations : Source → Bool
-names_its_locations t = every_location is_named t
-
-abbrev pub has_single_uses : Source → Bool
-has_single_uses t = every_edge (λ e. nat_eq (length e.uses) 1) t
-
-abbrev pub most_edges : ℕ
-most_edges = 16384
-
-abbrev pub has_few_edges : Source → Bool
-has_few_edges t = nat_le (length (flat_map event_edges (bodies t))) most_edges
-
--- ---- both
-
--- the forms for which a flat net is made
+-- the forms that are built: groups and automata with events, locations and edges
 abbrev pub is_flat : Source → Bool
-is_flat t = has_no_definitions t && has_no_data t && has_no_channels t && has_no_invariants t && has_no_alphabets t
-
--- the forms for which a program is made
-abbrev pub is_built : Source → Bool
-is_built t = is_flat t && has_one_automaton t && classes_its_events t && names_its_locations t && has_single_uses t && has_few_edges t
+is_flat t = has_no_definitions t && has_no_data t && has_no_channels t && has_no_invariants t

@@ -1,2 +1,4 @@
-pub mod Checked
+pub mod ExprSets
+pub mod Guarding
+pub mod ClassLaws
 pub mod TextLaws

@@ -1,55 +1,79 @@
--- The printed program of a plant keeps what is promised of it.
-use Rattle.std.proofs.Common.{◌≡◌, ℕ, ◌+◌, ◌≤◌, [], ◌∷◌, refl, ap}
+-- The text that is written for a net keeps what is promised of it.
+use Rattle.std.proofs.Common.{◌≡◌, ℕ, true, sym, subst, arith}
 use Rattle.grammar.specs.Pieces.{Text}
-use Rattle.cif_plant.specs.Meaning.{system_of_numbered}
-use Rattle.cif_plant.specs.Named.{IsNameText}
-use Rattle.cif_plant.specs.declared.numbered.NumberedPlant.{NumberedPlant}
-use Rattle.st_ast.specs.Tree.{Program}
+use Rattle.cif_system.specs.System.{initial}
+use Rattle.cif_system.proofs.Picks.{and-left}
+use Rattle.cif_model.specs.Facts.{is_net}
+use Rattle.cif_model.specs.Net.{Net}
+use Rattle.cif_model.specs.Listing.{guarded_of}
+use Rattle.cif_model.specs.Meaning.{system_of_net}
+use Rattle.cif_model.specs.Table.{IsGuarded}
 use Rattle.st_ast.specs.ReadsAs.{ReadsBack}
-use Rattle.st_ast.specs.Scan.{turns_of_scan}
-use Rattle.st_print.specs.Layout.{printed}
-use Rattle.plc_face.specs.Face.{HasInterface}
-use Rattle.plc_face.specs.Scans.{IsProgramOf, NeverFaults, RunsFirstSteps, ScansLegally, ScansExactly, ShowsOutputs, StaysTyped}
-use Rattle.plc_face.proofs.ScanLaws.{exact-legal, exact-first}
-use Rattle.plc_gen.specs.Emitted.{program_of, place_output}
-use Rattle.plc_gen.specs.HasProgram.{HasProgram}
-use Rattle.plc_gen.specs.Interface.{face_of}
-use Rattle.plc_gen.proofs.PlantScans.{state_of, starts, output_name-is, plant-exact, plant-shows, plant-typed}
+use Rattle.st_ast.specs.Scan.{start_memory}
+use Rattle.st_ast.specs.Spelled.{is_spelled}
+use Rattle.st_ast.specs.Tree.{Program}
+use Rattle.st_print.proofs.PrintedPrograms.{reads_back}
+use Rattle.plc_face.specs.Face.{HasInterface, StateOf}
+use Rattle.plc_face.specs.Scans.{NeverFaults, RunsFirstSteps, ScansLegally, ScansExactly, ShowsOutputs, StaysTyped}
+use Rattle.plc_face.proofs.ScanLaws.{exact-first, exact-legal}
+use Rattle.plc_gen.specs.Emitted.{program_of}
+use Rattle.plc_gen.specs.Faces.{face_of_net}
+use Rattle.plc_gen.specs.Makes.{Makes, needs_tests_alone}
+use Rattle.plc_gen.proofs.Dataless.{dataless-alone}
+use Rattle.plc_gen.proofs.Emits.{makes}
+use Rattle.plc_gen.proofs.Whole.{program-spelled}
 use Rattle.plc_back.specs.Texts.{IsLayoutOf, TheProgram}
-use Rattle.plc_back.proofs.Checked.{program-checked}
+use Rattle.plc_back.specs.Written.{IsTextOf}
 
-program-interface : (n : NumberedPlant) (U C : ℕ) → IsNameText n.name → HasInterface (face_of n) (program_of n U C)
-program-interface n U C letters = record { name = refl; inputs = refl; outputs = ap (λ x. record (place_output n) { name = x } ∷ []) (output_name-is n letters) }
+module _ (n : Net) (U C : ℕ) (text : Text) (guarded : IsGuarded n (guarded_of n)) (h : IsTextOf n U C text) where
+  abbrev written : Program
+  written = program_of n (guarded_of n) U C
 
-module _ (n : NumberedPlant) (U C : ℕ) (h : HasProgram n U C) (text : Text) (back : ReadsBack text (program_of n U C)) where
+  net : is_net n ≡ true
+  net = and-left _ _ (and-left _ _ (and-left _ _ h.has.plain))
+
+  alone : needs_tests_alone n (guarded_of n) ≡ true
+  alone = dataless-alone n h.has.dataless
+
+  made : Makes n U C written
+  made = let u = h.has.unc in let c = h.has.con in makes n (guarded_of n) U C net guarded alone (omega (arith, u, c))
+
+  spelled : is_spelled written ≡ true
+  spelled =
+      let u = h.has.unc in
+      let c = h.has.con in
+      program-spelled n (guarded_of n) U C net guarded alone (omega (arith, u)) (omega (arith, c)) h.has.small_variables h.has.small_inputs
+
+  back : ReadsBack text written
+  back = subst (λ t. ReadsBack t written) (sym h.is) (reads_back written spelled)
+
   -- what holds of the program holds of the one program that its text reads as
-  of_text : (P : Program → Type 0) → P (program_of n U C) → TheProgram text P
-  of_text P holds = (program_of n U C, back.reads (program-checked n U C h.numbered), holds, back.reads_as_no_other)
+  of_text : (P : Program → Type 0) → P written → TheProgram text P
+  of_text P holds = (written, back.reads made.checked, holds, back.reads_as_no_other)
 
-  pub is_program_of : TheProgram text (IsProgramOf (face_of n) (system_of_numbered n))
-  is_program_of = of_text (IsProgramOf (face_of n) (system_of_numbered n)) (program-interface n U C h.name, state_of n h.name U C _ _ (starts n U C h.numbered))
+  pub has_interface : TheProgram text (HasInterface (face_of_net n))
+  has_interface = of_text (HasInterface (face_of_net n)) made.interface
 
-  pub laid_out : text ≡ printed (program_of n U C) → TheProgram text (IsLayoutOf text)
-  laid_out is = of_text (IsLayoutOf text) is
+  pub starts_initial : TheProgram text (λ p. StateOf (face_of_net n) (system_of_net n) p (start_memory p) (initial (system_of_net n)))
+  starts_initial = of_text (λ p. StateOf (face_of_net n) (system_of_net n) p (start_memory p) (initial (system_of_net n))) made.starts
 
-  module _ (enough : U + C ≤ turns_of_scan) where
-    exact : ScansExactly U C (face_of n) (system_of_numbered n) (program_of n U C)
-    exact = plant-exact n h.numbered h.name U C enough
+  pub runs_first_steps : TheProgram text (RunsFirstSteps (face_of_net n) (system_of_net n))
+  runs_first_steps = of_text (RunsFirstSteps (face_of_net n) (system_of_net n)) (exact-first (face_of_net n) (system_of_net n) written U C made.exact)
 
-    pub scans_exactly : TheProgram text (ScansExactly U C (face_of n) (system_of_numbered n))
-    scans_exactly = of_text (ScansExactly U C (face_of n) (system_of_numbered n)) exact
+  pub never_faults : TheProgram text (NeverFaults (system_of_net n))
+  never_faults = of_text (NeverFaults (system_of_net n)) made.exact.0
 
-    pub scans_legally : TheProgram text (ScansLegally U C (face_of n) (system_of_numbered n))
-    scans_legally = of_text (ScansLegally U C (face_of n) (system_of_numbered n)) (exact-legal (face_of n) (system_of_numbered n) (program_of n U C) U C exact)
+  pub scans_legally : TheProgram text (ScansLegally U C (face_of_net n) (system_of_net n))
+  scans_legally = of_text (ScansLegally U C (face_of_net n) (system_of_net n)) (exact-legal (face_of_net n) (system_of_net n) written U C made.exact)
 
-    pub runs_first_steps : TheProgram text (RunsFirstSteps (face_of n) (system_of_numbered n))
-    runs_first_steps = of_text (RunsFirstSteps (face_of n) (system_of_numbered n)) (exact-first (face_of n) (system_of_numbered n) (program_of n U C) U C exact)
+  pub scans_exactly : TheProgram text (ScansExactly U C (face_of_net n) (system_of_net n))
+  scans_exactly = of_text (ScansExactly U C (face_of_net n) (system_of_net n)) made.exact
 
-    pub never_faults : TheProgram text (NeverFaults (system_of_numbered n))
-    never_faults = of_text (NeverFaults (system_of_numbered n)) exact.0
+  pub shows_outputs : TheProgram text (ShowsOutputs (face_of_net n) (system_of_net n))
+  shows_outputs = of_text (ShowsOutputs (face_of_net n) (system_of_net n)) made.shown
 
-    pub shows_outputs : TheProgram text (ShowsOutputs (face_of n) (system_of_numbered n))
-    shows_outputs = of_text (ShowsOutputs (face_of n) (system_of_numbered n)) (plant-shows n h.numbered h.name U C enough)
+  pub stays_typed : TheProgram text (StaysTyped (system_of_net n))
+  stays_typed = of_text (StaysTyped (system_of_net n)) made.typed
 
-    pub stays_typed : TheProgram text (StaysTyped (system_of_numbered n))
-    stays_typed = of_text (StaysTyped (system_of_numbered n)) (plant-typed n h.numbered h.name U C enough)
+  pub laid_out : TheProgram text (IsLayoutOf text)
+  laid_out = of_text (IsLayoutOf text) h.is

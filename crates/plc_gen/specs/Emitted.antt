@@ -1,94 +1,95 @@
--- The program of a plant automaton without data.
-use Rattle.std.specs.Prelude.{ℕ, suc, ◌-◌, pos, Bool, true, false, List, [], ◌∷◌, ◌++◌, filter, nat_eq, codes, Some, None, if◌then◌else◌}
-use Rattle.grammar.specs.Pieces.{Text}
-use Rattle.st_ast.specs.Tree.{Expr, truth, number, named, equal, Stms, Branches, assign, choice, no_stms, stms, no_branches, branches, no_other, Program}
+-- The program of a net.
+use Rattle.std.specs.Prelude.{ℕ, ◌+◌, pos, List, [], ◌∷◌, ◌++◌, map, flat_map, length, codes}
+use Rattle.std.specs.List.{enumerate_from, range_with_len}
+use Rattle.cif_model.specs.Net.{Net}
+use Rattle.cif_model.specs.Meaning.{system_of_net}
+use Rattle.cif_model.specs.Listing.{NetChoice}
+use Rattle.st_ast.specs.Tree.{named, Stm, assign, Stms, stms_of, Program}
 use Rattle.st_ast.specs.declared.tree.StVar.{StVar}
-use Rattle.st_ast.specs.declared.tree.StTy.TheVariants as ty
-use Rattle.st_ast.specs.declared.tree.StLit.TheVariants as lit
+use Rattle.st_ast.specs.declared.tree.StClass.{StClass}
 use Rattle.st_ast.specs.declared.tree.StClass.TheVariants as class
-use Rattle.cif_plant.specs.declared.plant.Class.{Class}
-use Rattle.cif_plant.specs.declared.plant.Class.TheVariants as c
-use Rattle.cif_plant.specs.declared.numbered.NumberedEdge.{NumberedEdge}
-use Rattle.cif_plant.specs.declared.numbered.NumberedPlant.{NumberedPlant}
-use Rattle.plc_face.specs.Frame.{fired, rounds_made, frame}
+use Rattle.st_ast.specs.declared.tree.StTy.TheVariants as ty
+use Rattle.plc_face.specs.declared.letter.Letter.{Letter}
+use Rattle.plc_face.specs.declared.letter.Letter.TheVariants as letter
+use Rattle.plc_face.specs.Names.{name_for}
+use Rattle.plc_face.specs.Face.{Face, VariableFace, declarations, places_of, algs_of}
+use Rattle.plc_face.specs.Frame.{Part, framed}
+use Rattle.plc_gen.specs.Faces.{face_of_net}
+use Rattle.plc_gen.specs.Events.{Written, own_of, event_part, written_for}
 
--- A variable's name: a letter, the number of what it stands for, `_` and the path. A path of letters alone, at most 40 of
--- them, stands as it is. L is the location of an automaton, and P the output that shows it; the automaton's number is 0.
-abbrev pub place_name : NumberedPlant → Text
-place_name n = codes "L0_" ++ n.name
+-- ---- events
 
-abbrev pub output_name : NumberedPlant → Text
-output_name n = codes "P0_" ++ n.name
+-- what is written for each event
+abbrev pub all_written : Net → List NetChoice → List (List Written)
+all_written n cs = map (written_for n cs) (range_with_len 0 (length n.events))
 
-abbrev pub is_of : Class → Class → Bool
-is_of c.Controllable c.Controllable = true
-is_of c.Controllable c.Uncontrollable = false
-is_of c.Uncontrollable c.Controllable = false
-is_of c.Uncontrollable c.Uncontrollable = true
+-- the parts of these events, whose own variables have numbers from k on
+abbrev pub parts_from : ℕ → List (List Written) → List Part
+parts_from k [] = []
+parts_from k (ws ∷ rest) = event_part k ws ∷ parts_from (k + length (own_of ws)) rest
 
--- the numbers of the events of a class, ascending, from the k-th on
-abbrev pub events_from : Class → ℕ → List Class → List ℕ
-events_from k i [] = []
-events_from k i (d ∷ ds) = if is_of k d then i ∷ events_from k (suc i) ds else events_from k (suc i) ds
+-- the numbers 0 and 1 are those of the mark and of the counter
+abbrev pub parts_of : Net → List NetChoice → List Part
+parts_of n cs = parts_from 2 (all_written n cs)
 
-abbrev pub events_of : Class → NumberedPlant → List ℕ
-events_of k n = events_from k 0 n.classes
+-- ---- variables
 
--- the edges of an event in the order of the text
-abbrev pub moves_of : NumberedPlant → ℕ → List NumberedEdge
-moves_of n e = filter (λ (m : NumberedEdge). nat_eq m.event e) n.moves
+abbrev pub mark_face : VariableFace
+mark_face = record { path = codes "fired"; ty = ty.Bool; first = pos 0 }
 
--- where the automaton is in the edge's location, it goes to its end
-abbrev pub stands_at : Text → NumberedEdge → Expr
-stands_at place m = equal (named place) true (number (pos m.from))
+abbrev pub counter_face : VariableFace
+counter_face = record { path = codes "rounds"; ty = ty.Lint; first = pos 0 }
 
-abbrev pub taking : Text → NumberedEdge → Stms
-taking place m = stms (assign place (number (pos m.to))) (stms (assign fired (truth true)) no_stms)
+-- the generator's own: the mark, the counter, and those of the events
+abbrev pub temporaries : Net → List NetChoice → List VariableFace
+temporaries n cs = mark_face ∷ counter_face ∷ flat_map own_of (all_written n cs)
 
-abbrev pub move_branches : Text → List NumberedEdge → Branches
-move_branches place [] = no_branches
-move_branches place (m ∷ ms) = branches (stands_at place m) (taking place m) (move_branches place ms)
+-- variables of one letter
+pub record Block : Type 0 where
+  pub letter : Letter
+  pub class : StClass
+  pub faces : List VariableFace
 
--- the first edge that leaves the location; no statement where the event has no edge
-abbrev pub event_of : Text → List NumberedEdge → Stms
-event_of place [] = no_stms
-event_of place (m ∷ ms) = stms (choice (move_branches place (m ∷ ms)) no_other) no_stms
+abbrev pub blocks_of : Net → List NetChoice → List Block
+blocks_of n cs =
+    let face = face_of_net n in
+    record { letter = letter.L; class = class.Plain; faces = places_of face }
+    ∷ record { letter = letter.V; class = class.Plain; faces = face.variables }
+    ∷ record { letter = letter.H; class = class.Plain; faces = face.inputs }
+    ∷ record { letter = letter.T; class = class.Plain; faces = temporaries n cs }
+    ∷ record { letter = letter.I; class = class.Input; faces = face.inputs }
+    ∷ record { letter = letter.P; class = class.Output; faces = places_of face }
+    ∷ record { letter = letter.Q; class = class.Output; faces = face.variables }
+    ∷ record { letter = letter.R; class = class.Output; faces = algs_of face }
+    ∷ []
 
-abbrev pub body_of : NumberedPlant → ℕ → Stms
-body_of n e = event_of (place_name n) (moves_of n e)
+abbrev pub block_variables : Block → List StVar
+block_variables b = declarations b.letter b.class b.faces
 
-abbrev pub place_variable : NumberedPlant → StVar
-place_variable n = record {
-  name = place_name n;
-  class = class.Plain;
-  ty = ty.Range (pos 0) (pos (n.places - 1));
-  init = Some (lit.Int (pos n.first));
-  at = None;
-}
+abbrev pub variables_of : List Block → List StVar
+variables_of bs = flat_map block_variables bs
 
--- the output that shows the place of the automaton
-abbrev pub place_output : NumberedPlant → StVar
-place_output n = record {
-  name = output_name n;
-  class = class.Output;
-  ty = ty.Range (pos 0) (pos (n.places - 1));
-  init = Some (lit.Int (pos n.first));
-  at = None;
-}
+-- ---- outputs
 
-abbrev pub variables_of : NumberedPlant → List StVar
-variables_of n = place_variable n
-    ∷ record { name = fired; class = class.Plain; ty = ty.Bool; init = Some (lit.Bool false); at = None }
-    ∷ record { name = rounds_made; class = class.Plain; ty = ty.Lint; init = Some (lit.Int (pos 0)); at = None }
-    ∷ place_output n ∷ []
+-- a variable of the first letter takes over the one of the second
+abbrev pub shown_by : Letter → Letter → ℕ × VariableFace → Stm
+shown_by to from (k, x) = assign (name_for to k x.path) (named (name_for from k x.path))
 
-abbrev pub outputs_of : NumberedPlant → Stms
-outputs_of n = stms (assign (output_name n) (named (place_name n))) no_stms
+abbrev pub all_shown_by : Letter → Letter → List VariableFace → List Stm
+all_shown_by to from xs = map (shown_by to from) (enumerate_from 0 xs)
 
--- the program, with bounds for the rounds of each class
-abbrev pub program_of : NumberedPlant → ℕ → ℕ → Program
-program_of n U C = record {
-  name = codes "CifScan";
-  vars = variables_of n;
-  body = frame no_stms (body_of n) (events_of c.Uncontrollable n) (events_of c.Controllable n) U C (outputs_of n);
-}
+-- the places and the values
+abbrev pub outputs_of : Face → Stms
+outputs_of face = stms_of (all_shown_by letter.P letter.L (places_of face) ++ all_shown_by letter.Q letter.V face.variables)
+
+-- ---- the program
+
+-- with bounds for the rounds of each class
+abbrev pub program_of : Net → List NetChoice → ℕ → ℕ → Program
+program_of n cs U C =
+    let face = face_of_net n in
+    record {
+      name = codes "CifScan";
+      vars = variables_of (blocks_of n cs);
+      body = framed face (system_of_net n) (parts_of n cs) U C (outputs_of face);
+    }

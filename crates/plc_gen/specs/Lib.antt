@@ -1,4 +1,9 @@
-pub mod Buckets
+pub mod Faces
+pub mod Tests
+pub mod Events
 pub mod Emitted
-pub mod HasProgram
-pub mod Interface
+pub mod Makes
+pub mod Small
+pub mod Shapes
+pub mod Shown
+pub mod Tries

@@ -1,13 +1,21 @@
-//! The Structured Text program of a plant automaton (IEC 61131-3). It fires the events of the automaton, and shows its
-//! location.
+//! The Structured Text program of a net of automata (IEC 61131-3): what is written for the choices of an event, the
+//! variables, and that the scans of the program are the net's.
 #![tactic(auto)]
 
-mod edges;
-mod events;
+mod branches;
+mod faces;
 mod frame;
+mod laws;
+mod moves;
 mod names;
 mod program;
 mod scan;
+mod shapes;
+mod tests;
+mod tries;
 mod variables;
 
+pub use laws::{
+    choices_without_data_need_tests_alone, programs_have_a_spelling, programs_scan_exactly,
+};
 pub use program::{Bounds, emit};

@@ -1,16 +1,18 @@
-//! The program of a plant automaton.
+//! The program of a net.
 
-ghost use Rattle.std.specs.Prelude.{◌≡◌, IfOk};
-ghost use Rattle.cif_plant.specs.Meaning.{IsNumbered};
-ghost use Rattle.cif_plant.specs.Named.{IsNameText};
+ghost use Rattle.std.specs.Prelude.{◌≡◌, ◌≤◌, true, map, IfOk};
+ghost use Rattle.cif_model.specs.Table.{IsGuarded};
+ghost use Rattle.cif_net.specs.View.{net_tree, choice_tree};
 ghost use Rattle.st_ast.specs.View.{view};
 ghost use Rattle.plc_gen.specs.Emitted.{program_of};
+ghost use Rattle.plc_gen.specs.Makes.{Makes, needs_tests_alone};
+ghost use Rattle.plc_gen.specs.Small.{are_small};
 
-use crate::edges::edges_by_event;
+use crate::faces::shown_faces;
 use crate::scan::statements;
 use crate::variables::variables;
 use cif_base::{Memory, Text};
-use cif_plant::NumberedPlant;
+use cif_net::{Choice, Net};
 use st_ast::Program;
 use std::alloc::Global;
 
@@ -21,19 +23,25 @@ pub struct Bounds {
     pub con: u32,
 }
 
-/// The program of a plant automaton. In each scan it makes rounds of the uncontrollable events, then rounds of the
-/// controllable ones, and then shows the location in its output. A round tries each event of the class once, in the
-/// order of their numbers: the event takes the first of its edges that leaves the location, if there is one. The rounds
-/// of a class end after one in which nothing fired, or after the bound of the class.
-pub fn emit(alloc: Global, plant: &NumberedPlant, bounds: Bounds) -> Result<Program, Memory>
-    requires numbered { IsNumbered plant.now }
-    requires named { IsNameText plant.now.name }
-    ensures text { IfOk result (λ p. view p ≡ program_of plant.now bounds.unc bounds.con) }
+/// The program of a net, each of whose choices needs no more than a test of locations. In each scan it makes rounds of the
+/// uncontrollable events, then rounds of the controllable ones, and then shows the state in its outputs. A round tries each
+/// event of the class once, in the order of their numbers: the first of its choices whose test holds is made. The rounds of
+/// a class end after one in which nothing fired, or after the bound of the class. The time is linear in what is written. The
+/// enumerations of a net are numbered in 32 bits, so that their numbers have literals.
+pub fn emit(alloc: Global, net: &Net, choices: &[Choice], bounds: Bounds) -> Result<Program, Memory>
+    requires guarded { IsGuarded (net_tree net.now) (map choice_tree choices.now) }
+    requires tests { needs_tests_alone (net_tree net.now) (map choice_tree choices.now) ≡ true }
+    requires unc { bounds.unc ≤ 10000 }
+    requires con { bounds.con ≤ 10000 }
+    ensures text { IfOk result
+        (λ p. view p ≡ program_of (net_tree net.now) (map choice_tree choices.now) bounds.unc bounds.con) }
+    ensures makes { IfOk result (λ p. Makes (net_tree net.now) bounds.unc bounds.con (view p)) }
+    ensures small_variables { IfOk result (λ p. are_small (net_tree net.now).vars ≡ true) }
+    ensures small_inputs { IfOk result (λ p. are_small (net_tree net.now).inputs ≡ true) }
 {
-    let _places = plant.places;
-    let edges = edges_by_event(alloc, plant)?;
-    let body = statements(alloc, plant, edges.as_slice(), bounds)?;
-    let vars = variables(alloc, plant)?;
+    let faces = shown_faces(alloc, net)?;
+    let body = statements(alloc, net, choices, &faces, bounds)?;
+    let vars = variables(alloc, &faces)?;
     let name = Text::from_slice(alloc, b"CifScan")?;
     Ok(Program { name, vars, body })
 }

@@ -1,55 +1,116 @@
-//! The declarations of the variables.
+//! The declarations of the variables, and statements by which one takes over another.
 
-ghost use Rattle.std.specs.Prelude.{◌≡◌, ◌<◌, ◌-◌, pos, Some, None, IfOk};
-ghost use Rattle.st_ast.specs.declared.tree.StTy.TheVariants as ty;
-ghost use Rattle.st_ast.specs.declared.tree.StLit.TheVariants as lit;
-ghost use Rattle.plc_gen.specs.Emitted.{variables_of};
+ghost use Rattle.std.specs.Prelude.{◌≡◌, ◌<◌, ◌^◌, length, map, IfOk};
+ghost use Rattle.st_ast.specs.Tree.{stms_of};
+ghost use Rattle.st_ast.specs.View.{view_stmt, view_stmts};
+ghost use Rattle.plc_face.specs.Face as f;
+ghost use Rattle.plc_gen.specs.Emitted.{all_shown_by, shown_by};
+ghost use Rattle.plc_gen.specs.Shown.{face_tree, declared_for};
 
-use crate::names::{name_of_counter, name_of_mark, name_of_output, name_of_place};
-use cif_base::{Items, Memory, Text};
-use cif_plant::NumberedPlant;
-use st_ast::{StClass, StLit, StTy, StVar};
+use crate::faces::{Faces, Shown, own_variables};
+use cif_base::{Boxed, Items, Memory};
+use plc_face::Letter;
+use plc_names::name_of;
+use st_ast::{StClass, StExpr, StLit, StTy, StVar, Stmt};
 use std::alloc::Global;
 
-/// A variable for a location of the automaton, which is the initial one at first.
-fn location_variable(plant: &NumberedPlant, name: Text, class: StClass) -> StVar
-    requires { 0 < plant.now.places }
-    ensures { result ≡ record { name = name; class = class; ty = ty.Range (pos 0) (pos (plant.now.places - 1)); init = Some (lit.Int (pos plant.now.first)); at = None } }
+fn literal(ty: StTy, first: i64) -> StLit
+    ensures { result ≡ f.literal_of ty first }
 {
-    StVar {
-        name,
-        class,
-        ty: StTy::Range {
-            lo: 0,
-            hi: i64::from(plant.places - 1),
-        },
-        init: Some(StLit::Int(i64::from(plant.first))),
-        at: None,
+    match ty {
+        StTy::Bool => StLit::Bool(first != 0),
+        _ => StLit::Int(first),
     }
 }
 
-/// The variables of the program: the location of the automaton, the mark that something fired, the counter of the
-/// rounds, and the output that shows the location.
-pub fn variables(alloc: Global, plant: &NumberedPlant) -> Result<Items<StVar>, Memory>
-    requires { 0 < plant.now.places }
-    ensures { IfOk result (λ vars. vars ≡ variables_of plant.now) }
+fn declaration(
+    alloc: Global,
+    letter: Letter,
+    class: StClass,
+    number: u32,
+    shown: &Shown,
+) -> Result<Boxed<StVar>, Memory>
+    ensures { IfOk result (λ v. v ≡ f.declaration letter class (number, face_tree shown.now)) }
 {
-    let mut vars = Items::new(alloc);
-    vars.push(location_variable(plant, name_of_place(alloc, plant)?, StClass::Plain))?;
-    vars.push(StVar {
-        name: name_of_mark(alloc)?,
-        class: StClass::Plain,
-        ty: StTy::Bool,
-        init: Some(StLit::Bool(false)),
-        at: None,
-    })?;
-    vars.push(StVar {
-        name: name_of_counter(alloc)?,
-        class: StClass::Plain,
-        ty: StTy::Lint,
-        init: Some(StLit::Int(0)),
-        at: None,
-    })?;
-    vars.push(location_variable(plant, name_of_output(alloc, plant)?, StClass::Output))?;
-    Ok(vars)
+    Boxed::new(
+        alloc,
+        StVar {
+            name: name_of(alloc, letter, number, shown.path.as_slice())?,
+            class,
+            ty: shown.ty,
+            init: Some(literal(shown.ty, shown.first)),
+            at: None,
+        },
+    )
+}
+
+/// The declarations of these variables, numbered from 0.
+pub fn declarations(
+    alloc: Global,
+    letter: Letter,
+    class: StClass,
+    shown: &[Shown],
+) -> Result<Items<StVar>, Memory>
+    requires { length shown.now < 2 ^ 32 }
+    ensures { IfOk result (λ all. all ≡ f.declarations letter class (map face_tree shown.now)) }
+{
+    let mut all = Items::new(alloc);
+    for (number, one) in shown.iter().enumerate() {
+        all.push(declaration(alloc, letter, class, number as u32, one)?.into_inner())?;
+    }
+    Ok(all)
+}
+
+/// The declarations of all variables, each letter's in a block.
+pub fn variables(alloc: Global, faces: &Faces) -> Result<Items<StVar>, Memory>
+    requires places { length faces.now.places < 2 ^ 32 }
+    requires variables { length faces.now.variables < 2 ^ 32 }
+    requires inputs { length faces.now.inputs < 2 ^ 32 }
+    ensures { IfOk result (λ all. all ≡ declared_for faces.now) }
+{
+    let places = faces.places.as_slice();
+    let variables = faces.variables.as_slice();
+    let inputs = faces.inputs.as_slice();
+    let own = own_variables(alloc)?;
+    let mut all = declarations(alloc, Letter::L, StClass::Plain, places)?;
+    all.append(declarations(alloc, Letter::V, StClass::Plain, variables)?)?;
+    all.append(declarations(alloc, Letter::H, StClass::Plain, inputs)?)?;
+    all.append(declarations(alloc, Letter::T, StClass::Plain, own.as_slice())?)?;
+    all.append(declarations(alloc, Letter::I, StClass::Input, inputs)?)?;
+    all.append(declarations(alloc, Letter::P, StClass::Output, places)?)?;
+    all.append(declarations(alloc, Letter::Q, StClass::Output, variables)?)?;
+    Ok(all)
+}
+
+fn copy(
+    alloc: Global,
+    to: Letter,
+    from: Letter,
+    number: u32,
+    shown: &Shown,
+) -> Result<Boxed<Stmt>, Memory>
+    ensures { IfOk result (λ s. view_stmt s ≡ shown_by to from (number, face_tree shown.now)) }
+{
+    let target = name_of(alloc, to, number, shown.path.as_slice())?;
+    let source = name_of(alloc, from, number, shown.path.as_slice())?;
+    let value = StExpr::Named(source);
+    Boxed::new(alloc, Stmt::Assign { target, value })
+}
+
+/// The variables of one letter take over those of another.
+pub fn copies(
+    alloc: Global,
+    to: Letter,
+    from: Letter,
+    shown: &[Shown],
+) -> Result<Items<Stmt>, Memory>
+    requires { length shown.now < 2 ^ 32 }
+    ensures { IfOk result
+        (λ ss. view_stmts ss ≡ stms_of (all_shown_by to from (map face_tree shown.now))) }
+{
+    let mut all = Items::new(alloc);
+    for (number, one) in shown.iter().enumerate() {
+        all.push(copy(alloc, to, from, number as u32, one)?.into_inner())?;
+    }
+    Ok(all)
 }

@@ -1,15 +1,35 @@
-use Rattle.std.proofs.Common.{rules, ◌≡◌, true, sym, subst, arith}
+use Rattle.std.proofs.Common.{◌≡◌, true, map, sym, subst, arith}
+use Rattle.cif_net.specs.View.{choice_tree, net_tree}
 use Rattle.st_ast.specs.Parts.{program_of_parts}
 use Rattle.st_ast.specs.Spelled.{is_spelled}
 use Rattle.st_ast.specs.Tree.{Program}
 use Rattle.plc_gen.specs.Emitted.{program_of}
-use Rattle.plc_gen.specs.HasProgram.{HasProgram}
-use Rattle.plc_gen.proofs.Spellings.{program_spelled}
+use Rattle.plc_gen.specs.Makes.{Makes}
+use Rattle.plc_gen.proofs.Emits.{makes}
+use Rattle.plc_gen.proofs.ScanLaws.{program-is}
+use Rattle.plc_gen.proofs.Whole.{program-spelled}
 use Rattle.plc_gen.proofs.program.emit.Goals as goal
 
 pub invariant_of-result : goal.invariant_of-result
 invariant_of-result c =
-    let has : HasProgram c.args.plant.now c.args.bounds.unc c.args.bounds.con =
-    record { numbered = c.requires.numbered; name = c.requires.named; few_places = omega arith; unc = omega arith; con = omega arith } in
-    let same : program_of_parts c.in_ok-name.name c.in_ok-vars.vars c.in_ok-body.body ≡ program_of c.args.plant.now c.args.bounds.unc c.args.bounds.con = search rules in
-    record { spelled = subst (λ (p : Program). is_spelled p ≡ true) (sym same) (program_spelled c.args.plant.now c.args.bounds.unc c.args.bounds.con has) }
+    let same : program_of_parts c.in_ok-name.name c.in_ok-vars.vars c.in_ok-body.body ≡ program_of (net_tree c.args.net.now) (map choice_tree c.args.choices.now) c.args.bounds.unc c.args.bounds.con =
+    program-is (net_tree c.args.net.now) (map choice_tree c.args.choices.now) c.requires.guarded c.requires.tests c.args.bounds.unc c.args.bounds.con c.in_ok-faces.faces
+    c.in_ok-name.name c.in_ok-vars.vars c.in_ok-body.body c.in_ok-faces.ensures.faces c.in_ok-name.ensures c.in_ok-vars.ensures c.in_ok-body.ensures in
+    record {
+      spelled = subst (λ (p : Program). is_spelled p ≡ true) (sym same)
+          (program-spelled (net_tree c.args.net.now) (map choice_tree c.args.choices.now) c.args.bounds.unc c.args.bounds.con c.args.net.now.fits c.requires.guarded c.requires.tests
+          (omega (arith, c.requires.unc)) (omega (arith, c.requires.con)) c.in_ok-faces.ensures.small_variables c.in_ok-faces.ensures.small_inputs);
+    }
+
+pub returns-clause-text : goal.returns-clause-text
+returns-clause-text c =
+    program-is (net_tree c.args.net.now) (map choice_tree c.args.choices.now) c.requires.guarded c.requires.tests c.args.bounds.unc c.args.bounds.con c.in_ok-faces.faces
+    c.in_ok-name.name c.in_ok-vars.vars c.in_ok-body.body c.in_ok-faces.ensures.faces c.in_ok-name.ensures c.in_ok-vars.ensures c.in_ok-body.ensures
+
+pub returns-clause-makes : goal.returns-clause-makes
+returns-clause-makes c =
+    let same : program_of_parts c.in_ok-name.name c.in_ok-vars.vars c.in_ok-body.body ≡ program_of (net_tree c.args.net.now) (map choice_tree c.args.choices.now) c.args.bounds.unc c.args.bounds.con =
+    program-is (net_tree c.args.net.now) (map choice_tree c.args.choices.now) c.requires.guarded c.requires.tests c.args.bounds.unc c.args.bounds.con c.in_ok-faces.faces
+    c.in_ok-name.name c.in_ok-vars.vars c.in_ok-body.body c.in_ok-faces.ensures.faces c.in_ok-name.ensures c.in_ok-vars.ensures c.in_ok-body.ensures in
+    subst (Makes (net_tree c.args.net.now) c.args.bounds.unc c.args.bounds.con) (sym same)
+    (makes (net_tree c.args.net.now) (map choice_tree c.args.choices.now) c.args.bounds.unc c.args.bounds.con c.args.net.now.fits c.requires.guarded c.requires.tests (omega (arith, c.requires.unc, c.requires.con)))

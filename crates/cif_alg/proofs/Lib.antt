@@ -1,0 +1,9 @@
+mod CutLaws
+mod TableLaws
+mod TallyLaws
+mod AutoLaws
+mod ProductLaws
+mod NodeLaws
+mod BareLaws
+mod KeepLaws
+mod InlineLaws

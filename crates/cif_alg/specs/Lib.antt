@@ -1,0 +1,4 @@
+pub mod Bare
+pub mod Keeps
+pub mod Weighed
+pub mod Tallies

@@ -1,0 +1,84 @@
+-- What is counted for each event, automaton by automaton.
+use Rattle.std.specs.Prelude.{ℕ, ◌+◌, true, false, List, [], ◌∷◌, Option, Some, None, option_map, replicate, slice_get, slice_set, if◌then◌else◌}
+use Rattle.cif_model.specs.Net.{NetEdge, NetAuto}
+use Rattle.cif_alg.specs.declared.weighed.Weighed.{Weighed}
+use Rattle.cif_alg.specs.declared.tally.Options.{Options}
+use Rattle.cif_alg.specs.declared.tally.Tally.{Tally}
+use Rattle.cif_alg.specs.Weighed.{cut, with_one, paired, all_nodes}
+
+-- ---- one event
+
+abbrev pub nothing_met : Tally
+nothing_met = record { choices = record { count = 1; nodes = 0 }; has_party = false; options = None }
+
+-- an automaton that has the event begins
+abbrev pub opened : Tally → Tally
+opened t = record t { options = Some (record { edges = record { count = 0; nodes = 0 }; stays = false }) }
+
+abbrev pub one_edge : (nodes : ℕ) → Options → Options
+one_edge nodes o = record o { edges = with_one nodes o.edges }
+
+-- it has an edge for the event, with so many nodes
+abbrev pub with_edge : (nodes : ℕ) → Tally → Tally
+with_edge nodes t = record t { options = option_map (one_edge nodes) t.options }
+
+abbrev pub one_stay : Options → Options
+one_stay o = record o { stays = true }
+
+-- it monitors the event
+abbrev pub with_stay : Tally → Tally
+with_stay t = record t { options = option_map one_stay t.options }
+
+-- to stay has one node
+abbrev pub all_options : Options → Weighed
+all_options o = if o.stays then with_one 1 o.edges else o.edges
+
+-- the automaton ends: each choice goes on with each of its options
+abbrev pub closed : Tally → Tally
+closed t = elim t.options [
+  | None ↦ t
+  | Some o ↦ record { choices = paired t.choices (all_options o); has_party = true; options = None }
+]
+
+-- the nodes of all choices, of which there is none without a party
+abbrev pub tally_nodes : Tally → ℕ
+tally_nodes t = if t.has_party then all_nodes t.choices else 0
+
+-- ---- all events
+
+-- what stands at k is changed, where there is something
+abbrev pub changed : {A : Type 0} → (A → A) → ℕ → List A → List A
+changed g k xs = elim (slice_get xs k) [ None ↦ xs | Some x ↦ slice_set xs k (g x) ]
+
+-- for each of the elements, at its key
+abbrev pub each_changed : {X A : Type 0} → (X → ℕ) → (A → A) → List X → List A → List A
+each_changed key g [] ts = ts
+each_changed key g (x ∷ xs) ts = each_changed key g xs (changed g (key x) ts)
+
+abbrev pub opened_for : (events : List ℕ) → List Tally → List Tally
+opened_for es ts = each_changed (λ e. e) opened es ts
+
+-- an edge has two nodes: the party, and a guard of one form
+abbrev pub edges_noted : List NetEdge → List Tally → List Tally
+edges_noted xs ts = each_changed (λ (x : NetEdge). x.event) (with_edge 2) xs ts
+
+abbrev pub stays_noted : (events : List ℕ) → List Tally → List Tally
+stays_noted es ts = each_changed (λ e. e) with_stay es ts
+
+abbrev pub closed_for : (events : List ℕ) → List Tally → List Tally
+closed_for es ts = each_changed (λ e. e) closed es ts
+
+-- an automaton is counted for the events of its alphabet
+abbrev pub tallied : NetAuto → List Tally → List Tally
+tallied a ts = closed_for a.alphabet (stays_noted a.monitors (edges_noted a.edges (opened_for a.alphabet ts)))
+
+abbrev pub all_tallied : List NetAuto → List Tally → List Tally
+all_tallied [] ts = ts
+all_tallied (a ∷ autos) ts = all_tallied autos (tallied a ts)
+
+abbrev pub tallies_nodes : ℕ → List Tally → ℕ
+tallies_nodes n [] = n
+tallies_nodes n (t ∷ ts) = tallies_nodes (cut (n + tally_nodes t)) ts
+
+abbrev pub counted : List NetAuto → (events : ℕ) → ℕ
+counted autos events = tallies_nodes 0 (all_tallied autos (replicate events nothing_met))

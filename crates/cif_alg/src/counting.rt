@@ -1,0 +1,98 @@
+//! The nodes of the choices of all events, without listing the choices.
+
+ghost use Rattle.std.specs.Prelude.{◌≡◌, length, map, IfOk};
+ghost use Rattle.cif_net.specs.View.{auto_tree, edge_tree};
+ghost use Rattle.cif_alg.specs.Tallies.{tallies_nodes, opened_for, edges_noted, stays_noted, closed_for, tallied, all_tallied, counted};
+
+use crate::limit::sum;
+use crate::tally::Tally;
+use cif_base::{Items, Memory};
+use cif_net::{Auto, Net, NetEdge};
+use std::alloc::Global;
+
+/// The nodes of an edge as an option: the party, and a guard of one form.
+const EDGE_NODES: u64 = 2;
+
+/// The nodes of the choices of all events, where the count stops one past the limit. The time is linear in what alphabets,
+/// monitors, edges and events there are.
+pub fn choice_nodes(alloc: Global, net: &Net) -> Result<u64, Memory>
+    ensures { IfOk result
+        (λ nodes. nodes ≡ counted (map auto_tree net.now.autos) (length net.now.events)) }
+{
+    let mut tallies = Items::filled(alloc, Tally::new(), net.events.len())?;
+    tally_all(&mut tallies, net.autos.as_slice());
+    Ok(all_nodes(tallies.as_slice()))
+}
+
+fn all_nodes(tallies: &[Tally]) -> u64
+    ensures { result ≡ tallies_nodes 0 tallies.now }
+{
+    let mut nodes = 0;
+    for tally in tallies {
+        nodes = sum(nodes, tally.nodes());
+    }
+    nodes
+}
+
+fn tally_all(tallies: &mut Items<Tally>, autos: &[Auto])
+    ensures { tallies.new ≡ all_tallied (map auto_tree autos.now) tallies.old }
+{
+    for auto in autos {
+        tally(tallies, auto);
+    }
+}
+
+/// An automaton is counted for each event of its alphabet.
+fn tally(tallies: &mut Items<Tally>, auto: &Auto)
+    ensures { tallies.new ≡ tallied (auto_tree auto.now) tallies.old }
+{
+    open_for(tallies, auto.alphabet.as_slice());
+    note_edges(tallies, auto.edges.as_slice());
+    note_stays(tallies, auto.monitors.as_slice());
+    close_for(tallies, auto.alphabet.as_slice());
+}
+
+fn open_for(tallies: &mut Items<Tally>, events: &[u32])
+    ensures { tallies.new ≡ opened_for events.now tallies.old }
+{
+    for event in events {
+        let at = *event as usize;
+        if let Some(tally) = tallies.get(at).copied() {
+            tallies.set(at, tally.opened());
+        }
+    }
+}
+
+fn note_edges(tallies: &mut Items<Tally>, edges: &[NetEdge])
+    ensures { tallies.new ≡ edges_noted (map edge_tree edges.now) tallies.old }
+{
+    for edge in edges {
+        let at = edge.event as usize;
+        if let Some(tally) = tallies.get(at).copied() {
+            tallies.set(at, tally.with_edge(EDGE_NODES));
+        }
+    }
+}
+
+fn note_stays(tallies: &mut Items<Tally>, events: &[u32])
+    ensures { tallies.new ≡ stays_noted events.now tallies.old }
+{
+    for event in events {
+        let at = *event as usize;
+        if let Some(tally) = tallies.get(at).copied() {
+            tallies.set(at, tally.with_stay());
+        }
+    }
+}
+
+/// An event that stands twice in an alphabet is closed once.
+fn close_for(tallies: &mut Items<Tally>, events: &[u32])
+    ensures { tallies.new ≡ closed_for events.now tallies.old }
+{
+    for event in events {
+        let at = *event as usize;
+        if let Some(tally) = tallies.get(at).copied() {
+            tallies.set(at, tally.closed());
+        }
+    }
+}

@@ -1,0 +1,14 @@
+//! The rules on algebraic variables, intervals, state invariants and sizes of a net, and the net in which algebraic variables
+//! are replaced by their definitions (CIF 3 language reference, "Algebraic variables"). So far for nets that have nothing of
+//! these: see `is_bare`.
+#![tactic(auto)]
+
+mod counting;
+mod error;
+mod inlining;
+mod limit;
+mod tally;
+mod weighed;
+
+pub use error::AlgErr;
+pub use inlining::inline;

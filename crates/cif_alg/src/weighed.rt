@@ -1,0 +1,45 @@
+//! How many there are of something, and how many nodes they have.
+
+ghost use Rattle.std.specs.Prelude.{◌≡◌};
+ghost use Rattle.cif_alg.specs.Weighed.{with_one, paired, all_nodes};
+
+use crate::limit::{product, sum};
+
+/// How many there are, and how many nodes they have together. Both stop one past the limit.
+#[derive(Clone, Copy)]
+pub struct Weighed {
+    pub count: u64,
+    pub nodes: u64,
+}
+
+impl Weighed {
+    /// With one more, which has so many nodes.
+    pub fn with_one(self, nodes: u64) -> Weighed
+        ensures { result ≡ with_one nodes self }
+    {
+        Weighed {
+            count: sum(self.count, 1),
+            nodes: sum(self.nodes, nodes),
+        }
+    }
+
+    /// Each of these with each of the others. It has the nodes of both.
+    pub fn paired(self, others: Weighed) -> Weighed
+        ensures { result ≡ paired self others }
+    {
+        Weighed {
+            count: product(self.count, others.count),
+            nodes: sum(
+                product(self.nodes, others.count),
+                product(self.count, others.nodes),
+            ),
+        }
+    }
+
+    /// The nodes of all, with one more for each.
+    pub fn all_nodes(self) -> u64
+        ensures { result ≡ all_nodes self }
+    {
+        sum(self.count, self.nodes)
+    }
+}

@@ -1,0 +1,252 @@
+-- The variables of a program that stand in blocks, one for each letter: no two have the same name, each is found by its name,
+-- and each starts with its first value.
+use Rattle.std.proofs.Common.{◌≡◌, ℕ, zero, suc, ◌+◌, ◌^◌, ◌<◌, ◌≤◌, ℤ, pos, negsuc, Bool, true, false, ◌&&◌, ◌||◌, List, [], ◌∷◌, ◌++◌, map, filter, length, Some, inr, refl, sym, ap, subst, ◌∙◌, arith}
+use Rattle.std.specs.Prelude.{IsTrue, int_le, option_map, slice_get, if◌then◌else◌}
+use Rattle.std.specs.List.{AllByRecursion, AllZip, enumerate_from, list_any}
+use Rattle.std.proofs.lemmas.Int.{ints}
+use Rattle.std.proofs.lemmas.List.{map-append}
+use Rattle.std.proofs.lemmas.List.Folds.{list_any-append}
+use Rattle.grammar.specs.Pieces.{Text}
+use Rattle.cif_system.specs.System.{in_range}
+use Rattle.cif_system.proofs.Lists.{none-some, some-same}
+use Rattle.st_ast.specs.Tree.{Program}
+use Rattle.st_ast.specs.Names.{declared, place_of, same_name}
+use Rattle.st_ast.specs.Values.{Memory, is_true, of_bool}
+use Rattle.st_ast.specs.Scan.{first_of, start_memory, value_of_literal}
+use Rattle.st_ast.specs.Checks.{is_type, starts_well, variable_faults, variables_faults}
+use Rattle.st_ast.specs.declared.tree.StVar.{StVar}
+use Rattle.st_ast.specs.declared.tree.StClass.{StClass}
+use Rattle.st_ast.specs.declared.tree.StClass.TheVariants as class
+use Rattle.st_ast.specs.declared.tree.StTy.{StTy}
+use Rattle.st_ast.specs.declared.tree.StTy.TheVariants as ty
+use Rattle.plc_face.specs.declared.letter.Letter.{Letter}
+use Rattle.plc_face.specs.Names.{name_for}
+use Rattle.plc_face.specs.Face.{VariableFace, HoldsAt, head_of, declaration, literal_of, range_of}
+use Rattle.plc_face.proofs.NameLaws.{letters-differ, names-differ}
+use Rattle.plc_face.proofs.FaceLaws.{same_name-self, Typed}
+use Rattle.plc_gen.specs.Emitted.{Block, block_variables, variables_of}
+use Rattle.plc_gen.proofs.Choosing.{filter-append}
+use Rattle.plc_gen.proofs.Writing.{name_of}
+
+-- ---- faces
+
+-- the type has numbers, and the first value is one of them
+pub record Sound (x : VariableFace) : Type 0 where
+  pub type : is_type x.ty ≡ true
+  pub first : IsTrue (in_range (range_of x.ty) x.first)
+
+truth-first : (z : ℤ) → (int_le (pos 0) z && int_le z (pos 1)) ≡ true → of_bool (is_true z) ≡ z
+truth-first (pos zero) h = refl
+truth-first (pos (suc n)) h = let e : n ≡ 0 = grind (arith, ints) in ap (λ k. pos (suc k)) (sym e)
+truth-first (negsuc n) h = absurd cc
+
+-- the literal has the first value
+literal-is : (t : StTy) (z : ℤ) → IsTrue (in_range (range_of t) z) → value_of_literal (literal_of t z) ≡ z
+literal-is ty.Bool z h = truth-first z h
+literal-is ty.Lint z h = refl
+literal-is (ty.Range lo hi) z h = refl
+
+literal-fits : (t : StTy) (z : ℤ) → IsTrue (in_range (range_of t) z) → starts_well t (Some (literal_of t z)) ≡ true
+literal-fits ty.Bool z h = refl
+literal-fits ty.Lint z h = refl
+literal-fits (ty.Range lo hi) z h = h
+
+abbrev pub AllSound : List VariableFace → Type 0
+AllSound xs = AllByRecursion Sound xs
+
+-- ---- no two variables have the same name
+
+-- none of the variables has this letter and a number from k on
+abbrev Clear : List StVar → Letter → ℕ → Type 0
+Clear before l k = (j : ℕ) (path : Text) → k ≤ j → j < 2 ^ 64 → list_any (λ (u : StVar). same_name u.name (name_for l j path)) before ≡ false
+
+abbrev AllClear : List StVar → List Block → Type 0
+AllClear before bs = AllByRecursion (λ (b : Block). Clear before b.letter 0) bs
+
+or-none : (a b : Bool) → a ≡ false → b ≡ false → (a || b) ≡ false
+or-none a b x y = rw x y
+
+clear-pushed : (before : List StVar) (v : StVar) (l : Letter) (k i : ℕ) → i ≤ k → Clear before l i → ((j : ℕ) (path : Text) → k ≤ j → j < 2 ^ 64 → same_name v.name (name_for l j path) ≡ false) → Clear (before ++ v ∷ []) l k
+clear-pushed before v l k i later clear apart j path above small =
+    list_any-append (λ (u : StVar). same_name u.name (name_for l j path)) before (v ∷ [])
+    ∙ or-none _ _ (clear j path (omega (arith, later, above)) small) (or-none _ _ (apart j path above small) refl)
+
+-- a block's letter is none of the others'
+abbrev Other : Letter → List Block → Type 0
+Other l bs = AllByRecursion (λ (b : Block). l ≡ b.letter → ⊥) bs
+
+all-pushed : (before : List StVar) (l : Letter) (k : ℕ) (x : VariableFace) (c : StClass) (bs : List Block) → Other l bs → AllClear before bs → AllClear (before ++ declaration l c (k, x) ∷ []) bs
+all-pushed before l k x c [] other clear = tt
+all-pushed before l k x c (b ∷ bs) other clear = (
+  clear-pushed before (declaration l c (k, x)) b.letter 0 0 (omega arith) clear.0 (λ j path above small. letters-differ l b.letter k j x.path path other.0),
+  all-pushed before l k x c bs other.1 clear.1,
+)
+
+one-fault : (before : List StVar) (j : ℕ) (l : Letter) (c : StClass) (k : ℕ) (x : VariableFace) → Sound x → list_any (λ (u : StVar). same_name u.name (name_for l k x.path)) before ≡ false
+    → variable_faults before j (declaration l c (k, x)) ≡ []
+one-fault before j l c k x sound free = rw (free, sound.type, literal-fits x.ty x.first sound.first) refl
+
+block-faults : (before : List StVar) (j : ℕ) (l : Letter) (c : StClass) (k : ℕ) (xs : List VariableFace) (bs : List Block) → k + length xs < 2 ^ 64 → AllSound xs → Clear before l k → Other l bs → AllClear before bs
+    → ((all : List StVar) (i : ℕ) → AllClear all bs → variables_faults all i (variables_of bs) ≡ []) → variables_faults before j (map (declaration l c) (enumerate_from k xs) ++ variables_of bs) ≡ []
+block-faults before j l c k [] bs few sound clear other all rest = rest before j all
+block-faults before j l c k (x ∷ xs) bs few sound clear other all rest =
+    ap (λ fs. fs ++ variables_faults (before ++ declaration l c (k, x) ∷ []) (suc j) (map (declaration l c) (enumerate_from (k + 1) xs) ++ variables_of bs))
+    (one-fault before j l c k x sound.0 (clear k x.path (omega arith) (omega (arith, few))))
+    ∙ block-faults (before ++ declaration l c (k, x) ∷ []) (suc j) l c (k + 1) xs bs (omega (arith, few)) sound.1
+    (clear-pushed before (declaration l c (k, x)) l (k + 1) k (omega arith) clear (λ i path above small. names-differ l l k i x.path path (omega (arith, few)) small (inr (λ e. omega (arith, above, e)))))
+    other (all-pushed before l k x c bs other all) rest
+
+-- each block has a letter of its own, few variables, and sound ones
+abbrev pub AreBlocks : List Block → Type 0
+AreBlocks [] = Unit {0}
+AreBlocks (b ∷ bs) = Other b.letter bs × (length b.faces < 2 ^ 64) × AllSound b.faces × AreBlocks bs
+
+blocks-faults : (before : List StVar) (j : ℕ) (bs : List Block) → AreBlocks bs → AllClear before bs → variables_faults before j (variables_of bs) ≡ []
+blocks-faults before j [] h clear = refl
+blocks-faults before j (b ∷ bs) h clear =
+    block-faults before j b.letter b.class 0 b.faces bs (omega (arith, h.1)) h.2 clear.0 h.0 clear.1 (λ all i c. blocks-faults all i bs h.3 c)
+
+nothing-clear : (bs : List Block) → AllClear [] bs
+nothing-clear [] = tt
+nothing-clear (b ∷ bs) = ((λ j path above small. refl), nothing-clear bs)
+
+pub variables-checked : (bs : List Block) → AreBlocks bs → variables_faults [] 0 (variables_of bs) ≡ []
+variables-checked bs h = blocks-faults [] 0 bs h (nothing-clear bs)
+
+-- ---- each is found by its name
+
+declared-skip : (v : StVar) (vars : List StVar) (x : Text) → same_name v.name x ≡ false → declared (v ∷ vars) x ≡ declared vars x
+declared-skip v vars x h = ap (λ b. slice_get (v ∷ vars) (if b then 0 else suc (place_of vars x))) h
+
+declared-hit : (v : StVar) (vars : List StVar) (x : Text) → same_name v.name x ≡ true → declared (v ∷ vars) x ≡ Some v
+declared-hit v vars x h = ap (λ b. slice_get (v ∷ vars) (if b then 0 else suc (place_of vars x))) h
+
+block-skip : (l : Letter) (c : StClass) (j : ℕ) (ys : List VariableFace) (rest : List StVar) (t : Letter) (k : ℕ) (path : Text) → (l ≡ t → ⊥)
+    → declared (map (declaration l c) (enumerate_from j ys) ++ rest) (name_for t k path) ≡ declared rest (name_for t k path)
+block-skip l c j [] rest t k path other = refl
+block-skip l c j (y ∷ ys) rest t k path other =
+    declared-skip (declaration l c (j, y)) (map (declaration l c) (enumerate_from (j + 1) ys) ++ rest) (name_for t k path) (letters-differ l t j k y.path path other)
+    ∙ block-skip l c (j + 1) ys rest t k path other
+
+block-hit : (l : Letter) (c : StClass) (j : ℕ) (ys : List VariableFace) (rest : List StVar) (k : ℕ) (x : VariableFace) → j + length ys < 2 ^ 64 → slice_get ys k ≡ Some x
+    → declared (map (declaration l c) (enumerate_from j ys) ++ rest) (name_for l (j + k) x.path) ≡ Some (declaration l c (j + k, x))
+block-hit l c j [] rest k x few at = absurd (none-some x at)
+block-hit l c j (y ∷ ys) rest zero x few at =
+    let same : y ≡ x = some-same y x at in
+    let number : j ≡ j + 0 = omega arith in
+    subst (λ i. declared (map (declaration l c) (enumerate_from j (y ∷ ys)) ++ rest) (name_for l i x.path) ≡ Some (declaration l c (i, x))) number
+    (subst (λ (u : VariableFace). declared (map (declaration l c) (enumerate_from j (y ∷ ys)) ++ rest) (name_for l j u.path) ≡ Some (declaration l c (j, u))) same
+    (declared-hit (declaration l c (j, y)) (map (declaration l c) (enumerate_from (j + 1) ys) ++ rest) (name_for l j y.path) (same_name-self (name_for l j y.path))))
+block-hit l c j (y ∷ ys) rest (suc k) x few at =
+    let number : (j + 1) + k ≡ j + suc k = omega arith in
+    let inside : k < length ys = below-length ys k x at in
+    declared-skip (declaration l c (j, y)) (map (declaration l c) (enumerate_from (j + 1) ys) ++ rest) (name_for l (j + suc k) x.path)
+    (names-differ l l j (j + suc k) y.path x.path (omega (arith, few)) (omega (arith, few, inside)) (inr (λ e. omega (arith, e))))
+    ∙ subst (λ i. declared (map (declaration l c) (enumerate_from (j + 1) ys) ++ rest) (name_for l i x.path) ≡ Some (declaration l c (i, x))) number
+    (block-hit l c (j + 1) ys rest k x (omega (arith, few)) at)
+  where
+    below-length : (ys : List VariableFace) (k : ℕ) (x : VariableFace) → slice_get ys k ≡ Some x → k < length ys
+    below-length [] k x e = absurd (none-some x e)
+    below-length (y ∷ ys) zero x e = omega arith
+    below-length (y ∷ ys) (suc k) x e = let rest = below-length ys k x e in omega (arith, rest)
+
+-- each of these, from number k on, is declared by its name
+abbrev pub AllDeclared : List StVar → Letter → StClass → ℕ → List VariableFace → Type 0
+AllDeclared vars l c k xs = AllByRecursion (λ (x : ℕ × VariableFace). declared vars (name_of l x) ≡ Some (declaration l c x)) (enumerate_from k xs)
+
+by-number : (vars : List StVar) (l : Letter) (c : StClass) (i : ℕ) (xs : List VariableFace) → ((k : ℕ) (x : VariableFace) → slice_get xs k ≡ Some x → declared vars (name_for l (i + k) x.path) ≡ Some (declaration l c (i + k, x)))
+    → AllDeclared vars l c i xs
+by-number vars l c i [] h = tt
+by-number vars l c i (x ∷ xs) h =
+    let first : i + 0 ≡ i = omega arith in (
+      subst (λ j. declared vars (name_for l j x.path) ≡ Some (declaration l c (j, x))) first (h 0 x refl),
+      by-number vars l c (i + 1) xs (λ k y e. let number : i + suc k ≡ (i + 1) + k = omega arith in subst (λ j. declared vars (name_for l j y.path) ≡ Some (declaration l c (j, y))) number (h (suc k) y e)),
+    )
+
+-- a block at the front
+pub front-declared : (b : Block) (rest : List StVar) → length b.faces < 2 ^ 64 → AllDeclared (block_variables b ++ rest) b.letter b.class 0 b.faces
+front-declared b rest few = by-number (block_variables b ++ rest) b.letter b.class 0 b.faces (λ k x at. block-hit b.letter b.class 0 b.faces rest k x (omega (arith, few)) at)
+
+-- a block behind one of another letter
+pub later-declared : (b : Block) (rest : List StVar) (l : Letter) (c : StClass) (k : ℕ) (xs : List VariableFace) → (b.letter ≡ l → ⊥) → AllDeclared rest l c k xs → AllDeclared (block_variables b ++ rest) l c k xs
+later-declared b rest l c k [] other all = tt
+later-declared b rest l c k (x ∷ xs) other all = (
+  block-skip b.letter b.class 0 b.faces rest l k x.path other ∙ all.0,
+  later-declared b rest l c (k + 1) xs other all.1,
+)
+
+-- by its number
+pub declared-at : (vars : List StVar) (l : Letter) (c : StClass) (i : ℕ) (xs : List VariableFace) (k : ℕ) (x : VariableFace) → AllDeclared vars l c i xs → slice_get xs k ≡ Some x
+    → declared vars (name_for l (i + k) x.path) ≡ Some (declaration l c (i + k, x))
+declared-at vars l c i [] k x all at = absurd (none-some x at)
+declared-at vars l c i (y ∷ xs) zero x all at =
+    let number : i ≡ i + 0 = omega arith in
+    subst (λ j. declared vars (name_for l j x.path) ≡ Some (declaration l c (j, x))) number
+    (subst (λ (u : VariableFace). declared vars (name_for l i u.path) ≡ Some (declaration l c (i, u))) (some-same y x at) all.0)
+declared-at vars l c i (y ∷ xs) (suc k) x all at =
+    let number : (i + 1) + k ≡ i + suc k = omega arith in
+    subst (λ j. declared vars (name_for l j x.path) ≡ Some (declaration l c (j, x))) number (declared-at vars l c (i + 1) xs k x all.1 at)
+
+-- ---- first values
+
+get-map : {A B : Type 0} (f : A → B) (xs : List A) (k : ℕ) → slice_get (map f xs) k ≡ option_map f (slice_get xs k)
+get-map f [] k = refl
+get-map f (x ∷ xs) zero = refl
+get-map f (x ∷ xs) (suc k) = get-map f xs k
+
+-- the memory of the declarations holds the first values
+pub starts-held : (p : Program) (l : Letter) (k : ℕ) (xs : List VariableFace) → AllSound xs → AllDeclared p.vars l class.Plain k xs
+    → AllZip (HoldsAt p (start_memory p) l) (enumerate_from k xs) (map (λ (x : VariableFace). x.first) xs)
+starts-held p l k [] sound all = tt
+starts-held p l k (x ∷ xs) sound all = (
+  record {
+    is_declared = ap (option_map head_of) all.0;
+    holds = get-map first_of p.vars (place_of p.vars (name_for l k x.path)) ∙ ap (option_map first_of) all.0 ∙ ap Some (literal-is x.ty x.first sound.0.first);
+  },
+  starts-held p l (k + 1) xs sound.1 all.1,
+)
+
+typed-append : (us vs : List StVar) (m w : Memory) → Typed us m → Typed vs w → Typed (us ++ vs) (m ++ w)
+typed-append [] vs [] w h g = g
+typed-append [] vs (z ∷ m) w h g = absurd h
+typed-append (u ∷ us) vs [] w h g = absurd h
+typed-append (u ∷ us) vs (z ∷ m) w h g = (h.0, typed-append us vs m w h.1 g)
+
+block-typed : (l : Letter) (c : StClass) (k : ℕ) (xs : List VariableFace) → AllSound xs → Typed (map (declaration l c) (enumerate_from k xs)) (map first_of (map (declaration l c) (enumerate_from k xs)))
+block-typed l c k [] sound = tt
+block-typed l c k (x ∷ xs) sound = (
+  subst (λ z. IsTrue (in_range (range_of x.ty) z)) (sym (literal-is x.ty x.first sound.0.first)) sound.0.first,
+  block-typed l c (k + 1) xs sound.1,
+)
+
+-- and each is in its type
+pub starts-typed : (bs : List Block) → AreBlocks bs → Typed (variables_of bs) (map first_of (variables_of bs))
+starts-typed [] h = tt
+starts-typed (b ∷ bs) h =
+    subst (λ m. Typed (variables_of (b ∷ bs)) m) (sym (map-append first_of (block_variables b) (variables_of bs)))
+    (typed-append (block_variables b) (variables_of bs) (map first_of (block_variables b)) (map first_of (variables_of bs)) (block-typed b.letter b.class 0 b.faces h.2) (starts-typed bs h.3))
+
+-- ---- the variables of a class
+
+kept-all : (f : StClass → Bool) (l : Letter) (c : StClass) (k : ℕ) (xs : List VariableFace) → f c ≡ true → filter (λ (v : StVar). f v.class) (map (declaration l c) (enumerate_from k xs)) ≡ map (declaration l c) (enumerate_from k xs)
+kept-all f l c k [] h = refl
+kept-all f l c k (x ∷ xs) h = rw h (ap (λ r. declaration l c (k, x) ∷ r) (kept-all f l c (k + 1) xs h))
+
+kept-none : (f : StClass → Bool) (l : Letter) (c : StClass) (k : ℕ) (xs : List VariableFace) → f c ≡ false → filter (λ (v : StVar). f v.class) (map (declaration l c) (enumerate_from k xs)) ≡ []
+kept-none f l c k [] h = refl
+kept-none f l c k (x ∷ xs) h = rw h (kept-none f l c (k + 1) xs h)
+
+-- the variables of the blocks whose class passes
+abbrev pub passing : (StClass → Bool) → List Block → List StVar
+passing f [] = []
+passing f (b ∷ bs) = if f b.class then block_variables b ++ passing f bs else passing f bs
+
+pub variables-passing : (f : StClass → Bool) (bs : List Block) → filter (λ (v : StVar). f v.class) (variables_of bs) ≡ passing f bs
+variables-passing f [] = refl
+variables-passing f (b ∷ bs) =
+    filter-append (λ (v : StVar). f v.class) (block_variables b) (variables_of bs) ∙ go (f b.class) refl (variables-passing f bs)
+  where
+    go : (t : Bool) → f b.class ≡ t → filter (λ (v : StVar). f v.class) (variables_of bs) ≡ passing f bs
+        → filter (λ (v : StVar). f v.class) (block_variables b) ++ filter (λ (v : StVar). f v.class) (variables_of bs) ≡ (if t then block_variables b ++ passing f bs else passing f bs)
+    go true is rest = ap (λ r. r ++ filter (λ (v : StVar). f v.class) (variables_of bs)) (kept-all f b.letter b.class 0 b.faces is) ∙ ap (λ r. block_variables b ++ r) rest
+    go false is rest = ap (λ r. r ++ filter (λ (v : StVar). f v.class) (variables_of bs)) (kept-none f b.letter b.class 0 b.faces is) ∙ rest

@@ -1,0 +1,169 @@
+-- What code makes is the program of the net.
+use Rattle.std.proofs.Common.{◌≡◌, ℕ, zero, suc, ◌+◌, ◌<◌, ◌≤◌, ◌^◌, true, List, [], ◌∷◌, ◌++◌, map, length, get_or, sym, ap, subst, ◌∙◌, arith}
+use Rattle.std.specs.Prelude.{codes, nat_le, sum}
+use Rattle.std.specs.List.{AllByRecursion}
+use Rattle.std.proofs.lemmas.Bool.Decides.{nat_tests}
+use Rattle.std.proofs.lemmas.List.{append-nil, append_assoc}
+use Rattle.std.proofs.lemmas.List.Sums.{sum_by-cons}
+use Rattle.cif_system.specs.System.{Class, con, unc}
+use Rattle.cif_system.specs.Scan.{of_class}
+use Rattle.cif_system.proofs.Lists.{map-length}
+use Rattle.cif_system.proofs.Picks.{and-left, and-right}
+use Rattle.cif_model.specs.Net as n
+use Rattle.cif_model.specs.Facts.{things}
+use Rattle.cif_model.specs.Listing.{NetChoice}
+use Rattle.cif_model.specs.Meaning.{system_of_net}
+use Rattle.cif_model.specs.Table.{IsGuarded}
+use Rattle.cif_net.specs.declared.automata.Auto.{Auto}
+use Rattle.cif_net.specs.declared.net.Net.{Net}
+use Rattle.cif_net.specs.View.{auto_tree, net_tree}
+use Rattle.grammar.specs.Pieces.{Text}
+use Rattle.st_ast.specs.Tree.{Program, Stms, append, stms_of}
+use Rattle.st_ast.specs.View.{program_of_parts, view_stmts}
+use Rattle.st_ast.specs.declared.tree.Stmt.{Stmt}
+use Rattle.st_ast.specs.declared.tree.StVar.{StVar}
+use Rattle.st_ast.specs.declared.tree.StClass.TheVariants as class
+use Rattle.plc_face.specs.declared.letter.Letter.TheVariants as letter
+use Rattle.plc_face.specs.Face.{VariableFace, alg_face, algs_of, declarations, places_of, place_face}
+use Rattle.plc_face.specs.Frame.{latches_of, loop_of, part_of, tries_of}
+use Rattle.plc_gen.specs.Emitted.{all_shown_by, blocks_of, outputs_of, parts_of, program_of, variables_of}
+use Rattle.plc_gen.specs.Faces.{alg_face_of, auto_face, face_of_net, stored_face}
+use Rattle.plc_gen.specs.Makes.{needs_tests_alone}
+use Rattle.plc_gen.specs.Shown.{AreFaces, declared_by, declared_for, face_tree, mark_and_counter}
+use Rattle.plc_gen.specs.Tries.{branch_lists, class_tries, scan_text}
+use Rattle.plc_gen.specs.declared.faces.Faces.{Faces}
+use Rattle.plc_gen.specs.declared.faces.Shown.{Shown}
+use Rattle.plc_gen.proofs.Building.{append-assoc, view_append}
+use Rattle.plc_gen.proofs.Emits.{stms_of-append}
+use Rattle.plc_gen.proofs.Facts.{all-simple, none-of}
+use Rattle.plc_gen.proofs.Making.{Simple}
+use Rattle.plc_gen.proofs.TryLaws.{tries-are}
+use Rattle.plc_gen.proofs.Whole.{own-temporaries}
+
+-- ---- sizes
+
+net-kept : (net : Net) → things (net_tree net) ≤ 100000
+net-kept net =
+    let h : nat_le (things (net_tree net)) 100000 ≡ true =
+    and-left _ _ (and-left _ _ (and-left _ _ (and-left _ _ (and-left _ _ (and-left _ _ (and-left _ _ (and-left _ _ net.fits))))))) in
+    grind (arith, nat_tests)
+
+locs-of : (xs : List Auto) (k : ℕ) (a : Auto) → k < length xs → a ≡ get_or xs k a
+    → length a.locs ≤ sum (map (λ (b : n.NetAuto). length b.locs + length b.edges) (map auto_tree xs))
+locs-of [] k a h e = absurd (omega (arith, h))
+locs-of (b ∷ xs) zero a h e =
+    let s : sum (map (λ (c : n.NetAuto). length c.locs + length c.edges) (map auto_tree (b ∷ xs))) ≡ length b.locs + length (auto_tree b).edges + sum (map (λ (c : n.NetAuto). length c.locs + length c.edges) (map auto_tree xs)) =
+    sum_by-cons (λ x. x) (length b.locs + length (auto_tree b).edges) (map (λ (c : n.NetAuto). length c.locs + length c.edges) (map auto_tree xs)) in
+    let same : length a.locs ≡ length b.locs = ap (λ (c : Auto). length c.locs) e in
+    omega (arith, s, same)
+locs-of (b ∷ xs) (suc k) a h e =
+    let s : sum (map (λ (c : n.NetAuto). length c.locs + length c.edges) (map auto_tree (b ∷ xs))) ≡ length b.locs + length (auto_tree b).edges + sum (map (λ (c : n.NetAuto). length c.locs + length c.edges) (map auto_tree xs)) =
+    sum_by-cons (λ x. x) (length b.locs + length (auto_tree b).edges) (map (λ (c : n.NetAuto). length c.locs + length c.edges) (map auto_tree xs)) in
+    let r = locs-of xs k a (omega (arith, h)) e in
+    omega (arith, s, r)
+
+-- no automaton of a net has many locations
+pub few-locs : (net : Net) (xs : List Auto) (k : ℕ) (a : Auto) → xs ≡ net.autos → k < length xs → a ≡ get_or xs k a → length a.locs < 2 ^ 32
+few-locs net xs k a same h e =
+    let all : things (net_tree net) ≤ 100000 = net-kept net in
+    let one : length a.locs ≤ sum (map (λ (b : n.NetAuto). length b.locs + length b.edges) (net_tree net).autos) =
+    subst (λ (ys : List Auto). length a.locs ≤ sum (map (λ (b : n.NetAuto). length b.locs + length b.edges) (map auto_tree ys))) same (locs-of xs k a h e) in
+    omega (arith, all, one)
+
+-- a list that is shown is as long as what it shows
+shown-length : (xs : List Shown) (ys : List VariableFace) → map face_tree xs ≡ ys → length xs ≡ length ys
+shown-length xs ys h = sym (map-length face_tree xs) ∙ ap length h
+
+pub few-places-shown : (net : Net) (xs : List Shown) → map face_tree xs ≡ places_of (face_of_net (net_tree net)) → length xs < 2 ^ 32
+few-places-shown net xs h =
+    let all : things (net_tree net) ≤ 100000 = net-kept net in
+    let a = shown-length xs (places_of (face_of_net (net_tree net))) h in
+    let b = map-length place_face (map auto_face (net_tree net).autos) in
+    let c = map-length auto_face (net_tree net).autos in
+    omega (arith, all, a, b, c)
+
+pub few-variables-shown : (net : Net) (xs : List Shown) → map face_tree xs ≡ (face_of_net (net_tree net)).variables → length xs < 2 ^ 32
+few-variables-shown net xs h =
+    let all : things (net_tree net) ≤ 100000 = net-kept net in
+    let a = shown-length xs (face_of_net (net_tree net)).variables h in
+    let b = map-length stored_face (net_tree net).vars in
+    omega (arith, all, a, b)
+
+pub few-inputs-shown : (net : Net) (xs : List Shown) → map face_tree xs ≡ (face_of_net (net_tree net)).inputs → length xs < 2 ^ 32
+few-inputs-shown net xs h =
+    let all : things (net_tree net) ≤ 100000 = net-kept net in
+    let a = shown-length xs (face_of_net (net_tree net)).inputs h in
+    let b = map-length stored_face (net_tree net).inputs in
+    omega (arith, all, a, b)
+
+-- ---- outputs
+
+pub outputs-are : (x : n.Net) (f : Faces) (a b all : List Stmt) → AreFaces x f → view_stmts a ≡ stms_of (all_shown_by letter.P letter.L (map face_tree f.places))
+    → view_stmts b ≡ stms_of (all_shown_by letter.Q letter.V (map face_tree f.variables)) → all ≡ a ++ b → view_stmts all ≡ outputs_of (face_of_net x)
+outputs-are x f a b all h p q is =
+    ap (λ (ss : List Stmt). view_stmts ss) is
+    ∙ view_append a b
+    ∙ ap (λ ss. append ss (view_stmts b)) p
+    ∙ ap (append (stms_of (all_shown_by letter.P letter.L (map face_tree f.places)))) q
+    ∙ ap (λ (ys : List VariableFace). append (stms_of (all_shown_by letter.P letter.L ys)) (stms_of (all_shown_by letter.Q letter.V (map face_tree f.variables)))) h.places
+    ∙ ap (λ (ys : List VariableFace). append (stms_of (all_shown_by letter.P letter.L (places_of (face_of_net x)))) (stms_of (all_shown_by letter.Q letter.V ys))) h.variables
+    ∙ sym (stms_of-append (all_shown_by letter.P letter.L (places_of (face_of_net x))) (all_shown_by letter.Q letter.V (face_of_net x).variables))
+
+-- ---- the program
+
+laid : (a b c d : Stms) → append (append (append a b) c) d ≡ append a (append b (append c d))
+laid a b c d = append-assoc (append a b) c d ∙ append-assoc a b (append c d)
+
+blocks : (a b c d e f g r : List StVar) → r ≡ [] → a ++ b ++ c ++ d ++ e ++ f ++ g ≡ a ++ (b ++ (c ++ (d ++ (e ++ (f ++ (g ++ (r ++ [])))))))
+blocks a b c d e f g r h =
+    append_assoc (a ++ b ++ c ++ d ++ e) f g
+    ∙ append_assoc (a ++ b ++ c ++ d) e (f ++ g)
+    ∙ append_assoc (a ++ b ++ c) d (e ++ (f ++ g))
+    ∙ append_assoc (a ++ b) c (d ++ (e ++ (f ++ g)))
+    ∙ append_assoc a b (c ++ (d ++ (e ++ (f ++ g))))
+    ∙ ap (λ s. a ++ (b ++ (c ++ (d ++ (e ++ (f ++ s)))))) (sym (ap (λ q. g ++ (q ++ [])) h ∙ append-nil g))
+
+module _ (x : n.Net) (cs : List NetChoice) (guarded : IsGuarded x cs) (alone : needs_tests_alone x cs ≡ true) where
+  simple : AllByRecursion (Simple x) cs
+  simple = all-simple x cs guarded (and-right _ _ alone)
+
+  abbrev tried : Class → Stms
+  tried k = tries_of (λ e. (part_of (parts_of x cs) e).body) (of_class (system_of_net x) k)
+
+  pub scan-is : (U C : ℕ) → scan_text x cs U C ≡ (program_of x cs U C).body
+  scan-is U C =
+      ap (λ ss. append (append (append (latches_of (face_of_net x)) (loop_of U ss)) (loop_of C (class_tries con x.events (branch_lists x cs)))) (outputs_of (face_of_net x))) (tries-are x cs simple unc)
+      ∙ ap (λ ss. append (append (append (latches_of (face_of_net x)) (loop_of U (tried unc))) (loop_of C ss)) (outputs_of (face_of_net x))) (tries-are x cs simple con)
+      ∙ laid (latches_of (face_of_net x)) (loop_of U (tried unc)) (loop_of C (tried con)) (outputs_of (face_of_net x))
+
+  no-algs : declarations letter.R class.Output (algs_of (face_of_net x)) ≡ []
+  no-algs = ap (λ (as' : List n.NetAlg). declarations letter.R class.Output (map alg_face (map alg_face_of as'))) (none-of x.algs (and-right _ _ (and-left _ _ alone)))
+
+  pub variables-are : (f : Faces) → AreFaces x f → declared_for f ≡ variables_of (blocks_of x cs)
+  variables-are f h =
+      ap (λ (xs : List VariableFace). declared_by xs (map face_tree f.variables) (map face_tree f.inputs)) h.places
+      ∙ ap (λ (xs : List VariableFace). declared_by (places_of (face_of_net x)) xs (map face_tree f.inputs)) h.variables
+      ∙ ap (λ (xs : List VariableFace). declared_by (places_of (face_of_net x)) (face_of_net x).variables xs) h.inputs
+      ∙ blocks (declarations letter.L class.Plain (places_of (face_of_net x))) (declarations letter.V class.Plain (face_of_net x).variables)
+      (declarations letter.H class.Plain (face_of_net x).inputs) (declarations letter.T class.Plain mark_and_counter)
+      (declarations letter.I class.Input (face_of_net x).inputs) (declarations letter.P class.Output (places_of (face_of_net x)))
+      (declarations letter.Q class.Output (face_of_net x).variables) (declarations letter.R class.Output (algs_of (face_of_net x))) no-algs
+      ∙ ap (λ (xs : List VariableFace). declarations letter.L class.Plain (places_of (face_of_net x))
+      ++ (declarations letter.V class.Plain (face_of_net x).variables
+      ++ (declarations letter.H class.Plain (face_of_net x).inputs
+      ++ (declarations letter.T class.Plain xs
+      ++ (declarations letter.I class.Input (face_of_net x).inputs
+      ++ (declarations letter.P class.Output (places_of (face_of_net x))
+      ++ (declarations letter.Q class.Output (face_of_net x).variables ++ (declarations letter.R class.Output (algs_of (face_of_net x)) ++ []))))))))
+      (sym (own-temporaries x cs simple))
+
+  abbrev program_with : Text → List StVar → Stms → Program
+  program_with name vars body = record { name = name; vars = vars; body = body }
+
+  -- what code puts together is the program
+  pub program-is : (U C : ℕ) (f : Faces) (name : Text) (vars : List StVar) (body : List Stmt) → AreFaces x f → name ≡ codes "CifScan" → vars ≡ declared_for f
+      → view_stmts body ≡ scan_text x cs U C → program_of_parts name vars body ≡ program_of x cs U C
+  program-is U C f name vars body h a b d =
+      ap (λ w. program_with w vars (view_stmts body)) a
+      ∙ ap (λ v. program_with (codes "CifScan") v (view_stmts body)) (b ∙ variables-are f h)
+      ∙ ap (program_with (codes "CifScan") (variables_of (blocks_of x cs))) (d ∙ scan-is U C)

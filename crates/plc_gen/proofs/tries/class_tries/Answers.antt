@@ -1,0 +1,57 @@
+use Rattle.std.proofs.Common.{List, map, reverse, sym, ap, ◌∙◌}
+use Rattle.std.proofs.lemmas.List.{reverse-reverse}
+use Rattle.cif_system.specs.System.{con, unc}
+use Rattle.cif_system.specs.Step.{same_class}
+use Rattle.cif_net.specs.declared.events.Class.{Class}
+use Rattle.cif_net.specs.declared.events.Event.{Event}
+use Rattle.cif_net.specs.View.{class_of, event_tree}
+use Rattle.st_ast.specs.View.{view_branches}
+use Rattle.st_ast.specs.declared.tree.StBranch.{StBranch}
+use Rattle.plc_gen.specs.Tries.{class_tries, one_try}
+use Rattle.plc_gen.proofs.LoopLaws.{tries-done, tries-left, tries-taken}
+use Rattle.plc_gen.proofs.tries.class_tries.Goals.{in-Unc+in_ok-append-in-Unc, in-Con+in_ok-append-in-Con, in-Plain}
+use Rattle.plc_gen.proofs.tries.class_tries.Goals as goal
+
+pub loop-event-preserved : goal.loop-event-preserved
+loop-event-preserved c =
+    let part = c.in_ok-part.ensures ∙ ap one_try c.last_list.ensures.list in
+    elim c.match-event.branch [
+      | in-Unc+in_ok-append-in-Unc w ↦ record {
+        unc = tries-taken unc c.as_slice-event-items.result.now c.loop-event.event-index c.event-item.result c.loop-event.unc c.in_ok-part.part c.match-event.unc _ _ c.loop-event-test.true c.event-item.is
+            (ap (λ (k : Class). same_class unc (class_of k)) w.in-Unc.is) part c.last_list.ensures.rest (w.unc-is ∙ w.in_ok-append-in-Unc.ensures)
+            ∙ c.loop-event.invariant.unc;
+        con = tries-left con c.as_slice-event-items.result.now c.loop-event.event-index c.event-item.result c.loop-event.con c.match-event.con _ _ c.loop-event-test.true c.event-item.is
+            (ap (λ (k : Class). same_class con (class_of k)) w.in-Unc.is) c.last_list.ensures.rest w.con-is
+            ∙ c.loop-event.invariant.con;
+      }
+      | in-Con+in_ok-append-in-Con w ↦ record {
+        unc = tries-left unc c.as_slice-event-items.result.now c.loop-event.event-index c.event-item.result c.loop-event.unc c.match-event.unc _ _ c.loop-event-test.true c.event-item.is
+            (ap (λ (k : Class). same_class unc (class_of k)) w.in-Con.is) c.last_list.ensures.rest w.unc-is
+            ∙ c.loop-event.invariant.unc;
+        con = tries-taken con c.as_slice-event-items.result.now c.loop-event.event-index c.event-item.result c.loop-event.con c.in_ok-part.part c.match-event.con _ _ c.loop-event-test.true c.event-item.is
+            (ap (λ (k : Class). same_class con (class_of k)) w.in-Con.is) part c.last_list.ensures.rest (w.con-is ∙ w.in_ok-append-in-Con.ensures)
+            ∙ c.loop-event.invariant.con;
+      }
+      | in-Plain w ↦ record {
+        unc = tries-left unc c.as_slice-event-items.result.now c.loop-event.event-index c.event-item.result c.loop-event.unc c.match-event.unc _ _ c.loop-event-test.true c.event-item.is
+            (ap (λ (k : Class). same_class unc (class_of k)) w.in-Plain.is) c.last_list.ensures.rest w.unc-is
+            ∙ c.loop-event.invariant.unc;
+        con = tries-left con c.as_slice-event-items.result.now c.loop-event.event-index c.event-item.result c.loop-event.con c.match-event.con _ _ c.loop-event-test.true c.event-item.is
+            (ap (λ (k : Class). same_class con (class_of k)) w.in-Plain.is) c.last_list.ensures.rest w.con-is
+            ∙ c.loop-event.invariant.con;
+      }
+    ]
+
+pub returns-clause-unc : goal.returns-clause-unc
+returns-clause-unc c =
+    sym (tries-done unc c.as_slice-event-items.result.now c.loop-event.event-index c.loop-event.unc (map view_branches (reverse c.loop-event.lists)) c.loop-event-test.false)
+    ∙ c.loop-event.invariant.unc
+    ∙ ap (λ (es : List Event). class_tries unc (map event_tree es) (map view_branches (reverse c.reverse.new.self))) c.as_slice-event-items.ensures
+    ∙ ap (λ (ls : List (List StBranch)). class_tries unc (map event_tree c.args.net.now.events) (map view_branches ls)) (ap reverse c.reverse.ensures ∙ reverse-reverse c.args.lists)
+
+pub returns-clause-con : goal.returns-clause-con
+returns-clause-con c =
+    sym (tries-done con c.as_slice-event-items.result.now c.loop-event.event-index c.loop-event.con (map view_branches (reverse c.loop-event.lists)) c.loop-event-test.false)
+    ∙ c.loop-event.invariant.con
+    ∙ ap (λ (es : List Event). class_tries con (map event_tree es) (map view_branches (reverse c.reverse.new.self))) c.as_slice-event-items.ensures
+    ∙ ap (λ (ls : List (List StBranch)). class_tries con (map event_tree c.args.net.now.events) (map view_branches ls)) (ap reverse c.reverse.ensures ∙ reverse-reverse c.args.lists)

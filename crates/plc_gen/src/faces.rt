@@ -1,0 +1,135 @@
+//! What the program shows of the automata, variables and inputs of a net.
+
+ghost use Rattle.std.specs.Prelude.{◌≡◌, ◌<◌, ◌^◌, true, length, map, IfOk};
+ghost use Rattle.cif_net.specs.View.{net_tree, auto_tree, input_tree, var_tree};
+ghost use Rattle.plc_face.specs.Face.{place_face, places_of};
+ghost use Rattle.plc_gen.specs.Faces as f;
+ghost use Rattle.plc_gen.specs.Faces.{auto_face, face_of_net, stored_face};
+ghost use Rattle.plc_gen.specs.Shown.{face_tree, mark_and_counter, AreFaces};
+ghost use Rattle.plc_gen.specs.Small.{is_small, are_small};
+
+use cif_base::{Boxed, Items, Memory, Text, Ty};
+use cif_net::{Auto, Net};
+use st_ast::StTy;
+use std::alloc::Global;
+
+/// A variable of the program: the path of what it stands for, its type, and its first value, where a BOOL is 0 or 1.
+#[derive(Debug, Drop)]
+pub struct Shown {
+    pub path: Text,
+    pub ty: StTy,
+    pub first: i64,
+}
+
+/// What the program shows of a net: the places of automata, the discrete variables, and the inputs.
+#[derive(Debug, Drop)]
+pub struct Faces {
+    pub places: Items<Shown>,
+    pub variables: Items<Shown>,
+    pub inputs: Items<Shown>,
+}
+
+/// What the program shows of the net. Its enumerations are small, as their sizes are numbers of 32 bits.
+pub fn shown_faces(alloc: Global, net: &Net) -> Result<Faces, Memory>
+    ensures faces { IfOk result (λ f. AreFaces (net_tree net.now) f) }
+    ensures small_variables { IfOk result (λ f. are_small (net_tree net.now).vars ≡ true) }
+    ensures small_inputs { IfOk result (λ f. are_small (net_tree net.now).inputs ≡ true) }
+{
+    let places = shown_places(alloc, net)?;
+    let variables = shown_variables(alloc, net)?;
+    let inputs = shown_inputs(alloc, net)?;
+    Ok(Faces {
+        places,
+        variables,
+        inputs,
+    })
+}
+
+/// The type of a variable, where a literal of an enumeration is its place.
+fn st_type(ty: Ty) -> StTy
+    ensures mapped { result ≡ f.st_type ty }
+    ensures small { is_small ty ≡ true }
+{
+    match ty {
+        Ty::Bool => StTy::Bool,
+        Ty::Int { lo, hi } => StTy::Range { lo, hi },
+        Ty::Enum { size } => StTy::Range {
+            lo: 0,
+            hi: i64::from(size) - 1,
+        },
+    }
+}
+
+fn shown_place(alloc: Global, auto: &Auto) -> Result<Boxed<Shown>, Memory>
+    requires { length auto.now.locs < 2 ^ 32 }
+    ensures { IfOk result (λ x. face_tree x ≡ place_face (auto_face (auto_tree auto.now))) }
+{
+    let path = auto.path.copy(alloc)?;
+    let ty = StTy::Range {
+        lo: 0,
+        hi: auto.locs.len().saturating_sub(1) as i64,
+    };
+    let first = i64::from(auto.first);
+    Boxed::new(alloc, Shown { path, ty, first })
+}
+
+/// The places of the automata.
+fn shown_places(alloc: Global, net: &Net) -> Result<Items<Shown>, Memory>
+    ensures { IfOk result (λ all. map face_tree all ≡ places_of (face_of_net (net_tree net.now))) }
+{
+    let mut all = Items::new(alloc);
+    for auto in net.autos.as_slice() {
+        all.push(shown_place(alloc, auto)?.into_inner())?;
+    }
+    Ok(all)
+}
+
+/// The discrete variables.
+fn shown_variables(alloc: Global, net: &Net) -> Result<Items<Shown>, Memory>
+    ensures small { IfOk result (λ all. are_small (net_tree net.now).vars ≡ true) }
+    ensures all { IfOk result (λ all. map face_tree all ≡ (face_of_net (net_tree net.now)).variables) }
+{
+    let mut all = Items::new(alloc);
+    for var in net.vars.as_slice() {
+        all.push(Shown {
+            path: var.path.copy(alloc)?,
+            ty: st_type(var.ty),
+            first: var.first,
+        })?;
+    }
+    Ok(all)
+}
+
+/// The inputs.
+fn shown_inputs(alloc: Global, net: &Net) -> Result<Items<Shown>, Memory>
+    ensures small { IfOk result (λ all. are_small (net_tree net.now).inputs ≡ true) }
+    ensures all { IfOk result (λ all. map face_tree all ≡ (face_of_net (net_tree net.now)).inputs) }
+{
+    let mut all = Items::new(alloc);
+    for input in net.inputs.as_slice() {
+        all.push(Shown {
+            path: input.path.copy(alloc)?,
+            ty: st_type(input.ty),
+            first: input.first,
+        })?;
+    }
+    Ok(all)
+}
+
+/// The mark that something fired, and the counter of rounds.
+pub fn own_variables(alloc: Global) -> Result<Items<Shown>, Memory>
+    ensures { IfOk result (λ all. map face_tree all ≡ mark_and_counter) }
+{
+    let mut all = Items::new(alloc);
+    all.push(Shown {
+        path: Text::from_slice(alloc, b"fired")?,
+        ty: StTy::Bool,
+        first: 0,
+    })?;
+    all.push(Shown {
+        path: Text::from_slice(alloc, b"rounds")?,
+        ty: StTy::Lint,
+        first: 0,
+    })?;
+    Ok(all)
+}

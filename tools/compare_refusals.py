@@ -1,0 +1,277 @@
+#!/usr/bin/env python3
+"""Compares how `check` and `generate` judge sources with plain rules, on random sources of which most break a rule.
+
+    tools/compare_refusals.py PROGRAM [SOURCES [SEED]]
+    tools/compare_refusals.py --self-test
+
+Where rules are broken, what is told is to be one of the refusals of the first phase that has any: tokens, grammar, forms that are
+not built yet, names, initial locations, alphabets and the number of objects, the size of all choices, their number; `generate` then
+asks that each event has a class. A source that breaks none is accepted. Besides random sources there are some at each limit. The
+status is 1 where the two differ. The rules are in `plain_nets.py` and `plain_names.py`; with `--self-test` they are compared with
+worked examples.
+"""
+import os
+import random
+import re
+import subprocess
+import sys
+import tempfile
+from collections import Counter, namedtuple
+
+from compare_grammar import CIF
+from earley import Grammar, changed, judged
+from plain_nets import MOST_CHOICES, MOST_NODES, Source, Token, Unread, broken, lexed, line_of, unclassed
+from random_nets import Maker, spelled, tokens_of
+
+GRAMMAR = Grammar(CIF)
+# Longer programs are checked, and not generated.
+LONGEST = 50000
+# What is due: the lines that may be told, those that `generate` may tell, and what all choices count. A line that ends in `at`
+# may have any place in the text.
+Verdict = namedtuple("Verdict", "lines generated nodes")
+
+
+# ---- what is due
+
+def judgement(text):
+    """The verdict on a source."""
+    tokens, due = lexed(text)
+    if due:
+        return Verdict(set(map(line_of, due)), set(), 0)
+    try:
+        source = Source(text)
+    except Unread:
+        return Verdict({unread_line(text, tokens)}, set(), 0)
+    due, net = broken(source)
+    if due:
+        return Verdict(set(map(line_of, due)), set(), 0)
+    return Verdict(set(), set(map(line_of, unclassed(net))), sum(map(net.weight, range(len(net.events)))))
+
+
+def unread_line(text, tokens):
+    """What is told of a text that is no source of these forms: it is one of others, or none."""
+    taken, is_whole = judged(GRAMMAR, "spec", [token.kind for token in tokens])
+    places = [token.at for token in tokens] + [len(text)]
+    return "30 NotBuilt at" if is_whole else line_of(("NotRead", ("at", places[taken])))
+
+
+def status_of(line):
+    return 8 if line.split()[0] in ("25", "28") else 7
+
+
+def is_allowed(line, lines, text):
+    """Whether a line is one of those that may be told."""
+    place = re.match(r"(30 NotBuilt at) ([0-9]+)$", line)
+    if place and int(place.group(2)) <= len(text):
+        line = place.group(1)
+    return line in lines
+
+
+# ---- random sources
+
+FAULTS = {"name": 0.15, "twice": 0.1, "goto": 0.3, "initials": 0.4, "alphabet": 0.5, "class": 0.3, "later": 0.05}
+ODD_PIECES = ["@", "$", "#", '"', "\x00", "\xe9", "'", "2147483648", "99999999999999999999", "/*", "$1", "~"]
+
+
+def faulty(choose):
+    """A source with a few kinds of faults, each often, or with none."""
+    kinds = choose.sample(sorted(FAULTS), choose.choice([0, 1, 1, 1, 2]))
+    tokens = tokens_of(Maker(choose, {kind: FAULTS[kind] for kind in kinds}).text)
+    if choose.random() < 0.15:
+        tokens = changed([Token(word, word, 0) for word in GRAMMAR.tokens + ["ID", "NUMBER", "tau"]], choose, tokens)
+        tokens = [token._replace(text={"ID": "a", "NUMBER": "7"}.get(token.text, token.text)) for token in tokens]
+    text = spelled(choose, tokens)
+    if choose.random() < 0.08:
+        place = choose.randint(0, len(text))
+        text = text[:place] + choose.choice(ODD_PIECES) + text[place:]
+    return text
+
+
+def member(name, event, ways, is_monitor):
+    """An automaton that has so many ways to take part in an event."""
+    edges = "edge " + ", ".join([event] * (ways - is_monitor)) + "; " if ways > is_monitor else ""
+    clauses = "alphabet %s; monitor; " % event if is_monitor else ""
+    return "automaton %s: %slocation: initial; %send " % (name, clauses, edges)
+
+
+def crowd(factors, monitors=(), event="e"):
+    """The automata of an event whose choices number the product of the factors."""
+    return "".join(member("%s%d" % (event, k), event, ways, k in monitors) for k, ways in enumerate(factors))
+
+
+def crowded(choose):
+    """A source whose choices number, or count, about as much as the limit."""
+    if choose.random() < 0.5:
+        factors = choose.choice([[128, 128], [127, 129], [5, 29, 113], [2] * 14, [26] * 3, [25, 25, 26], [16384], [16383], [4] * 7])
+        second = [choose.randint(1, 3)]
+    else:
+        power = choose.randint(8, 16)
+        parties = MOST_NODES // 2 ** power // 2 - choose.randint(0, 2)
+        factors, second = [2] * power + [1] * max(0, parties - power), [choose.choice([1, 1000])]
+    choose.shuffle(factors)
+    monitors = {k for k in range(len(factors)) if choose.random() < choose.choice([0, 0.3])}
+    head = choose.choice(["controllable e, f; ", "event f; uncontrollable e; ", "event e; controllable f; "])
+    return head + crowd(factors, monitors) + crowd(second, (), "f")
+
+
+def made(choose):
+    return (crowded if choose.random() < 0.01 else faulty)(choose)
+
+
+# ---- sources at the limits: what they show, the text, and the line that `check` tells, or None
+
+def numbered(form, count):
+    return "".join(form % number for number in range(count))
+
+
+def blocked_edges(count):
+    """So many edges that make no choice, since another automaton blocks their event: six more objects."""
+    threes, rest = divmod(count, 3)
+    return ("event e; automaton a: location: initial; %s%send automaton b: alphabet e; location: initial; end"
+            % ("edge e, e, e; " * threes, "edge e; " * rest))
+
+
+def at_limits():
+    objects, choices, size = ("17 TooManyObjects count 100001", "25 TooManyChoices count 16385", "24 TooLarge nodes 1000001 depth 0")
+    e, one, places = "event e, f; ", "e%d, ", "automaton a: location p: initial; %send"
+    halves = crowd([2] * 13 + [1] * 47)
+    return [
+        ("the specification and 99999 events", "event %sz;" % numbered(one, 99998), None),
+        ("one event more", "event %sz;" % numbered(one, 99999), objects),
+        ("99999 groups", numbered("group g%d: end ", 99999), None),
+        ("one group more", numbered("group g%d: end ", 100000), objects),
+        ("99998 locations", places % numbered("location p%d; ", 99997), None),
+        ("one location more", places % numbered("location p%d; ", 99998), objects),
+        ("99994 edges", blocked_edges(99994), None),
+        ("one edge more", blocked_edges(99995), objects),
+        ("far more events", "event %sz;" % numbered(one, 250000), objects),
+        ("16384 choices of one automaton", e + crowd([16384]), None),
+        ("one choice more", e + crowd([16385]), choices),
+        ("128 times 128 choices", e + crowd([128, 128]), None),
+        ("one choice of another event more", e + crowd([128, 128]) + crowd([1], (), "f"), choices),
+        ("127 times 129 choices and one", e + crowd([127, 129]) + crowd([1], (), "f"), None),
+        ("128 times 128 choices, some of which stay", e + crowd([128, 128], {1}), None),
+        ("5 times 29 times 113 choices, some of which stay", e + crowd([5, 29, 113], {0, 2}), choices),
+        ("choices that nobody takes part in", e + crowd([16384]) + "automaton z: alphabet f; location: initial; end", None),
+        ("26 times 26 times 26 choices", e + crowd([26] * 3), choices),
+        # 8192 choices of 60 automata count 121 each; a choice of one automaton counts 3, one that stays 2
+        ("choices that count 1000000", e + halves + crowd([2923], {0}, "f"), None),
+        ("choices that count 1000001", e + halves + crowd([2923], (), "f"), size),
+        ("choices that are too large and too many", e + crowd([2] * 40), size),
+        ("choices of two million automata in 16384 choices", e + crowd([2] * 14 + [1] * 60), size),
+    ]
+
+
+# ---- the comparison
+
+class Tool:
+    """The program that is asked, in a folder of its own."""
+
+    def __init__(self, program, folder):
+        self.program, self.folder = os.path.abspath(program), folder
+
+    def tells(self, command, text):
+        """The status, what is written, and the line that is told, without what stands before the refusal."""
+        with open(os.path.join(self.folder, "a.cif"), "wb") as file:
+            file.write(text.encode("latin-1"))
+        ran = subprocess.run([self.program, command, "a.cif"], cwd=self.folder, stdout=subprocess.PIPE, stderr=subprocess.PIPE)
+        told = re.match(r"cif: a\.cif: ([^\n]*)\n\Z", ran.stderr.decode("latin-1"))
+        return ran.returncode, ran.stdout.decode("latin-1"), told.group(1) if told else ran.stderr.decode("latin-1")
+
+    def fault(self, command, text, lines):
+        """What is wrong with the answer, or None; without lines the source is to be accepted."""
+        status, out, line = self.tells(command, text)
+        if lines:
+            is_right = is_allowed(line, lines, text) and status == status_of(line) and out == ""
+        else:
+            is_right = (status, line) == (0, "") and (out == "ok\n" if command == "check" else is_program(out))
+        if is_right:
+            return None
+        return "%s: wanted %s, given status %d %r %r" % (command, " or ".join(sorted(lines)) or "no refusal", status, line, out[:60])
+
+    def faults(self, text, verdict):
+        found = [self.fault("check", text, verdict.lines)]
+        if verdict.nodes <= LONGEST:
+            found.append(self.fault("generate", text, verdict.lines or verdict.generated))
+        return [fault for fault in found if fault]
+
+
+def is_program(text):
+    return text.startswith("PROGRAM CifScan\n") and text.rstrip().endswith("END_PROGRAM")
+
+
+def main(program, sources=1000, seed=1):
+    choose, differ, notes = random.Random(seed), 0, Counter()
+    with tempfile.TemporaryDirectory() as folder:
+        tool = Tool(program, folder)
+        for what, text, line in at_limits():
+            fault = tool.fault("check", text, {line} if line else set())
+            if fault:
+                differ += 1
+                print("%s: %s" % (what, fault))
+        for _ in range(sources):
+            text = made(choose)
+            verdict = judgement(text)
+            notes.update({line.split()[0] for line in verdict.lines | verdict.generated} or {"none"})
+            found = tool.faults(text, verdict)
+            if found:
+                differ += 1
+                print("%r\n  %s" % (text[:4000], "\n  ".join(found)))
+    shown = ", ".join("%s %d" % pair for pair in sorted(notes.items(), key=lambda pair: (len(pair[0]), pair[0])))
+    print("%d sources (%s), and those at the limits: %d differences" % (sources, shown, differ))
+    return 1 if differ else 0
+
+
+# ---- worked examples: a source, the lines of which `check` tells one, and those of `generate` where `check` has none
+
+WORKED = [
+    ("event @e;", {"1 BadByte at 6"}, set()),
+    ("event e2147483648, e; 2147483648 2147483647", {"2 NumberTooBig at 22"}, set()),
+    ("automaton a: /* x", {"3 OpenComment at 13"}, set()),
+    ("automaton a: /*/", {"3 OpenComment at 13"}, set()),
+    ("event e", {"4 NotRead at 7"}, set()),
+    ("automaton a: alphabet; alphabet; location: initial; end", {"4 NotRead at 23"}, set()),
+    ("alg bool b = z;", {"30 NotBuilt at"}, set()),
+    ("automaton a: location: marked true; end", {"30 NotBuilt at"}, set()),
+    ("event e; event e;", {"6 Duplicate at 15 first 6"}, {"28 Unclassed event e"}),
+    ("event e, e, e;", {"6 Duplicate at 9 first 6", "6 Duplicate at 12 first 6", "6 Duplicate at 12 first 9"}, set()),
+    ("event e; group g: event e; end", set(), {"28 Unclassed event e"}),
+    ("automaton a: location p: initial; edge z; end", {"5 Unknown at 39"}, set()),
+    ("automaton a: location p: initial; edge .a.z; end", {"5 Unknown at 39"}, set()),
+    ("automaton a: location p: initial; edge a; end", {"7 WrongKind at 39"}, set()),
+    ("automaton a: location p: initial; edge p; end", {"7 WrongKind at 39"}, set()),
+    ("event e; automaton a: location p: initial; edge e goto q; end", {"5 Unknown at 55"}, set()),
+    ("event e; automaton a: location p: initial; edge e goto e; end", {"5 Unknown at 55"}, set()),
+    ("automaton a: event e; location p: initial; edge e goto e; end", {"7 WrongKind at 55"}, set()),
+    # the first scope that declares the first part decides
+    ("event e; group h: group e: end automaton a: location: initial; edge e; end end", {"7 WrongKind at 68"}, set()),
+    ("group g: event e; end group h: group g: end automaton a: location: initial; edge g.e; end end", {"5 Unknown at 81"}, set()),
+    ("automaton a: location p; end", {"11 Initials at 10 count 0"}, set()),
+    ("automaton a: location p: initial; initial; location q: initial; location r: initial; end", {"11 Initials at 10 count 3"}, set()),
+    ("automaton a: location p: initial; initial; end", set(), set()),
+    ("automaton a: event e, f; alphabet e; location: initial; edge f; end", {"14 AlphabetLacks at 61"}, set()),
+    ("event e; automaton a: monitor e; location: initial; end", {"14 AlphabetLacks at 30"}, set()),
+    ("event e; automaton a: alphabet; location: initial; edge e, .e; end", {"14 AlphabetLacks at 56", "14 AlphabetLacks at 59"}, set()),
+    ("event e; automaton a: alphabet e; monitor; location: initial; edge .e; end", set(), {"28 Unclassed event e"}),
+    ("automaton a: event e; location: initial; edge e; end", set(), {"28 Unclassed event a.e"}),
+    ("group g: event $if; end controllable c; event e;", set(), {"28 Unclassed event e"}),
+    ("group g: automaton a: event $if; location: initial; end end controllable e;", set(), {"28 Unclassed event g.a.if"}),
+    ("", set(), set()),
+]
+
+
+def self_test():
+    for text, lines, generated in WORKED:
+        verdict = judgement(text)
+        assert verdict.lines == lines and (lines or verdict.generated == generated), (text, verdict)
+    limits = [it for it in at_limits() if len(it[1]) < 200000]
+    for what, text, line in limits:
+        assert judgement(text).lines == ({line} if line else set()), what
+    assert judgement("event e, f; " + crowd([2] * 13 + [1] * 47) + crowd([2923], {0}, "f")).nodes == MOST_NODES
+    assert judgement("event e; " + crowd([128, 128])).nodes == 5 * MOST_CHOICES
+    print("the rules agree with %d worked examples and %d sources at limits" % (len(WORKED), len(limits)))
+    return 0
+
+
+if __name__ == "__main__":
+    sys.exit(self_test() if sys.argv[1:] == ["--self-test"] else main(sys.argv[1], *map(int, sys.argv[2:])))
