@@ -1,7 +1,7 @@
 -- The net of a source shows what the source shows.
 use Rattle.std.proofs.Common.{◌≡◌, List, [], ◌∷◌, map, refl}
 use Rattle.cif_system.proofs.Lists.{map-length}
-use Rattle.plc_emit.specs.Faces.{auto_face, stored_face, alg_face_of, face_of_net}
+use Rattle.plc_gen.specs.Faces.{auto_face, stored_face, alg_face_of, face_of_net}
 use Rattle.cif_source.specs.Source.{type_decl, enum_decl, event_decl, const_decl, alg_decl, input_decl, disc_decl, equation_decl, invariant_decl, marked_decl, Source}
 use Rattle.cif_source.specs.Components.{Component, path_of}
 use Rattle.cif_source.specs.Objects.{automata, variables, inputs, algs, Declared, locs_of}

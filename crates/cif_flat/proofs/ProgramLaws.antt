@@ -3,9 +3,9 @@ use Rattle.std.proofs.Common.{◌≡◌, Bool, true, ap}
 use Rattle.std.specs.Prelude.{◌&&◌, length, nat_eq, is_none}
 use Rattle.std.specs.List.{list_all}
 use Rattle.cif_model.specs.Net.{NetEdge, NetExclusion, Net}
-use Rattle.plc_emit.specs.Tests.{is_told}
-use Rattle.plc_emit.specs.Events.{writes_nothing}
-use Rattle.plc_emit.specs.Makes.{edge_is_dataless, auto_is_dataless, is_dataless}
+use Rattle.plc_gen.specs.Tests.{is_told}
+use Rattle.plc_gen.specs.Events.{writes_nothing}
+use Rattle.plc_gen.specs.Makes.{edge_is_dataless, auto_is_dataless, is_dataless}
 use Rattle.cif_source.specs.Source.{Source}
 use Rattle.cif_image.specs.Built.{is_flat}
 use Rattle.cif_image.specs.Flat.{net_of_source}

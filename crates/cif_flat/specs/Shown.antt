@@ -4,7 +4,7 @@ use Rattle.cif_ast.specs.Tree.{Tree}
 use Rattle.cif_ast.specs.declared.names.Ident.{Ident}
 use Rattle.st_ast.specs.declared.tree.StTy.TheVariants as st
 use Rattle.plc_face.specs.Face.{AutomatonFace, VariableFace, AlgFace, Face}
-use Rattle.plc_emit.specs.Faces.{st_type, is_boolean}
+use Rattle.plc_gen.specs.Faces.{st_type, is_boolean}
 use Rattle.cif_source.specs.Source.{TypeTree, alg_decl, input_decl, disc_decl, Source}
 use Rattle.cif_source.specs.Components.{Component, path_of}
 use Rattle.cif_source.specs.Objects.{automata, variables, inputs, algs, Declared, locs_of}

@@ -1,8 +1,8 @@
 //! The laws of the definitions, each the contract of a function without a body.
 
 ghost use Rattle.std.specs.Prelude.{◌≡◌, true};
-ghost use Rattle.plc_emit.specs.Faces.{face_of_net};
-ghost use Rattle.plc_emit.specs.Makes.{is_dataless};
+ghost use Rattle.plc_gen.specs.Faces.{face_of_net};
+ghost use Rattle.plc_gen.specs.Makes.{is_dataless};
 ghost use Rattle.cif_model.specs.Facts.{is_net};
 ghost use Rattle.cif_model.specs.Rules.{is_plain};
 ghost use Rattle.cif_source.specs.Source.{Source};
