@@ -75,7 +75,7 @@ ODD_PIECES = ["@", "$", "#", '"', "\x00", "\xe9", "$1", "~", " 2147483648 ", " 2
 
 def faulty(choose):
     """A source with a few kinds of faults, each often, or with none."""
-    kinds = choose.sample(sorted(FAULTS), choose.choice([0, 1, 1, 1, 2]))
+    kinds = choose.sample(sorted(FAULTS), choose.choice([0, 1, 1, 2, 2, 3]))
     tokens = tokens_of(Maker(choose, {kind: FAULTS[kind] for kind in kinds}).text)
     if choose.random() < 0.15:
         tokens = changed([Token(word, word, 0) for word in GRAMMAR.tokens + ["tau"]], choose, tokens)
