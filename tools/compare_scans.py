@@ -4,11 +4,12 @@
     tools/compare_scans.py PROGRAM [SOURCES [SEED]]
     tools/compare_scans.py --self-test
 
-A scan makes its rounds of the uncontrollable events, and then those of the controllable ones. A round takes the events of its class
-in ascending number, and for each the first choice that makes a step, if there is one: the automata that have the event in their
-alphabet take an edge for it, or stay where they monitor it and have no such edge. `generate` writes the program of a source, and
-`replay` gives the locations after each scan. Compared are that table, and the variables in which the program holds the locations.
-The status is 1 where the two differ. The simulation is in `plain_nets.py`; with `--self-test` it is compared with worked examples.
+A scan makes its rounds of the uncontrollable events, and then those of the controllable ones. A round takes the events of its
+class in ascending number, and for each the first choice that makes a step, if there is one: the automata that have the event in
+their alphabet take an edge for it, or stay where they monitor it and have no such edge. `generate` writes the program of a
+source, and `replay` gives the locations after each scan. Compared are that table, and the variables in which the program holds
+the locations. The status is 1 where the two differ. The simulation is in `plain_nets.py`; with `--self-test` it is compared with
+worked examples.
 """
 import os
 import random
@@ -21,7 +22,7 @@ from collections import Counter, namedtuple
 from plain_nets import Net, Source, broken, line_of
 from random_nets import Maker, spelled, tokens_of
 
-MOST_SCANS, MOST_CHOICES, DEFAULT_ROUNDS = 6, 400, 100
+MOST_SCANS, MOST_TRIED, DEFAULT_ROUNDS = 6, 400, 100
 # What is generated and replayed: a source, the words of its options, the most rounds of each class, and how many scans.
 Trial = namedtuple("Trial", "text options unc con scans")
 
@@ -57,7 +58,7 @@ def automata_together(choose):
     while True:
         text = spelled(choose, tokens_of(Maker(choose).text))
         due, net = broken(Source(text))
-        if not due and sum(map(net.count, range(len(net.events)))) <= MOST_CHOICES:
+        if not due and sum(map(net.count, range(len(net.events)))) <= MOST_TRIED:
             return text
 
 
@@ -190,13 +191,44 @@ WORKED = [
 ]
 
 
+# the same for files of examples/, in which each scan makes one round of each class
+EXAMPLES = [
+    ("feed.cif", """scan,P0_Feeder,P1_Conveyor,P2_Gripper,P3_Part,P4_Single,P5_Transport,P6_Tray
+1,1,0,0,0,1,0,0
+2,0,1,0,1,1,2,0
+3,0,0,1,0,0,0,0
+4,1,0,0,0,1,0,1
+5,0,1,0,1,1,2,1
+6,0,0,1,0,0,0,1
+7,1,0,0,0,1,0,2
+8,0,1,0,1,1,2,2
+"""),
+    ("lock.cif", """scan,P0_upper_Gate,P1_lower_Gate,P2_chamber_Water,P3_chamber_Level,P4_Turns,P5_Lamp
+1,0,1,0,1,1,1
+2,0,3,0,1,1,1
+3,0,0,1,2,1,0
+4,1,0,2,4,0,1
+5,3,0,2,4,0,1
+6,0,0,3,2,0,0
+7,0,1,0,1,1,1
+8,0,3,0,1,1,1
+"""),
+]
+
+
+def example(name):
+    with open(os.path.join(os.path.dirname(os.path.abspath(__file__)), "..", "examples", name)) as file:
+        return file.read()
+
+
 def self_test():
-    for text, unc, con, table in WORKED:
+    worked = WORKED + [(example(name), 1, 1, table) for name, table in EXAMPLES]
+    for text, unc, con, table in worked:
         due, net = broken(Source(text))
         assert not due, (text, list(map(line_of, due)))
         given = net.table(unc, con, table.count("\n") - 1)
         assert given == table, (text, table, given)
-    print("the simulation agrees with %d worked examples" % len(WORKED))
+    print("the simulation agrees with %d worked examples" % len(worked))
     return 0
 
 

@@ -121,10 +121,11 @@ def judged(root, body, use):
 
 
 def of_scope(body):
-    for k, slot in enumerate(body.slots):
-        for first in body.slots[:k]:
-            if first.name == slot.name:
-                yield ("Duplicate", ("at", slot.at), ("first", first.at))
+    earlier = {}
+    for slot in body.slots:
+        for first in earlier.setdefault(slot.name, []):
+            yield ("Duplicate", ("at", slot.at), ("first", first.at))
+        earlier[slot.name].append(slot)
 
 
 def of_own(body):

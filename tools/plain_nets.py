@@ -1,8 +1,8 @@
 """Reads sources of automata without data, and says what they mean: which rules they break, their choices and their scans.
 
-Plain and slow on purpose, and shares nothing with the program: the CIF 3 language reference ("Syntax", "Scoping", "Synchronization",
-"Monitoring") and the rules that README and `docs/DEFINITIONS.md` print, written down once more. Forms with data, definitions, channels
-and invariants are not read here.
+Plain and slow on purpose, and shares nothing with the program: the CIF 3 language reference ("Syntax", "Scoping",
+"Synchronization", "Monitoring") and the rules that README and `docs/DEFINITIONS.md` print, written down once more. Forms with
+data, definitions, channels and invariants are not read here.
 """
 import itertools
 import re
@@ -247,7 +247,10 @@ class Net:
         self.source, self.numbers = source, {id(slot): number for number, (slot, _) in enumerate(events)}
         self.events = [Event(".".join(path), source.class_of[id(slot)]) for slot, path in events]
         self.parties = [self.party(automaton) for automaton in source.automata]
-        self.listed, self.steps = {}, {}
+        self.ways, self.listed, self.steps = [[] for _ in events], {}, {}
+        for number, party in enumerate(self.parties):
+            for event in party.alphabet:
+                self.ways[event].append((number, self.ways_of(party, event)))
 
     def number(self, automaton, use):
         return self.numbers[denoted(self.source, automaton.body, use)]
@@ -266,10 +269,13 @@ class Net:
 
     # choices
 
+    def ways_of(self, party, event):
+        """What a party of the event may do: take one of its edges for it, in text order, or at last stay."""
+        return [arc for arc in party.arcs if arc.event == event] + ([STAYS] if event in party.monitors else [])
+
     def options(self, event):
-        """For each party of the event its number and what it may do: its edges for it in text order, and at last to stay."""
-        return [(number, [arc for arc in party.arcs if arc.event == event] + ([STAYS] if event in party.monitors else []))
-                for number, party in enumerate(self.parties) if event in party.alphabet]
+        """For each party of the event its number and its ways, in ascending number."""
+        return self.ways[event]
 
     def count(self, event):
         """How many choices the event has."""

@@ -2,19 +2,21 @@
 
 Names come from a few for each source, so that they shadow one another, and stand as dotted names and as names from the root.
 """
-from plain_names import COMPONENT, EVENT, LOCATION, MISSING, Body, Slot, found_slot
+from plain_names import COMPONENT, EVENT, LOCATION, Body, Slot, found_slot
 from plain_nets import RESERVED, lexed
 
 # Names of all forms: some are the same but for case, some words of either language, some variables that programs have, some
 # leave nothing when they are tidied, and some are cut.
-NAMES = ["a", "b", "e", "x", "A", "E", "Lamp", "on", "_", "__", "_k1", "__a__b", "a_b", "a__b", "x1", "X1", "u2_", "end", "event", "time",
-         "plant", "when", "IF", "var", "MOD", "END_VAR", "scan", "L0_a", "P0_a", "T0_fired", "T1_rounds", "CifScan", "n" * 39 + "_tail",
-         "m" * 60]
+NAMES = ["a", "b", "e", "x", "A", "E", "Lamp", "on", "_", "__", "_k1", "__a__b", "a_b", "a__b", "x1", "X1", "u2_", "end", "event",
+         "time", "plant", "when", "IF", "var", "MOD", "END_VAR", "scan", "L0_a", "P0_a", "T0_fired", "T1_rounds", "CifScan",
+         "n" * 39 + "_tail", "m" * 60]
+HEADS = ["automaton", "plant", "requirement", "supervisor", "plant automaton", "supervisor automaton"]
 BLANKS = [[""], [" "], ["\n"], [" ", " ", "\n", "\n  "], ["", " ", "\t", "\r\n", " /* edge $ @ ** */ ", " // c /* \n", "/**/"]]
 # Forms of other sources: declarations, what stands in automata alone, in locations, and behind the uses of an edge.
 LATER_ITEMS = ["const int k = 1;", "type t = bool;", "enum c = r, s;", "input bool i;", "alg bool b = true;", "equation k = 1;",
                "invariant true;", "requirement a needs true;", "plant invariant true;", "marked true;", "group def d(): end",
-               "automaton def d(): location; end", "x: d();", "event void m;", "event bool m;", "controllable int[0..3] m;", "event a b;"]
+               "automaton def d(): location; end", "x: d();", "event void m;", "event bool m;", "event a b;",
+               "controllable int[0..3] m;"]
 LATER_PARTS = ["disc int n = 0;", "disc bool n;"]
 LATER_ELEMENTS = ["marked true;", "equation k = 1;", "marked a, .b;"]
 LATER_ENDS = ["when true", "do n := 1", "when a, b do n := 1", "do if a: n := 1 end"]
@@ -37,8 +39,9 @@ def spelled_name(parts):
 
 
 class Maker:
-    """Makes one source. Faults are chances by what is to be wrong: a name, a name declared twice, a `goto`, the initial locations,
-    an alphabet or monitor, an event without a class, a form of other sources."""
+    """Makes one source. Faults are chances by what is to be wrong: "name", "twice" for one declared twice, "goto", "initials" for
+    the initial locations, "alphabet" for it and what is monitored, "class" for an event without one, "later" for a form of other
+    sources."""
 
     def __init__(self, choose, faults=None):
         self.choose, self.faults = choose, faults or {}
@@ -147,9 +150,7 @@ class Maker:
         return text
 
     def component(self, scope):
-        head = "group"
-        if scope.is_automaton:
-            head = self.choose.choice(["automaton", "plant", "requirement", "supervisor", "plant automaton", "supervisor automaton"])
+        head = self.choose.choice(HEADS) if scope.is_automaton else "group"
         inner = self.automaton(scope) if scope.is_automaton else self.items(scope)
         return "%s %s: %send " % (head, spelled_name([scope.name]), inner)
 
@@ -195,7 +196,7 @@ class Maker:
         """The alphabet, which has what the edges name and at times more, and what is monitored of it."""
         clauses, alphabet = [], sorted(set(found), key=self.events.index)
         if self.maybe(0.4):
-            extra = [slot for slot in self.events if slot not in alphabet and self.maybe(0.15)]
+            extra = [slot for slot in self.events if slot not in alphabet and self.maybe(0.2)]
             alphabet += extra
             if self.fails("alphabet"):
                 alphabet = [slot for slot in self.events if self.maybe(0.5)]
