@@ -1,11 +1,6 @@
 //! The laws of the definitions, each the contract of a function without a body.
 
 ghost use Rattle.std.specs.Prelude.{◌≡◌, true};
-<<<<<<< HEAD
-=======
-ghost use Rattle.plc_gen.specs.Faces.{face_of_net};
-ghost use Rattle.plc_gen.specs.Makes.{is_dataless};
->>>>>>> 8d258adad56cc6629fd0ce67699edd3b225214ea
 ghost use Rattle.cif_model.specs.Facts.{is_net};
 ghost use Rattle.cif_model.specs.Rules.{is_plain};
 ghost use Rattle.cif_source.specs.Source.{Source};
