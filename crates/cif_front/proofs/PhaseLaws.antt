@@ -16,7 +16,7 @@ use Rattle.cif_scope.specs.Scopes.{AreScopesOf}
 use Rattle.cif_scope.specs.declared.error.ScopeErr.{ScopeErr}
 use Rattle.cif_scope.specs.declared.error.ScopeErr.TheVariants as scope
 use Rattle.cif_scope.specs.declared.scopes.Scopes.{Scopes}
-use Rattle.cif_resolve.specs.Faults.{ScopeDue, AreFitting}
+use Rattle.cif_resolve.specs.Faults.{ScopeDue}
 use Rattle.cif_types.specs.Kinds as types
 use Rattle.cif_types.specs.declared.error.TypeErr.{TypeErr}
 use Rattle.cif_types.specs.declared.error.TypeErr.TheVariants as type
@@ -44,17 +44,11 @@ use Rattle.cif_front.specs.Dues.{IsDueOf, scope_refusal, type_refusal, inst_refu
 module _ (t : Source) (flat : is_flat t ≡ true) where
   -- ---- names
 
-  pub scopes_stand : (s : Scopes) → AreFitting t s → AreScopesOf t s
-  scopes_stand s h = record {
-    numbers = h.numbers;
-    rules = record { known = h.known; single = h.single; fitting = h.fitting; acyclic = (kept.kept-others t flat).definition_cycle };
-  }
-
   pub scope_due : (e : ScopeErr) → ScopeDue t e → IsDueOf t (scope_refusal e)
-  scope_due (scope.Unknown at) h = record { broken = h; first_phase = kept.kept-before_scope t flat }
-  scope_due (scope.Duplicate at first) h = record { broken = h; first_phase = kept.kept-before_scope t flat }
-  scope_due (scope.WrongKind at) h = record { broken = h; first_phase = kept.kept-before_scope t flat }
-  scope_due (scope.DefinitionCycle at) h = record { broken = h; first_phase = kept.kept-before_scope t flat }
+  scope_due (scope.Unknown at) h = record { broken = h; first_phase = kept.kept-before_scope t }
+  scope_due (scope.Duplicate at first) h = record { broken = h; first_phase = kept.kept-before_scope t }
+  scope_due (scope.WrongKind at) h = record { broken = h; first_phase = kept.kept-before_scope t }
+  scope_due (scope.DefinitionCycle at) h = record { broken = h; first_phase = kept.kept-before_scope t }
   scope_due scope.Memory h = tt
 
   pub names_kept : (s : Scopes) → AreScopesOf t s → KeepsNames t

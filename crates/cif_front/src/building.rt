@@ -18,20 +18,20 @@ use cif_guard::guard;
 use cif_inst::instantiate;
 use cif_lin::linearise;
 use cif_net::{Guarded, Net, Plain};
-use cif_resolve::names_fit;
+use cif_resolve::resolve;
 use cif_scope::Scopes;
 use cif_sync::roles;
 use cif_types::check_kinds;
 use std::alloc::Global;
 
 /// The scopes of a source.
-#[tactic(auto, using(crate::proofs::PhaseLaws::scopes_stand, crate::proofs::PhaseLaws::scope_due))]
+#[tactic(auto, using(crate::proofs::PhaseLaws::scope_due))]
 fn scopes_of(alloc: Global, spec: &Spec) -> Result<Scopes, Refusal>
     requires forms { is_flat (source_of spec.now) ≡ true }
     ensures scopes { IfOk result (λ s. AreScopesOf (source_of spec.now) s) }
     ensures refused { IfErr result (λ e. IsDueOf (source_of spec.now) e) }
 {
-    Ok(names_fit(alloc, spec)?)
+    Ok(resolve(alloc, spec)?)
 }
 
 /// The net of a source, by its scopes.
