@@ -1,12 +1,11 @@
 -- Worked examples, each by computing: the nodes of a net, and what is counted.
-use Rattle.std.proofs.Common.{◌≡◌, ℕ, ◌+◌, ◌*◌, suc, true, false, List, [], ◌∷◌, map, length, replicate, refl}
+use Rattle.std.proofs.Common.{◌≡◌, ℕ, ◌+◌, ◌*◌, true, false, List, [], ◌∷◌, length, replicate, refl}
 use Rattle.cif_system.specs.System.{plain}
 use Rattle.cif_system.specs.Choices.{all_choices}
 use Rattle.cif_term.specs.Tree.{no_net_updates}
 use Rattle.cif_model.specs.Net.{no_net_chan, NetEdge, NetAuto, Net}
 use Rattle.cif_model.specs.Meaning.{system_of_net}
-use Rattle.cif_model.specs.Facts.{is_net}
-use Rattle.cif_model.specs.Counts.{nodes, depth, is_too_large}
+use Rattle.cif_model.specs.Counts.{nodes, depth}
 use Rattle.cif_model.specs.Rules.{is_plain}
 use Rattle.cif_model.proofs.Examples.{sure, event, edge, auto, net_with, counter, channel, bounded, cycle}
 use Rattle.cif_alg.specs.Bare.{is_bare}
