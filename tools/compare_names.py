@@ -1,11 +1,12 @@
 #!/usr/bin/env python3
-"""Compares what the names of a source find, and which names are declared twice, with a plain look-up, on random sources.
+"""Compares what the names of a source find, and which rules on scopes it breaks, with a plain look-up, on random sources.
 
     tools/compare_names.py CASES [SOURCES [SEED]]
 
-CASES is the program of `crates/cif_cases`, which is asked `scopes` for each source, and `find` for names in each of its bodies.
-A name is looked up in the scope where it stands and outward, each later part in the body of what the part before it finds. About
-half of the sources keep all rules on names, the others break some. The status is 1 where the two differ.
+CASES is the program of `crates/cif_cases`, which is asked `scopes` and `resolve` for each source, and `find` for names in each of
+its bodies. A name is looked up in the scope where it stands and outward, each later part in the body of what the part before it
+finds. About a third of the sources keep all rules on scopes, a third break only the one on definitions, types and constants that
+reach themselves, where such sources are found, and the others break any. The status is 1 where the two differ.
 """
 import random
 import subprocess
@@ -404,9 +405,9 @@ def judged(writer, body, use):
     if asked == "definition" and found != MISSING:
         found = found_slot(writer.root, body, name, True)
     if found == MISSING:
-        return "Unknown at %d" % at
+        return "Unknown { at: %d }" % at
     if found == BLOCKED or asked != "any" and found.sort not in ASKED[asked]:
-        return "WrongKind at %d" % at
+        return "WrongKind { at: %d }" % at
     return None
 
 
@@ -421,16 +422,16 @@ def of_own(body):
     for name, at, asked in body.own:
         slot = body.slot(name)
         if slot is None:
-            yield "Unknown at %d" % at
+            yield "Unknown { at: %d }" % at
         elif slot.sort != asked:
-            yield "WrongKind at %d" % at
+            yield "WrongKind { at: %d }" % at
 
 
 def of_counts(writer, body):
     for instance in body.instances:
         found = found_slot(writer.root, body, instance.definition, True)
         if isinstance(found, Slot) and found.sort == DEFINITION and len(found.body.parameters) != len(instance.arguments):
-            yield "WrongKind at %d" % instance.at
+            yield "WrongKind { at: %d }" % instance.at
 
 
 def instances_within(body):
@@ -468,7 +469,7 @@ def of_cycles(writer):
         return [one for one in found if isinstance(one, Slot)]
 
     for slot in list(cyclic(slots, definitions)) + list(cyclic(slots, types)):
-        yield "DefinitionCycle at %d" % slot.at
+        yield "DefinitionCycle { at: %d }" % slot.at
 
 
 def due(writer):
@@ -493,10 +494,12 @@ def answer_of(writer, body, name):
 
 def cases_of(choose, writer):
     """The cases of a source, and what is allowed as their answers."""
+    counts = {" ".join(str(len(body.slots)) for body in writer.bodies)}
+    cases = [("resolve " + writer.text, due(writer) or counts)]
     twice = {told for body in writer.bodies for told in of_scope(body)}
+    cases.append(("scopes " + writer.text, twice or counts))
     if twice:
-        return [("scopes " + writer.text, twice)]
-    cases = [("scopes " + writer.text, {" ".join(str(len(body.slots)) for body in writer.bodies)})]
+        return cases
     for number, body in enumerate(writer.bodies):
         for _ in range(3):
             name = choose.choice([writer.name, lambda: writer.walked(body), lambda: writer.walked(body)])()
@@ -504,11 +507,20 @@ def cases_of(choose, writer):
     return cases
 
 
+def breaks_none(told):
+    return not told
+
+
+def breaks_cycles(told):
+    return told and all(one.startswith("DefinitionCycle") for one in told)
+
+
 def made(choose):
-    """A source, half of the time one in which no rule is broken, where such a one is found."""
+    """A source, mostly one in which no rule is broken, or only that on cycles, where such a one is found."""
     writer = Writer(choose)
-    for _ in range(choose.choice([0, 30])):
-        if not due(writer):
+    tries, is_meant = choose.choice([(0, breaks_none), (30, breaks_none), (100, breaks_cycles)])
+    for _ in range(tries):
+        if is_meant(due(writer)):
             break
         writer = Writer(choose)
     return writer

@@ -12,7 +12,8 @@
 //!   the automaton that is the last of them, its first location and the first edge of that; the value of the last declaration;
 //! - `plant`, `numbers`, `emit TEXT | UNC CON`: the plant of a CIF source, and its program;
 //! - `uses TEXT`: the names that the items of a source write, each with what its position asks for;
-//! - `scopes TEXT`: how many names the scope of each body of a source declares; `find BODY NAME | TEXT`: the instances that a name
+//! - `scopes TEXT`: how many names the scope of each body of a source declares; `resolve TEXT`: the same where the source keeps all
+//!   rules on scopes; `find BODY NAME | TEXT`: the instances that a name
 //!   passes in the body with that number, and what it finds, each as the number of a body and that of a name of its scope;
 //! - `laws`: the functions that are laws.
 #![tactic(auto)]
