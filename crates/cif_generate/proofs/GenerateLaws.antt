@@ -1,6 +1,6 @@
 -- What `generate` promises: each promise is a law on the printed program of the net of a source, said of the source, and then one
 -- of a call that came to its end, where the answer is the status of that end or want of memory.
-use Rattle.std.proofs.Common.{◌≡◌, ℕ, zero, suc, ◌⊎◌, true, false, List, [], ◌∷◌, map, Option, Some, None, refl, sym, ap, ◌∙◌, subst, inl, inr, length, ◌≤◌, ◌<◌, nat_lt, arith}
+use Rattle.std.proofs.Common.{◌≡◌, ℕ, zero, suc, ◌⊎◌, true, false, List, [], ◌∷◌, map, Some, None, refl, sym, ap, ◌∙◌, subst, inl, inr, length, ◌≤◌, ◌<◌, nat_lt, arith}
 use Rattle.std.specs.Prelude.{slice_get, IsTrue}
 use Rattle.std.proofs.lemmas.Bool.Decides.{nat_tests}
 use Rattle.grammar.specs.Pieces.{Text}
@@ -10,7 +10,6 @@ use Rattle.cif_system.specs.Step.{is_of}
 use Rattle.cif_source.specs.Objects.{Declared, events}
 use Rattle.cif_net.specs.View.{net_tree}
 use Rattle.cif_net.specs.declared.guarded.Guarded.{Guarded}
-use Rattle.cif_model.specs.Net.{NetEvent}
 use Rattle.cif_model.specs.Meaning.{system_of_net}
 use Rattle.cif_image.specs.Flat.{net_event, net_of_source}
 use Rattle.cif_image.specs.NetRules.{UnclassedDue}
@@ -29,7 +28,7 @@ use Rattle.cif_run.specs.declared.status.ProfileWhy.TheVariants as profile
 use Rattle.cif_run.specs.declared.ended.Ended.{Ended}
 use Rattle.cif_run.specs.Groups.{IsUnlessMemory, group_of}
 use Rattle.cif_run.specs.Works.{Comes, Content, Reading, StopsIn, Writing}
-use Rattle.cif_run.proofs.CallLaws.{answers, ended_so, want, written as wrote}
+use Rattle.cif_run.proofs.CallLaws.{answers, ended_so, written as wrote}
 use Rattle.cif_accept.specs.Built.{Built, ReadsAsBuilt}
 use Rattle.cif_accept.specs.Accepts.{IsLoaded, SourceIs, source_limit}
 use Rattle.cif_accept.proofs.AcceptLaws.{TellsItsOwn, told_of}
@@ -83,7 +82,7 @@ module _ (U C : ℕ) (t : Built) (text : Text) (h : IsTextOf U C t text) where
 -- ---- the net of the source in the file
 
 path-same : (ds : List Declared) (k : ℕ)
-    → (elim (slice_get (map net_event ds) k) [ None ↦ [] | Some e ↦ e.path ]) ≡ (elim (slice_get ds k) [ None ↦ [] | Some d ↦ (net_event d).path ])
+    → ◌≡◌ {A = Text} (elim (slice_get (map net_event ds) k) [ None ↦ [] | Some e ↦ e.path ]) (elim (slice_get ds k) [ None ↦ [] | Some d ↦ (net_event d).path ])
 path-same [] k = refl
 path-same (d ∷ ds) zero = refl
 path-same (d ∷ ds) (suc k) = path-same ds k

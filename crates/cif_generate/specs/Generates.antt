@@ -2,7 +2,6 @@
 use Rattle.std.specs.Prelude.{◌≡◌, Option}
 use Rattle.grammar.specs.Pieces.{Text}
 use Rattle.cif_io.specs.Written.{grown}
-use Rattle.cif_run.specs.declared.status.Status.{Status}
 use Rattle.cif_run.specs.declared.status.Status.TheVariants as status
 use Rattle.cif_run.specs.declared.status.ProfileWhy.TheVariants as profile
 use Rattle.cif_run.specs.Works.{Content, Work}

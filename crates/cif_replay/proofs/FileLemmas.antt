@@ -1,6 +1,5 @@
 -- How the parts of a replay end it, by its files.
-use Rattle.std.proofs.Common.{◌≡◌, ℕ, ◌≤◌, List, length, Option, Some, Result, Ok, Err, IfErr, refl, sym, subst, inl, inr}
-use Rattle.std.specs.Prelude.{IfSome}
+use Rattle.std.proofs.Common.{◌≡◌, ℕ, ◌≤◌, length, Option, Result, Ok, Err, IfErr, refl, sym, subst, inr}
 use Rattle.grammar.specs.Pieces.{Text}
 use Rattle.st_ast.specs.Tree.{Program}
 use Rattle.st_ast.specs.Exec.{OutOfTurns}
@@ -18,7 +17,7 @@ use Rattle.cif_run.proofs.FileLaws.{earlier_ends, file_stops}
 use Rattle.cif_replay.specs.Words.{Replay}
 use Rattle.cif_replay.specs.Replaying.{IsRowRefused, IsTableOf, Reaches, Reads}
 use Rattle.cif_replay.specs.Ends.{IsNamed, IsNamedBy, RowsEnds, StEnds}
-use Rattle.cif_replay.specs.Replays.{OfFirst, ReplayEnds, replay_work, rows_input, rows_limit, st_input, st_limit}
+use Rattle.cif_replay.specs.Replays.{OfFirst, ReplayEnds, replay_work, rows_input, rows_limit, st_limit}
 
 the_one : (text : Text) (p : Program) (P : Program → Type 0) → ReadsAsProgram text p → P p → TheProgram text P
 the_one text p P reads h = (p, reads, h, λ q rq. one-program text q p rq reads)

@@ -18,7 +18,7 @@ use Rattle.cif_run.specs.declared.status.Status.TheVariants as status
 use Rattle.cif_run.specs.declared.status.StRefusal.{StRefusal}
 use Rattle.cif_run.specs.declared.ended.Ended.{Ended}
 use Rattle.cif_run.specs.Groups.{group_of, IsUnlessMemory}
-use Rattle.cif_run.specs.Works.{Comes, Content, Failed, Holds, Input, IsLonger, Overlong, Reading, Unread, Work, WroteIn, Writing}
+use Rattle.cif_run.specs.Works.{Comes, Content, Failed, Holds, Input, IsLonger, Reading, Unread, Work, WroteIn, Writing}
 use Rattle.cif_run.proofs.CallLaws.{came_how, ended_so, finished, written}
 use Rattle.cif_run.proofs.CallLaws as call
 use Rattle.cif_replay.specs.Words.{Replay}

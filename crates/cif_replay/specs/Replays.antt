@@ -6,7 +6,6 @@ use Rattle.st_scan.specs.Endings.{stopped}
 use Rattle.st_scan.specs.declared.error.ScanErr.TheVariants as scan
 use Rattle.cif_run.specs.declared.status.Status.{Status}
 use Rattle.cif_run.specs.declared.status.Status.TheVariants as status
-use Rattle.cif_run.specs.declared.status.StRefusal.{StRefusal}
 use Rattle.cif_run.specs.Works.{Content, Holds, Input, Work}
 use Rattle.cif_replay.specs.Words.{Replay as Asked}
 use Rattle.cif_replay.specs.Replaying.{AreRowsRefused, IsStRefused, IsTableFor, Reads, StopsAt}

@@ -1,8 +1,7 @@
 -- Words ask for at most one command, by the commands' names, and for at most one thing.
-use Rattle.std.proofs.Common.{◌≡◌, List, Option, Some, refl, sym, ap, subst, ◌∙◌, inl, inr}
+use Rattle.std.proofs.Common.{◌≡◌, List, Some, refl, sym, ap, subst, ◌∙◌, inl, inr}
 use Rattle.grammar.specs.Pieces.{Text}
 use Rattle.cif_run.specs.Words.{command_word}
-use Rattle.cif_run.specs.declared.status.Status.TheVariants as status
 use Rattle.cif_run.specs.Works.{Content}
 use Rattle.cif_run.proofs.CallLaws.{IsWithin}
 use Rattle.cif_check.proofs.WordLemmas.{check_named, one_check}

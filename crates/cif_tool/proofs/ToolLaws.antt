@@ -1,6 +1,6 @@
 -- What the clauses of the tool say, each by a law of the commands, from how its call came to its end, where the answer is the
 -- status of that end or want of memory.
-use Rattle.std.proofs.Common.{◌≡◌, ℕ, ◌<◌, ◌≤◌, ◌⊎◌, length, List, Option, Some, refl, sym, ap, subst, ◌∙◌, inl, inr}
+use Rattle.std.proofs.Common.{◌≡◌, ℕ, ◌<◌, ◌≤◌, ◌⊎◌, length, List, Some, refl, sym, subst, inl, inr}
 use Rattle.grammar.specs.Pieces.{Text}
 use Rattle.cif_io.specs.Faults.{Rose}
 use Rattle.cif_io.specs.Written.{grown}
@@ -15,9 +15,9 @@ use Rattle.cif_run.specs.declared.status.ProfileWhy.TheVariants as profile
 use Rattle.cif_run.specs.declared.status.Refusal.{Refusal}
 use Rattle.cif_run.specs.declared.status.StRefusal.{StRefusal}
 use Rattle.cif_run.specs.declared.ended.Ended.{Ended}
-use Rattle.cif_run.specs.Groups.{Group, done, unread, too_long, unwritten, wanting, judged, group_of, IsUnlessMemory}
+use Rattle.cif_run.specs.Groups.{judged, group_of, IsUnlessMemory}
 use Rattle.cif_run.specs.Works.{Comes, Content, Reading, StopsIn, Writing}
-use Rattle.cif_run.proofs.CallLaws.{answers, came_how, ended_so, within_comes, write_fault}
+use Rattle.cif_run.proofs.CallLaws.{answers, came_how, ended_so, within_comes}
 use Rattle.cif_accept.specs.Built.{Built, ReadsAsBuilt}
 use Rattle.cif_accept.specs.Accepts.{BuiltEnds, SourceHasTooMany, SourceIs, SourceRefused, no_ends, source_limit, source_work}
 use Rattle.cif_image.specs.NetRules.{UnclassedDue}
@@ -200,7 +200,8 @@ module _ (words : List Text) (c : Reading) (o : Writing) (e : Ended) (came : Com
       go : (k : Command) (q : Request k) → IsFor k words q → (work_of k q c.content).ends (status.StRefused why) e.variable
           → (x : Replay) × IsReplay words x × OfFirst c.content x (λ st. IsStRefused st why)
       go replay q is h = (q, is, (h.0, h.1, h.2, h.3.0))
-      go _ q is h = absurd h
+      go check q is h = elim h [ inl x ↦ absurd x | inr x ↦ absurd x.2 ]
+      go generate q is h = elim h [ inl x ↦ absurd x | inr x ↦ absurd x.2 ]
 
   pub rows_refused : (why : RowErr) → r ≡ status.RowRefused why → (x : Replay) × IsReplay words x × OfBoth c.content x (λ st rows. AreRowsRefused st rows why)
   rows_refused why z = let h = ended (status.RowRefused why) (λ x. cc) refl (λ x. cc) z in go h.0.command h.0.request h.1 h.2
@@ -208,7 +209,8 @@ module _ (words : List Text) (c : Reading) (o : Writing) (e : Ended) (came : Com
       go : (k : Command) (q : Request k) → IsFor k words q → (work_of k q c.content).ends (status.RowRefused why) e.variable
           → (x : Replay) × IsReplay words x × OfBoth c.content x (λ st rows. AreRowsRefused st rows why)
       go replay q is h = (q, is, h)
-      go _ q is h = absurd h
+      go check q is h = elim h [ inl x ↦ absurd x | inr x ↦ absurd x.2 ]
+      go generate q is h = elim h [ inl x ↦ absurd x | inr x ↦ absurd x.2 ]
 
   pub scan_fault : (k : ℕ) (f : ScanErr) → r ≡ status.ScanFault k f
       → (x : Replay) × IsReplay words x × (f ≡ scan.Budget → ⊥) × OfBoth c.content x (λ st rows. StopsAt st rows k (stopped f))
@@ -217,7 +219,8 @@ module _ (words : List Text) (c : Reading) (o : Writing) (e : Ended) (came : Com
       go : (j : Command) (q : Request j) → IsFor j words q → (work_of j q c.content).ends (status.ScanFault k f) e.variable
           → (x : Replay) × IsReplay words x × (f ≡ scan.Budget → ⊥) × OfBoth c.content x (λ st rows. StopsAt st rows k (stopped f))
       go replay q is h = (q, is, h.0, (h.1.0, h.1.1, h.1.2, h.1.3, h.1.4, h.1.5, h.1.6.0))
-      go _ q is h = absurd h
+      go check q is h = elim h [ inl x ↦ absurd x | inr x ↦ absurd x.2 ]
+      go generate q is h = elim h [ inl x ↦ absurd x | inr x ↦ absurd x.2 ]
 
   pub budget : (k : ℕ) → r ≡ status.Budget k → (x : Replay) × IsReplay words x × OfBoth c.content x (λ st rows. StopsAt st rows k OutOfTurns)
   budget k z = let h = ended (status.Budget k) (λ x. cc) refl (λ x. cc) z in go h.0.command h.0.request h.1 h.2
@@ -225,4 +228,5 @@ module _ (words : List Text) (c : Reading) (o : Writing) (e : Ended) (came : Com
       go : (j : Command) (q : Request j) → IsFor j words q → (work_of j q c.content).ends (status.Budget k) e.variable
           → (x : Replay) × IsReplay words x × OfBoth c.content x (λ st rows. StopsAt st rows k OutOfTurns)
       go replay q is h = (q, is, h)
-      go _ q is h = absurd h
+      go check q is h = elim h [ inl x ↦ absurd x | inr x ↦ absurd x.2 ]
+      go generate q is h = elim h [ inl x ↦ absurd x | inr x ↦ absurd x.2 ]

@@ -5,8 +5,8 @@ use Rattle.plc_face.specs.Face.{HasInterface}
 use Rattle.plc_face.specs.Scans.{NeverFaults, RunsFirstSteps, ScansLegally, ScansExactly, ShowsOutputs, StaysTyped}
 use Rattle.plc_back.specs.Texts.{IsLayoutOf, TheProgram}
 use Rattle.cif_accept.proofs.AcceptLaws as accept
-use Rattle.cif_generate.specs.Meaning.{IsTextOf, StartsInitial, meant_by, shown_of}
-use Rattle.cif_generate.specs.Generates.{generate_of}
+use Rattle.cif_generate.specs.Meaning.{AreClassed, IsTextOf, StartsInitial, meant_by, shown_of}
+use Rattle.cif_generate.specs.Generates.{generate_of, is_unclassed}
 use Rattle.cif_generate.proofs.GenerateLaws as law
 use Rattle.cif_generate.proofs.command.generate.Given.{Over}
 use Rattle.cif_generate.proofs.command.generate.Goals as goal
@@ -54,5 +54,15 @@ pub returns-clause-laid_out : goal.returns-clause-laid_out
 returns-clause-laid_out g c = law.writes (generate_of c.args.asked.now) (files_of g c) (out_of g c) c.run.result c.run.ensures.came c.run.result.status (inl refl)
     (λ t text. TheProgram text (IsLayoutOf text)) (law.laid_out c.args.asked.now.bounds.unc c.args.asked.now.bounds.con)
 
+pub returns-clause-classed : goal.returns-clause-classed
+returns-clause-classed g c = law.writes (generate_of c.args.asked.now) (files_of g c) (out_of g c) c.run.result c.run.ensures.came c.run.result.status (inl refl)
+    (λ t text. AreClassed t) (law.classed c.args.asked.now.bounds.unc c.args.asked.now.bounds.con)
+
 pub returns-clause-refused : goal.returns-clause-refused
-returns-clause-refused g c = accept.refused (generate_of c.args.asked.now).file (IsTextOf c.args.asked.now.bounds.unc c.args.asked.now.bounds.con) (files_of g c) (out_of g c) c.run.result c.run.ensures.came c.run.result.status (inl refl)
+returns-clause-refused g c = accept.refused (generate_of c.args.asked.now).file (IsTextOf c.args.asked.now.bounds.unc c.args.asked.now.bounds.con) is_unclassed (files_of g c) (out_of g c) c.run.result c.run.ensures.came c.run.result.status (inl refl) law.tells_own
+
+pub returns-clause-too_many : goal.returns-clause-too_many
+returns-clause-too_many g c = accept.too_many (generate_of c.args.asked.now).file (IsTextOf c.args.asked.now.bounds.unc c.args.asked.now.bounds.con) is_unclassed (files_of g c) (out_of g c) c.run.result c.run.ensures.came c.run.result.status (inl refl) law.tells_own
+
+pub returns-clause-unclassed : goal.returns-clause-unclassed
+returns-clause-unclassed g c = law.unclassed (generate_of c.args.asked.now) (files_of g c) (out_of g c) c.run.result c.run.ensures.came c.run.result.status (inl refl)

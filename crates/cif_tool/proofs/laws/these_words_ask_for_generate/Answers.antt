@@ -1,4 +1,4 @@
-use Rattle.std.proofs.Common.{◌≡◌, [], ◌∷◌, codes, refl, inl, arith}
+use Rattle.std.proofs.Common.{refl, inl, arith}
 use Rattle.std.specs.Fmt.{digits}
 use Rattle.cif_tool.proofs.laws.these_words_ask_for_generate.Goals as goal
 

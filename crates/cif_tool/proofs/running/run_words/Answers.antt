@@ -1,7 +1,6 @@
 -- What the command came to that the words ask for.
-use Rattle.std.proofs.Common.{List, map, string_bytes, refl, ap}
-use Rattle.grammar.specs.Pieces.{Text}
-use Rattle.cif_run.specs.Works.{Reading, Writing, reading, writing}
+use Rattle.std.proofs.Common.{map, string_bytes}
+use Rattle.cif_run.specs.Works.{reading, writing}
 use Rattle.cif_check.specs.Checks.{check_of}
 use Rattle.cif_generate.specs.Generates.{generate_of}
 use Rattle.cif_replay.specs.Replays.{replay_of}

@@ -1,14 +1,13 @@
 -- Each clause is one line from a law of the commands.
-use Rattle.std.proofs.Common.{◌≡◌, List, map, string_bytes, inl, inr, sym, ◌∙◌}
+use Rattle.std.proofs.Common.{List, map, string_bytes}
 use Rattle.grammar.specs.Pieces.{Text}
 use Rattle.plc_face.specs.Face.{HasInterface}
 use Rattle.plc_face.specs.Scans.{NeverFaults, RunsFirstSteps, ScansLegally, ScansExactly, ShowsOutputs, StaysTyped}
 use Rattle.plc_back.specs.Texts.{IsLayoutOf, TheProgram}
 use Rattle.cif_run.specs.declared.status.Status.TheVariants as status
-use Rattle.cif_run.specs.declared.ended.Ended.{Ended}
-use Rattle.cif_run.specs.Works.{Reading, Work, Writing, reading, writing}
+use Rattle.cif_run.specs.Works.{Reading, Writing, reading, writing}
 use Rattle.cif_run.proofs.CallLaws as call
-use Rattle.cif_generate.specs.Meaning.{StartsInitial, meant_by, shown_of}
+use Rattle.cif_generate.specs.Meaning.{AreClassed, StartsInitial, meant_by, shown_of}
 use Rattle.cif_generate.proofs.GenerateLaws as generates
 use Rattle.cif_replay.proofs.ReplayLaws as replays
 use Rattle.cif_tool.specs.Commands.{replay}
@@ -63,6 +62,10 @@ pub returns-clause-laid_out : goal.returns-clause-laid_out
 returns-clause-laid_out g c = tool.generated (texts g c) (files_of g c) (out_of g c) c.run_words-ended.result c.run_words-ended.ensures.came c.report.result c.report.ensures.unless_memory
     (λ m t text. TheProgram text (IsLayoutOf text)) (λ m t text. generates.laid_out m.unc m.con t text)
 
+pub returns-clause-classed : goal.returns-clause-classed
+returns-clause-classed g c = tool.generated (texts g c) (files_of g c) (out_of g c) c.run_words-ended.result c.run_words-ended.ensures.came c.report.result c.report.ensures.unless_memory
+    (λ m t text. AreClassed t) (λ m t text. generates.classed m.unc m.con t text)
+
 pub returns-clause-usage : goal.returns-clause-usage
 returns-clause-usage g c = tool.usage (texts g c) (files_of g c) (out_of g c) c.run_words-ended.result c.run_words-ended.ensures.came c.report.result c.report.ensures.unless_memory
 
@@ -71,6 +74,15 @@ returns-clause-no_command_is_usage g c = tool.no_command (texts g c) (files_of g
 
 pub returns-clause-refused : goal.returns-clause-refused
 returns-clause-refused g c = tool.refused (texts g c) (files_of g c) (out_of g c) c.run_words-ended.result c.run_words-ended.ensures.came c.report.result c.report.ensures.unless_memory
+
+pub returns-clause-too_many_choices : goal.returns-clause-too_many_choices
+returns-clause-too_many_choices g c = tool.too_many_choices (texts g c) (files_of g c) (out_of g c) c.run_words-ended.result c.run_words-ended.ensures.came c.report.result c.report.ensures.unless_memory
+
+pub returns-clause-unclassed : goal.returns-clause-unclassed
+returns-clause-unclassed g c = tool.unclassed (texts g c) (files_of g c) (out_of g c) c.run_words-ended.result c.run_words-ended.ensures.came c.report.result c.report.ensures.unless_memory
+
+pub returns-clause-unclassed_is_told : goal.returns-clause-unclassed_is_told
+returns-clause-unclassed_is_told g c = tool.unclassed_is_told (texts g c) (files_of g c) (out_of g c) c.run_words-ended.result c.run_words-ended.ensures.came c.report.result c.report.ensures.unless_memory
 
 pub returns-clause-checked : goal.returns-clause-checked
 returns-clause-checked g c = tool.checked (texts g c) (files_of g c) (out_of g c) c.run_words-ended.result c.run_words-ended.ensures.came c.report.result c.report.ensures.unless_memory

@@ -1,9 +1,19 @@
-use Rattle.cif_form.proofs.Whole.{read_is_named}
+-- The program is that of the net of the source in the file, and a refusal tells of an event of that source.
+use Rattle.std.proofs.Common.{Err, refl, ap}
+use Rattle.cif_run.specs.Works.{reading}
+use Rattle.cif_generate.specs.Generates.{generate_of}
+use Rattle.cif_generate.proofs.GenerateLaws as law
 use Rattle.cif_generate.proofs.command.GenerateCommand.text.Goals as goal
 
-pub program_text-requires-clause-named : goal.program_text-requires-clause-named
-program_text-requires-clause-named g c =
-    let h = c.in_ok-plant.ensures.built in read_is_named h.0 c.in_ok-plant.plant h.3
+pub generate_text-requires-clause-data : goal.generate_text-requires-clause-data
+generate_text-requires-clause-data g c = law.loaded_dataless (g.F.Files.content c.args.files.now) c.args.self.now.file.now c.in_ok-net.net c.in_ok-net.ensures.loaded
 
-pub program_text-requires-clause-plant : goal.program_text-requires-clause-plant
-program_text-requires-clause-plant g c = c.in_ok-plant.ensures.built.3.form.keeps
+pub returns-in-Ok-clause-writes : goal.returns-in-Ok-clause-writes
+returns-in-Ok-clause-writes g c = law.loaded_text (g.F.Files.content c.args.files.now) c.args.self.now.file.now c.in_ok-net.net c.in_ok-net.ensures.loaded
+    c.args.self.now.bounds.unc c.args.self.now.bounds.con c.in-Ok.text.items c.in-Ok.ensures.text
+
+pub returns-in-Err-Unclassed-clause-stops : goal.returns-in-Err-Unclassed-clause-stops
+returns-in-Err-Unclassed-clause-stops g c = law.unclassed_stops (g.F.Files.content c.args.files.now) c.args.self.now.file.now c.in_ok-net.net c.in_ok-net.ensures.loaded
+    (generate_of c.args.self.now) refl c.in-Err-Unclassed.event (c.in-Err-Unclassed.ensures.unclassed c.in-Err-Unclassed.event (ap Err c.in-Err-Unclassed.field-0-is))
+    (reading (g.F.Files.content c.args.files.now) (g.F.Files.faults c.args.files.now) (g.F.Files.faults c.accept_file.new.files) (g.F.Files.most c.accept_file.new.files))
+    c.unclassed.result c.unclassed.ensures
