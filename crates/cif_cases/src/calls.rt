@@ -21,7 +21,7 @@ impl Calls for CifCalls {
             "load" => load_case(fields, page),
             "emit" => emit_case(fields, page),
             "uses" => uses_case(fields, page),
-            "scopes" => scopes_case(fields, page),
+            "scopes" | "resolve" => scopes_case(call, fields, page),
             "find" => find_case(fields, page),
             "copy" => copy_case(fields, page),
             "items" | "automaton" | "location" | "edge" | "choice" | "outline" | "shape" | "tree" =>

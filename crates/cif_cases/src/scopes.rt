@@ -3,6 +3,7 @@
 use crate::sources::{put_no_tree, spec_of, value_of};
 use case_text::{Fault, Fields, Put, first_word, number};
 use cif_ast::{Form, Name, Spec};
+use cif_resolve::resolve;
 use cif_scope::{Found, Scopes, number_scopes};
 use std::alloc::Global;
 
@@ -15,19 +16,25 @@ fn put_counts(page: &mut String, scopes: &Scopes) -> Put {
     page.push('\n')
 }
 
-fn put_scopes(alloc: Global, page: &mut String, spec: &Spec) -> Put {
-    match number_scopes(alloc, spec) {
+fn put_scopes(alloc: Global, page: &mut String, spec: &Spec, resolves: bool) -> Put {
+    let answer = if resolves {
+        resolve(alloc, spec)
+    } else {
+        number_scopes(alloc, spec)
+    };
+    match answer {
         Err(error) => writeln!(page, "  {error:?}"),
         Ok(scopes) => put_counts(page, &scopes),
     }
 }
 
-/// `scopes TEXT`: how many names the scope of each body declares, in text order.
-pub fn scopes_case(fields: &Fields<'_>, page: &mut String) -> Result<(), Fault> {
+/// `scopes TEXT`: how many names the scope of each body declares, in text order. `resolve TEXT`: the same where the source keeps all
+/// rules on scopes.
+pub fn scopes_case(call: &str, fields: &Fields<'_>, page: &mut String) -> Result<(), Fault> {
     let text = fields.text()?;
     match spec_of(fields.alloc, text.as_slice()) {
         Err(why) => put_no_tree(page, why),
-        Ok(spec) => Ok(put_scopes(fields.alloc, page, &spec)?),
+        Ok(spec) => Ok(put_scopes(fields.alloc, page, &spec, call == "resolve")?),
     }
 }
 
