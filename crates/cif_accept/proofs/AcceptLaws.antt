@@ -12,7 +12,9 @@ use Rattle.cif_run.specs.Groups.{group_of, judged, IsUnlessMemory}
 use Rattle.cif_run.specs.Works.{Comes, Content, Failed, Holds, Input, IsLonger, Overlong, Reading, StopsIn, Unread, Work, Writing}
 use Rattle.cif_run.proofs.CallLaws.{IsWithin, answers, came_how, ended_so, finished}
 use Rattle.cif_accept.specs.Built.{Built, HasTooMany, IsRefused, ReadsAsBuilt}
-use Rattle.cif_accept.specs.Accepts.{BuiltEnds, FileRefused, SourceEnds, SourceHas, SourceHasTooMany, SourceIs, SourceRefused, no_ends, silent_work, source_input, source_limit, source_work}
+use Rattle.cif_net.specs.declared.guarded.Guarded.{Guarded}
+use Rattle.cif_front.specs.Loads.{Loads}
+use Rattle.cif_accept.specs.Accepts.{BuiltEnds, FileRefused, IsLoaded, SourceEnds, SourceHas, SourceHasTooMany, SourceIs, SourceRefused, no_ends, silent_work, source_input, source_limit, source_work}
 use Rattle.cif_accept.proofs.SourceLaws.{one_built, refused_reads_none, too_many_none}
 
 -- ---- the reader
@@ -27,6 +29,10 @@ source_stops content file bytes holds short c e (status.OutsideProfile (profile.
 source_stops content file bytes holds short c e (status.OutsideProfile (profile.Unclassed event)) is h = absurd h
 source_stops content file bytes holds short c e status.Memory is h = tt
 source_stops content file bytes holds short c e _ is h = absurd h
+
+-- the net of the bytes of the file is that of the source in it
+pub file_loaded : (content : Content) (file bytes : Text) (g : Guarded) → Holds (content file) bytes → length bytes ≤ source_limit → Loads bytes g → IsLoaded content file g
+file_loaded content file bytes g holds short l = (l.0, (bytes, holds, short, l.1), l.2)
 
 -- a command over the source may end as one that writes nothing
 pub silent_within : (content : Content) (file : Text) (P : Built → Text → Type 0) (E : BuiltEnds) → IsWithin (silent_work content file) (source_work content file P E)

@@ -1,5 +1,5 @@
 -- What is counted for all events, automaton by automaton.
-use Rattle.std.proofs.Common.{◌≡◌, ℕ, zero, suc, ◌+◌, ◌*◌, Bool, true, false, ◌||◌, List, [], ◌∷◌, replicate, sum_by, refl, sym, ◌∙◌, ap, if◌then◌else◌, arith}
+use Rattle.std.proofs.Common.{◌≡◌, ℕ, zero, suc, ◌+◌, ◌*◌, Bool, true, false, ◌||◌, List, [], ◌∷◌, sum_by, refl, sym, ◌∙◌, ap, if◌then◌else◌, arith}
 use Rattle.std.specs.List.{list_any, range_with_len}
 use Rattle.std.proofs.Math.Nat.{mul_assoc, add-mul, mul-add}
 use Rattle.std.proofs.lemmas.List.Sums.{sum_by-cons}
@@ -8,9 +8,9 @@ use Rattle.cif_model.specs.Net.{NetEdge, NetAuto}
 use Rattle.cif_model.specs.Listing.{syncs_on}
 use Rattle.cif_alg.specs.declared.tally.Tally.{Tally}
 use Rattle.cif_alg.specs.Weighed.{cut}
-use Rattle.cif_alg.specs.Tallies.{nothing_met, opened, with_edge, with_stay, closed, tally_nodes, opened_for, edges_noted, stays_noted, closed_for, tallied, all_tallied, tallies_nodes, counted}
-use Rattle.cif_alg.proofs.CutLaws.{cut-add_left, all-weighed}
-use Rattle.cif_alg.proofs.TableLaws.{table, same-table, filled-table, each_at, each-table}
+use Rattle.cif_alg.specs.Tallies.{nothing_met, opened, with_edge, with_stay, closed, tally_nodes, edges_noted, stays_noted, closed_for, tallied, all_tallied, tallies_nodes, counted}
+use Rattle.cif_alg.proofs.CutLaws.{all-weighed}
+use Rattle.cif_alg.proofs.TableLaws.{table, filled-table, each_at, each-table}
 use Rattle.cif_alg.proofs.TallyLaws.{resting, option_count, option_nodes, auto_at, auto-counted}
 
 -- ---- one event
@@ -37,6 +37,21 @@ autos_at (a ∷ autos) j t = autos_at autos j (auto_at 2 a j t)
 spread : (r w f d p v : ℕ) → (w * f + r * d) * p + r * f * v ≡ w * (f * p) + r * (d * p + f * v)
 spread r w f d p v = omega (arith, add-mul (w * f) (r * d) p, mul_assoc w f p, mul_assoc r d p, mul_assoc r f v, mul-add r (d * p) (f * v))
 
+or-false : (b : Bool) → (b || false) ≡ b
+or-false true = refl
+or-false false = refl
+
+or-assoc : (x y z : Bool) → (x || y || z) ≡ (x || (y || z))
+or-assoc true y z = refl
+or-assoc false y z = refl
+
+-- one option without nodes changes nothing
+same-resting : (r w : ℕ) (p : Bool) → resting (r * 1) (w * 1 + r * 0) (p || false) ≡ resting r w p
+same-resting r w p =
+    let e : r * 1 ≡ r = omega arith in
+    let f : w * 1 + r * 0 ≡ w = omega arith in
+    ap (λ k. resting k (w * 1 + r * 0) (p || false)) e ∙ ap (λ k. resting r k (p || false)) f ∙ ap (resting r w) (or-false p)
+
 one-counted : (a : NetAuto) (j r w : ℕ) (p : Bool) → auto_at 2 a j (resting r w p) ≡ resting (r * factor j a) (w * factor j a + r * addend j a) (p || syncs_on j a)
 one-counted a j r w p = auto-counted 2 a j r w p ∙ by (syncs_on j a) p
   where
@@ -44,39 +59,22 @@ one-counted a j r w p = auto-counted 2 a j r w p ∙ by (syncs_on j a) p
         ≡ resting (r * (if b then option_count j a else 1)) (w * (if b then option_count j a else 1) + r * (if b then option_nodes 2 j a else 0)) (q || b)
     by true true = refl
     by true false = refl
-    by false q =
-        let e : r * 1 ≡ r = omega arith in
-        let f : w * 1 + r * 0 ≡ w = omega arith in
-        sym (ap (λ k. resting k (w * 1 + r * 0) (q || false)) e ∙ ap (λ k. resting r k (q || false)) f ∙ ap (resting r w) (or-false q))
-      where
-        or-false : (b : Bool) → (b || false) ≡ b
-        or-false true = refl
-        or-false false = refl
+    by false q = sym (same-resting r w q)
 
 autos-counted : (autos : List NetAuto) (j r w : ℕ) (p : Bool)
     → autos_at autos j (resting r w p) ≡ resting (r * rows j autos) (w * rows j autos + r * rows_nodes j autos) (p || list_any (syncs_on j) autos)
-autos-counted [] j r w p =
-    let e : r * 1 ≡ r = omega arith in
-    let f : w * 1 + r * 0 ≡ w = omega arith in
-    sym (ap (λ k. resting k (w * 1 + r * 0) (p || false)) e ∙ ap (λ k. resting r k (p || false)) f ∙ ap (resting r w) (or-false p))
-  where
-    or-false : (b : Bool) → (b || false) ≡ b
-    or-false true = refl
-    or-false false = refl
+autos-counted [] j r w p = sym (same-resting r w p)
 autos-counted (a ∷ autos) j r w p =
     let f : ℕ = factor j a in
     let d : ℕ = addend j a in
     let q : ℕ = rows j autos in
     let v : ℕ = rows_nodes j autos in
+    let has : Bool = list_any (syncs_on j) autos in
     ap (autos_at autos j) (one-counted a j r w p)
     ∙ autos-counted autos j (r * f) (w * f + r * d) (p || syncs_on j a)
-    ∙ ap (λ k. resting k ((w * f + r * d) * q + r * f * v) (p || syncs_on j a || list_any (syncs_on j) autos)) (mul_assoc r f q)
-    ∙ ap (λ k. resting (r * (f * q)) k (p || syncs_on j a || list_any (syncs_on j) autos)) (spread r w f d q v)
-    ∙ ap (resting (r * (f * q)) (w * (f * q) + r * (d * q + f * v))) (or-assoc p (syncs_on j a) (list_any (syncs_on j) autos))
-  where
-    or-assoc : (x y z : Bool) → (x || y || z) ≡ (x || (y || z))
-    or-assoc true y z = refl
-    or-assoc false y z = refl
+    ∙ ap (λ k. resting k ((w * f + r * d) * q + r * f * v) (p || syncs_on j a || has)) (mul_assoc r f q)
+    ∙ ap (λ k. resting (r * (f * q)) k (p || syncs_on j a || has)) (spread r w f d q v)
+    ∙ ap (resting (r * (f * q)) (w * (f * q) + r * (d * q + f * v))) (or-assoc p (syncs_on j a) has)
 
 -- the nodes of all choices for an event
 abbrev pub event_total : List NetAuto → ℕ → ℕ

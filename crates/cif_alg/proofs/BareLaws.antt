@@ -1,7 +1,7 @@
 -- What a net that reads and writes nothing keeps.
-use Rattle.std.proofs.Common.{◌≡◌, ℕ, zero, suc, ◌+◌, ◌*◌, max, Bool, true, false, not, ◌&&◌, ◌||◌, nat_eq, List, [], ◌∷◌, ◌++◌, map, length, filter, flat_map, sum_by, Option, Some, None, is_none, option_to_list, slice_get, refl, sym, ◌∙◌, ap, if◌then◌else◌, arith}
+use Rattle.std.proofs.Common.{◌≡◌, ℕ, zero, suc, ◌*◌, Bool, true, false, not, ◌&&◌, ◌||◌, nat_eq, List, [], ◌∷◌, ◌++◌, map, length, flat_map, sum_by, Option, Some, None, is_none, option_to_list, slice_get, refl, ◌∙◌, ap, if◌then◌else◌, arith}
 use Rattle.std.specs.List.{list_all, list_any}
-use Rattle.std.proofs.Math.Nat.{suc-mul}
+use Rattle.std.proofs.lemmas.List.Folds.{list_all-append}
 use Rattle.std.proofs.lemmas.List.Sums.{sum_by-cons}
 use Rattle.cif_system.specs.System.{Role, syncing, sending, receiving, Range}
 use Rattle.cif_system.specs.Step.{same_role, is_channel_of, is_channel, is_for, has_edge, is_party}
@@ -9,10 +9,10 @@ use Rattle.cif_term.specs.Tree.{NetExpr, net_expr, n_truth, NetUpdates, no_net_u
 use Rattle.cif_model.specs.Net.{NetChan, no_net_chan, void_net_chan, net_chan_of, NetEdge, NetAuto, NetEvent, Net}
 use Rattle.cif_model.specs.Meaning.{edge_meant, automaton_in, event_in, system_of_net}
 use Rattle.cif_model.specs.Exprs.{updates_exprs, edge_exprs, all_edges, other_exprs, all_exprs}
-use Rattle.cif_model.specs.Listing.{is_edge_for, syncs_on}
+use Rattle.cif_model.specs.Listing.{syncs_on}
 use Rattle.cif_model.specs.Facts.{channel_of, is_net}
 use Rattle.cif_model.specs.Shown.{channel_range}
-use Rattle.cif_model.specs.Counts.{Measure, no_form, all_beside, alg_measures, measure, size_of, depth, is_too_large}
+use Rattle.cif_model.specs.Counts.{all_beside, alg_measures, measure, size_of, depth, is_too_large}
 use Rattle.cif_model.specs.Rules.{Evaluated, edge_evaluated, evaluated, is_plain_expr, invariant_keeps, is_plain}
 use Rattle.cif_model.proofs.Passing.{and-left, and-right}
 use Rattle.cif_alg.specs.Bare.{is_empty, is_truth, assigns_nothing, is_bare_edge, is_bare_auto, is_no_channel, is_bare}
@@ -124,8 +124,7 @@ bare-parties n e (a ∷ autos) h =
 -- ---- expressions
 
 all-append : {A : Type 0} (p : A → Bool) (xs ys : List A) → list_all p xs ≡ true → list_all p ys ≡ true → list_all p (xs ++ ys) ≡ true
-all-append p [] ys h k = k
-all-append p (x ∷ xs) ys h k = both (p x) (list_all p (xs ++ ys)) (and-left _ _ h) (all-append p xs ys (and-right _ _ h) k)
+all-append p xs ys h k = list_all-append p xs ys ∙ both (list_all p xs) (list_all p ys) h k
 
 all-spread : {A B : Type 0} (q : A → Bool) (p : B → Bool) (f : A → List B) → ((x : A) → q x ≡ true → list_all p (f x) ≡ true) → (xs : List A) → list_all q xs ≡ true → list_all p (flat_map f xs) ≡ true
 all-spread q p f h [] k = refl

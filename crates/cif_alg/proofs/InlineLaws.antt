@@ -3,15 +3,13 @@ use Rattle.std.proofs.Common.{◌≡◌, ℕ, ◌+◌, ◌*◌, ◌≤◌, ◌<�
 use Rattle.std.specs.List.{list_all, list_any, range_with_len}
 use Rattle.std.proofs.lemmas.Bool.Decides.{nat_tests}
 use Rattle.std.proofs.lemmas.List.Sums.{sum_by-cons}
-use Rattle.cif_system.specs.Step.{is_party}
 use Rattle.cif_system.specs.Choices.{product_by}
 use Rattle.cif_system.proofs.Lists.{map-length}
 use Rattle.cif_model.specs.Net as n
-use Rattle.cif_model.specs.Meaning.{automaton_in, event_in}
-use Rattle.cif_model.specs.Listing.{syncs_on, monitors_event}
-use Rattle.cif_model.specs.Facts.{is_net}
+use Rattle.cif_model.specs.Meaning.{event_in}
+use Rattle.cif_model.specs.Listing.{syncs_on}
 use Rattle.cif_model.specs.Counts.{sizes, size_of, exclusions_of, invariant_exprs, event_nodes, nodes, depth, weight, stopped, most_nodes, most_depth, is_too_large}
-use Rattle.cif_model.specs.Rules.{Needs, IsAcyclic, TooLarge, is_plain}
+use Rattle.cif_model.specs.Rules.{IsAcyclic, TooLarge, is_plain}
 use Rattle.cif_model.proofs.Passing.{and-left, and-right}
 use Rattle.cif_model.proofs.CycleLaws.{acyclic-by_rank}
 use Rattle.cif_net.specs.declared.net.Net.{Net}
@@ -20,10 +18,10 @@ use Rattle.cif_alg.specs.Bare.{is_bare_auto, is_bare}
 use Rattle.cif_alg.specs.Keeps.{KeepsAlgebraic}
 use Rattle.cif_alg.specs.Weighed.{cut}
 use Rattle.cif_alg.specs.Tallies.{counted}
-use Rattle.cif_alg.proofs.TallyLaws.{edges_for, option_count, option_nodes}
+use Rattle.cif_alg.proofs.TallyLaws.{option_count, option_nodes}
 use Rattle.cif_alg.proofs.AutoLaws.{factor, addend, rows, rows_nodes, event_total, counted_are}
 use Rattle.cif_alg.proofs.ProductLaws.{keyed}
-use Rattle.cif_alg.proofs.NodeLaws.{edge_weight, own_edges, stays, option_weight, auto_options, base, event-nodes, options-counted, options-weighed}
+use Rattle.cif_alg.proofs.NodeLaws.{edge_weight, own_edges, option_weight, auto_options, base, event-nodes, options-counted, options-weighed}
 use Rattle.cif_alg.proofs.BareLaws.{own-same, own-weighed, bare-parties, no-algs, no-exclusions, no-invariants, no-channels, bare-autos, no-measures, no-depth, bare-plain}
 use Rattle.cif_alg.proofs.KeepLaws.{plain-keeps}
 

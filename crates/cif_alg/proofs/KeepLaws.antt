@@ -1,18 +1,17 @@
 -- A plain net breaks none of the rules on algebraic variables, intervals, state invariants and sizes.
-use Rattle.std.proofs.Common.{◌≡◌, ℕ, pos, Bool, true, false, not, List, [], ◌∷◌, ◌++◌, map, flat_map, Some, slice_get, refl, sym, ◌∙◌, ap, subst}
+use Rattle.std.proofs.Common.{◌≡◌, ℕ, pos, Bool, true, false, not, map, flat_map, sym, ◌∙◌}
 use Rattle.std.specs.List.{list_all}
 use Rattle.cif_system.specs.System.{in_range}
 use Rattle.cif_system.specs.Words.{Member}
 use Rattle.cif_system.proofs.Picks.{append-right, map-member, flat_map-member, at-member}
 use Rattle.cif_system.proofs.Distinct.{member-flat_map}
 use Rattle.cif_term.specs.Tree.{NetExpr}
-use Rattle.cif_model.specs.Net.{NetAlg, NetExclusion, NetInvariant, Net}
-use Rattle.cif_model.specs.Interval.{declared_ranges, interval, range_of, truths}
+use Rattle.cif_model.specs.Net.{NetExclusion, NetInvariant, Net}
+use Rattle.cif_model.specs.Interval.{declared_ranges, range_of, truths}
 use Rattle.cif_model.specs.Exprs.{alg_exprs, all_edges, other_exprs}
-use Rattle.cif_model.specs.Reads.{an_alg, alg_passes, names_in, reads_input}
-use Rattle.cif_model.specs.Parts.{parts, own_divisors, divisors, part_divides, is_narrow}
-use Rattle.cif_model.specs.Counts.{is_too_large}
-use Rattle.cif_model.specs.Rules.{Needs, IsAcyclic, Evaluated, edge_evaluated, evaluated, AlgCycle, ZeroDivisor, TooWide, InvariantReadsInput, InvariantFalse, TooLarge, holds_first, is_plain_expr, invariant_keeps, is_plain}
+use Rattle.cif_model.specs.Reads.{an_alg, alg_passes, names_in}
+use Rattle.cif_model.specs.Parts.{parts, own_divisors, part_divides, is_narrow}
+use Rattle.cif_model.specs.Rules.{Needs, IsAcyclic, Evaluated, edge_evaluated, evaluated, ZeroDivisor, TooWide, InvariantReadsInput, InvariantFalse, TooLarge, invariant_keeps, is_plain}
 use Rattle.cif_model.proofs.Passing.{and-left, and-right, not-true, all-member}
 use Rattle.cif_model.proofs.PlainLaws.{never, plain-expr}
 use Rattle.cif_model.proofs.CycleLaws.{acyclic-by_rank}

@@ -7,3 +7,4 @@ mod NodeLaws
 mod BareLaws
 mod KeepLaws
 mod InlineLaws
+mod Rows

@@ -1,5 +1,5 @@
 -- The nodes of the choices for an event that is no channel, by what each automaton may do for it.
-use Rattle.std.proofs.Common.{◌≡◌, ℕ, zero, suc, ◌+◌, ◌*◌, Bool, true, false, nat_eq, List, [], ◌∷◌, ◌++◌, map, length, filter, filter_map, flat_map, zip, sum_by, Option, Some, None, slice_get, refl, sym, ◌∙◌, ap, subst, length-append, if◌then◌else◌, arith}
+use Rattle.std.proofs.Common.{◌≡◌, ℕ, suc, ◌+◌, ◌*◌, Bool, true, false, List, [], ◌∷◌, ◌++◌, map, length, filter, filter_map, flat_map, zip, sum_by, Option, Some, None, slice_get, refl, sym, ◌∙◌, ap, subst, length-append, if◌then◌else◌, arith}
 use Rattle.std.specs.List.{cons_option, enumerate_from, list_any}
 use Rattle.std.proofs.Math.Nat.{suc-mul}
 use Rattle.std.proofs.lemmas.List.Sums.{sum_by-cons, sum_by-append}
@@ -13,15 +13,11 @@ use Rattle.cif_model.specs.Exprs.{edge_exprs}
 use Rattle.cif_model.specs.Listing.{NetMove, syncs_on, monitors_event, is_edge_for, move_if, edge_at}
 use Rattle.cif_model.specs.Counts.{measure, size_of, exclusions_of, invariant_exprs, choice_nodes, event_nodes, weight}
 use Rattle.cif_model.proofs.CountLaws.{product-length}
-use Rattle.cif_alg.proofs.ProductLaws.{keyed, sum-mapped, keyed-weight}
+use Rattle.cif_alg.proofs.ProductLaws.{map-map, keyed, sum-mapped, keyed-weight}
 
 sum-based : {A : Type 0} (c : ℕ) (f g : A → ℕ) → ((x : A) → f x ≡ c + g x) → (xs : List A) → sum_by f xs ≡ length xs * c + sum_by g xs
 sum-based c f g h [] = omega arith
 sum-based c f g h (x ∷ xs) = omega (arith, sum_by-cons f x xs, sum_by-cons g x xs, h x, sum-based c f g h xs, suc-mul (length xs) c)
-
-map-map : {A B C : Type 0} (f : B → C) (g : A → B) (xs : List A) → map f (map g xs) ≡ map (λ x. f (g x)) xs
-map-map f g [] = refl
-map-map f g (x ∷ xs) = ap (λ ys. f (g x) ∷ ys) (map-map f g xs)
 
 -- the party and the expressions of an edge
 abbrev pub edge_weight : Net → NetEdge → ℕ
@@ -90,8 +86,10 @@ module _ (n : Net) (e : ℕ) where
     where
       channels : List Choice
       channels = channel_choices (system_of_net n) e
+
       all : List Choice
       all = product_of (map auto_options n.autos)
+
       by : (b : Bool) → sum_by (choice_nodes n e) (if b then product_of (map (options e) (map (automaton_in n) n.autos)) else [])
           ≡ (if b then product_by length (map auto_options n.autos) * base + weight option_weight (map (keyed auto_options) n.autos) else 0)
       by true =
@@ -123,6 +121,7 @@ module _ (n : Net) (e : ℕ) where
     where
       w : Option ℕ → ℕ
       w o = option_weight (a, o)
+
       by : (b : Bool) → sum_by (λ o. option_weight (a, o)) (numbers (k + 1) xs) ≡ sum_by (edge_weight n) (own_edges e xs)
           → sum_by (λ o. option_weight (a, o)) (cons_option (if b then Some (Some k) else None) (numbers (k + 1) xs)) ≡ sum_by (edge_weight n) (if b then x ∷ own_edges e xs else own_edges e xs)
       by true r =
@@ -145,8 +144,10 @@ module _ (n : Net) (e : ℕ) where
     where
       w : Option ℕ → ℕ
       w o = option_weight (a, o)
+
       own : sum_by (λ o. option_weight (a, o)) (numbers 0 a.edges) ≡ sum_by (edge_weight n) (own_edges e a.edges)
       own = numbers-weighed a 0 a.edges (λ i y g. let m : i ≡ 0 + i = omega arith in subst (λ q. slice_get a.edges q ≡ Some y) m g)
+
       by : (b s : Bool) → syncs_on e a ≡ b → sum_by (λ o. option_weight (a, o)) (if b then numbers 0 a.edges ++ stay s else None ∷ []) ≡ (if b then sum_by (edge_weight n) (own_edges e a.edges) + (if s then 1 else 0) else 0)
       by true true h =
           let one : option_weight (a, None) ≡ 1 = ap (λ (b : Bool). let k : ℕ = if b then 1 else 0 in k) h in

@@ -1,17 +1,17 @@
 -- What is counted for one event, by what automata may do for it.
-use Rattle.std.proofs.Common.{◌≡◌, ℕ, zero, suc, ◌+◌, ◌*◌, Bool, true, false, ◌||◌, nat_eq, List, [], ◌∷◌, filter, length, Option, Some, None, refl, sym, ◌∙◌, ap, if◌then◌else◌, arith}
+use Rattle.std.proofs.Common.{◌≡◌, ℕ, suc, ◌+◌, ◌*◌, Bool, true, false, ◌||◌, nat_eq, List, [], ◌∷◌, filter, length, Option, Some, None, refl, sym, ◌∙◌, ap, if◌then◌else◌, arith}
 use Rattle.std.specs.List.{list_any}
-use Rattle.std.proofs.Math.Nat.{mul_assoc, add-mul, mul-add, mul_comm, suc-mul}
+use Rattle.std.proofs.Math.Nat.{mul_comm, suc-mul}
 use Rattle.std.proofs.lemmas.Bool.Decides.{nat_tests}
 use Rattle.cif_model.specs.Net.{NetEdge, NetAuto}
-use Rattle.cif_model.specs.Listing.{syncs_on, monitors_event}
+use Rattle.cif_model.specs.Listing.{syncs_on}
 use Rattle.cif_alg.specs.declared.weighed.Weighed.{Weighed}
 use Rattle.cif_alg.specs.declared.tally.Options.{Options}
 use Rattle.cif_alg.specs.declared.tally.Tally.{Tally}
-use Rattle.cif_alg.specs.Weighed.{weighed, with_one, paired}
+use Rattle.cif_alg.specs.Weighed.{weighed, paired}
 use Rattle.cif_alg.specs.Tallies.{opened, with_edge, with_stay, all_options, closed}
 use Rattle.cif_alg.proofs.CutLaws.{one_more, pairs}
-use Rattle.cif_alg.proofs.TableLaws.{changed_at, each_at}
+use Rattle.cif_alg.proofs.TableLaws.{each_at}
 
 -- between automata: the choices so far, with their nodes, and whether there is a party
 abbrev pub resting : (choices nodes : ℕ) → Bool → Tally
@@ -40,6 +40,7 @@ each-once g twice (e ∷ es) j t =
     either : (b : Bool) → (if b then g (g t) else g t) ≡ g t
     either true = twice t
     either false = refl
+
     by : (b : Bool) → ((u : Tally) → each_at (λ x. x) g es j u ≡ (if list_any (nat_eq j) es then g u else u)) → each_at (λ x. x) g es j (if b then g t else t) ≡ (if b || list_any (nat_eq j) es then g t else t)
     by true r = r (g t) ∙ either (list_any (nat_eq j) es)
     by false r = r t
@@ -56,12 +57,19 @@ each-ignored key g (x ∷ xs) j t h = ap (each_at key g xs j) (by (nat_eq (key x
 opened-twice : (t : Tally) → opened (opened t) ≡ opened t
 opened-twice t = refl
 
-closed-twice : (t : Tally) → closed (closed t) ≡ closed t
-closed-twice t = by t.options refl
+stay-twice : (t : Tally) → with_stay (with_stay t) ≡ with_stay t
+stay-twice t = again t.options
   where
-    by : (o : Option Options) → t.options ≡ o → closed (closed t) ≡ closed t
-    by None h = ap closed (ap (λ q. elim q [ None ↦ t | Some o ↦ record { choices = paired t.choices (all_options o); has_party = true; options = None } ]) h)
-    by (Some o) h = ap (λ u. closed u) (ap (λ q. elim q [ None ↦ t | Some x ↦ record { choices = paired t.choices (all_options x); has_party = true; options = None } ]) h) ∙ sym (ap (λ q. elim q [ None ↦ t | Some x ↦ record { choices = paired t.choices (all_options x); has_party = true; options = None } ]) h)
+    again : (o : Option Options) → let u : Tally = record { choices = t.choices; has_party = t.has_party; options = o } in with_stay (with_stay u) ≡ with_stay u
+    again None = refl
+    again (Some o) = refl
+
+closed-twice : (t : Tally) → closed (closed t) ≡ closed t
+closed-twice t = again t.options
+  where
+    again : (o : Option Options) → let u : Tally = record { choices = t.choices; has_party = t.has_party; options = o } in closed (closed u) ≡ closed u
+    again None = refl
+    again (Some o) = refl
 
 -- ---- one automaton
 
@@ -86,14 +94,14 @@ edges-counted ch p s w j (x ∷ xs) c n = by (nat_eq x.event j) (edges-counted c
     by false r = r c n
 
 -- how many options an automaton has that has the event, and their nodes, where an edge has w
-abbrev pub stays : ℕ → NetAuto → ℕ
-stays j a = if list_any (nat_eq j) a.monitors then 1 else 0
+abbrev pub own_stay : ℕ → NetAuto → ℕ
+own_stay j a = if list_any (nat_eq j) a.monitors then 1 else 0
 
 abbrev pub option_count : ℕ → NetAuto → ℕ
-option_count j a = length (edges_for j a.edges) + stays j a
+option_count j a = length (edges_for j a.edges) + own_stay j a
 
 abbrev pub option_nodes : (w : ℕ) → ℕ → NetAuto → ℕ
-option_nodes w j a = w * length (edges_for j a.edges) + stays j a
+option_nodes w j a = w * length (edges_for j a.edges) + own_stay j a
 
 abbrev pub auto_at : (w : ℕ) → NetAuto → (j : ℕ) → Tally → Tally
 auto_at w a j t = each_at (λ e. e) closed a.alphabet j (each_at (λ e. e) with_stay a.monitors j (each_at (λ (x : NetEdge). x.event) (with_edge w) a.edges j (each_at (λ e. e) opened a.alphabet j t)))
@@ -108,14 +116,8 @@ closed-busy r w c n p s =
     ∙ ap (λ (o : Weighed). record { choices = o; has_party = true; options = None }) (pairs r w (c + (if s then 1 else 0)) (n + (if s then 1 else 0)))
 
 stays-noted : (ch : Weighed) (p : Bool) (c n : ℕ) (ms : List ℕ) (j : ℕ) → each_at (λ e. e) with_stay ms j (busy ch p c n false) ≡ busy ch p c n (list_any (nat_eq j) ms)
-stays-noted ch p c n ms j = each-once with_stay twice ms j (busy ch p c n false) ∙ by (list_any (nat_eq j) ms)
+stays-noted ch p c n ms j = each-once with_stay stay-twice ms j (busy ch p c n false) ∙ by (list_any (nat_eq j) ms)
   where
-    twice : (t : Tally) → with_stay (with_stay t) ≡ with_stay t
-    twice t = again t.options
-      where
-        again : (o : Option Options) → let u : Tally = record { choices = t.choices; has_party = t.has_party; options = o } in with_stay (with_stay u) ≡ with_stay u
-        again None = refl
-        again (Some o) = refl
     by : (b : Bool) → (if b then with_stay (busy ch p c n false) else busy ch p c n false) ≡ busy ch p c n b
     by true = refl
     by false = refl
@@ -130,14 +132,19 @@ auto-counted v a j r w p =
   where
     edging : Tally → Tally
     edging t = each_at (λ (x : NetEdge). x.event) (with_edge v) a.edges j t
+
     staying : Tally → Tally
     staying t = each_at (λ e. e) with_stay a.monitors j t
+
     closing : Tally → Tally
     closing t = each_at (λ e. e) closed a.alphabet j t
+
     s : Bool
     s = list_any (nat_eq j) a.monitors
+
     k : ℕ
     k = length (edges_for j a.edges)
+
     by : (b : Bool) → (let t : Tally = staying (edging (if b then opened (resting r w p) else resting r w p)) in if b then closed t else t)
         ≡ (if b then resting (r * option_count j a) (w * option_count j a + r * option_nodes v j a) true else resting r w p)
     by true =

@@ -1,5 +1,5 @@
 -- What is counted for each event, automaton by automaton.
-use Rattle.std.specs.Prelude.{ℕ, ◌+◌, true, false, List, [], ◌∷◌, Option, Some, None, option_map, replicate, slice_get, slice_set, if◌then◌else◌}
+use Rattle.std.specs.Prelude.{ℕ, ◌+◌, true, false, List, [], ◌∷◌, Some, None, option_map, replicate, slice_get, slice_set, if◌then◌else◌}
 use Rattle.cif_model.specs.Net.{NetEdge, NetAuto}
 use Rattle.cif_alg.specs.declared.weighed.Weighed.{Weighed}
 use Rattle.cif_alg.specs.declared.tally.Options.{Options}

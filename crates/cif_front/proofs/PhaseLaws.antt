@@ -1,17 +1,16 @@
 -- What each phase keeps of a source of the built forms, and why its refusal is due.
-use Rattle.std.proofs.Common.{◌≡◌, ℕ, ◌≤◌, ◌<◌, Bool, true, false, List, [], ◌∷◌, map, refl, sym, ◌∙◌, ap, subst, arith}
+use Rattle.std.proofs.Common.{◌≡◌, ℕ, ◌≤◌, Bool, true, false, refl, sym, ◌∙◌, ap, subst, arith}
 use Rattle.std.specs.Prelude.{◌&&◌, is_none}
 use Rattle.std.specs.List.{list_all}
 use Rattle.cif_system.specs.System.{syncing}
-use Rattle.cif_system.specs.Words.{Member, Exceeds}
+use Rattle.cif_system.specs.Words.{Exceeds}
 use Rattle.cif_system.specs.Choices.{all_choices}
 use Rattle.cif_system.specs.Step.{same_role}
-use Rattle.cif_model.specs.Net.{NetEdge, NetEvent, Net, no_net_chan}
+use Rattle.cif_model.specs.Net.{NetEdge, Net, no_net_chan}
 use Rattle.cif_model.specs.Counts.{most_choices}
 use Rattle.cif_model.specs.Meaning.{system_of_net}
 use Rattle.cif_model.specs.Rules.{TooLarge}
 use Rattle.cif_source.specs.Source.{Source}
-use Rattle.cif_source.specs.Step.{system_of}
 use Rattle.cif_scope.specs.Scopes.{AreScopesOf}
 use Rattle.cif_scope.specs.declared.error.ScopeErr.{ScopeErr}
 use Rattle.cif_scope.specs.declared.error.ScopeErr.TheVariants as scope

@@ -1,5 +1,5 @@
 -- Why a refusal of a text is due, and what a loaded net is of.
-use Rattle.std.proofs.Common.{◌≡◌, ℕ, ◌≤◌, true, false, length, Option, Some, None, refl}
+use Rattle.std.proofs.Common.{◌≡◌, true, Option, Some, None, refl}
 use Rattle.grammar.specs.Pieces.{Text}
 use Rattle.cif_lex.specs.Tokens.{RefusalDue}
 use Rattle.cif_lex.specs.declared.error.LexErr.{LexErr}

@@ -51,7 +51,6 @@ fn net_of(alloc: Global, spec: &Spec, scopes: &Scopes) -> Result<Net, Refusal>
 }
 
 /// The plain net of a source, by its net.
-#[tactic(auto, using(crate::proofs::PhaseLaws::net_bare, crate::proofs::PhaseLaws::size_kept, crate::proofs::PhaseLaws::alg_due))]
 fn plain_of(alloc: Global, _spec: &Spec, net: Net) -> Result<Plain, Refusal>
     requires represents { Represents (net_tree net) (source_of _spec.now) }
     requires names { KeepsNames (source_of _spec.now) }
@@ -62,11 +61,13 @@ fn plain_of(alloc: Global, _spec: &Spec, net: Net) -> Result<Plain, Refusal>
     ensures size { IfOk result (λ p. KeepsSize (source_of _spec.now)) }
     ensures refused { IfErr result (λ e. IsDueOf (source_of _spec.now) e) }
 {
-    Ok(inline(alloc, net)?)
+    match inline(alloc, net) {
+        Ok(plain) => Ok(plain),
+        Err(error) => Err(Refusal::from(error)),
+    }
 }
 
 /// The net of a source with the choices of all events, by its plain net.
-#[tactic(auto, using(crate::proofs::PhaseLaws::all_kept, crate::proofs::PhaseLaws::lin_due))]
 fn guarded_of(alloc: Global, _spec: &Spec, plain: Plain) -> Result<Guarded, Refusal>
     requires represents { Represents (net_tree plain.net) (source_of _spec.now) }
     requires names { KeepsNames (source_of _spec.now) }
@@ -78,8 +79,10 @@ fn guarded_of(alloc: Global, _spec: &Spec, plain: Plain) -> Result<Guarded, Refu
     ensures refused { IfErr result (λ e. IsDueOf (source_of _spec.now) e) }
 {
     let roles = roles(alloc, &plain)?;
-    let linear = linearise(alloc, &plain, &roles)?;
-    Ok(guard(alloc, plain, linear)?)
+    match linearise(alloc, &plain, &roles) {
+        Ok(linear) => Ok(guard(alloc, plain, linear)?),
+        Err(error) => Err(Refusal::from(error)),
+    }
 }
 
 /// The net of a source of the forms that are built so far, with the choices of all events, or the first rule that it breaks.

@@ -1,0 +1,126 @@
+-- Worked examples, each by computing: the nodes of a net, and what is counted.
+use Rattle.std.proofs.Common.{◌≡◌, ℕ, ◌+◌, ◌*◌, true, false, List, [], ◌∷◌, length, replicate, refl}
+use Rattle.cif_system.specs.System.{plain}
+use Rattle.cif_system.specs.Choices.{all_choices}
+use Rattle.cif_term.specs.Tree.{no_net_updates}
+use Rattle.cif_model.specs.Net.{no_net_chan, NetEdge, NetAuto, Net}
+use Rattle.cif_model.specs.Meaning.{system_of_net}
+use Rattle.cif_model.specs.Counts.{nodes, depth}
+use Rattle.cif_model.specs.Rules.{is_plain}
+use Rattle.cif_model.proofs.Examples.{sure, event, edge, auto, net_with, counter, channel, bounded, cycle}
+use Rattle.cif_alg.specs.Bare.{is_bare}
+use Rattle.cif_alg.specs.Tallies.{counted}
+
+-- so many edges for event 0
+abbrev with_edges : ℕ → NetAuto
+with_edges k = auto (0 ∷ []) (replicate k (edge sure no_net_updates []))
+
+abbrev monitoring : ℕ → NetAuto
+monitoring k = record (with_edges k) { monitors = 0 ∷ 0 ∷ [] }
+
+abbrev net : List NetAuto → Net
+net autos = net_with (event plain no_net_chan) autos
+
+abbrev nodes_counted : Net → ℕ
+nodes_counted n = counted n.autos (length n.events)
+
+-- three edges and four: twelve choices, each itself, two parties and two guards
+abbrev two : Net
+two = net (with_edges 3 ∷ with_edges 4 ∷ [])
+
+two_is_bare : is_bare two ≡ true
+two_is_bare = refl
+
+two_is_plain : is_plain two ≡ true
+two_is_plain = refl
+
+two_choices : all_choices (system_of_net two) ≡ 12
+two_choices = refl
+
+two_nodes : nodes two ≡ 12 * (1 + 2 + 2)
+two_nodes = refl
+
+two_counted : nodes_counted two ≡ 60
+two_counted = refl
+
+two_depth : depth two ≡ 0
+two_depth = refl
+
+-- one of them may also stay, as a party without a guard
+abbrev watched : Net
+watched = net (monitoring 3 ∷ with_edges 4 ∷ [])
+
+watched_nodes : nodes watched ≡ 12 * (1 + 2 + 2) + 4 * (1 + 2 + 1)
+watched_nodes = refl
+
+watched_counted : nodes_counted watched ≡ 76
+watched_counted = refl
+
+-- an automaton that always stays
+abbrev idle : Net
+idle = net (monitoring 0 ∷ [])
+
+idle_nodes : nodes idle ≡ 1 + 1
+idle_nodes = refl
+
+idle_counted : nodes_counted idle ≡ 2
+idle_counted = refl
+
+-- one that has the event and no edge for it blocks it
+abbrev blocked : Net
+blocked = net (with_edges 0 ∷ with_edges 4 ∷ [])
+
+blocked_nodes : nodes blocked ≡ 0
+blocked_nodes = refl
+
+blocked_counted : nodes_counted blocked ≡ 0
+blocked_counted = refl
+
+-- an event that nobody has
+abbrev lonely : Net
+lonely = net (auto [] [] ∷ [])
+
+lonely_nodes : nodes lonely ≡ 0
+lonely_nodes = refl
+
+lonely_counted : nodes_counted lonely ≡ 0
+lonely_counted = refl
+
+-- one that stands twice in an alphabet
+abbrev repeated : Net
+repeated = net (record (with_edges 3) { alphabet = 0 ∷ 0 ∷ [] } ∷ [])
+
+repeated_nodes : nodes repeated ≡ 3 * (1 + 1 + 1)
+repeated_nodes = refl
+
+repeated_counted : nodes_counted repeated ≡ 9
+repeated_counted = refl
+
+-- 1,000,000 nodes, and three more of another event
+abbrev second : NetEdge
+second = record (edge sure no_net_updates []) { event = 1 }
+
+abbrev largest : Net
+largest = net (with_edges 400 ∷ with_edges 500 ∷ [])
+
+largest_counted : nodes_counted largest ≡ 1000000
+largest_counted = refl
+
+abbrev larger : Net
+larger = record largest { autos = with_edges 400 ∷ with_edges 500 ∷ auto (1 ∷ []) (second ∷ []) ∷ []; events = event plain no_net_chan ∷ event plain no_net_chan ∷ [] }
+
+larger_counted : nodes_counted larger ≡ 1000001
+larger_counted = refl
+
+-- nets that read or write something
+counter_is_not_bare : is_bare (counter sure) ≡ false
+counter_is_not_bare = refl
+
+channel_is_not_bare : is_bare channel ≡ false
+channel_is_not_bare = refl
+
+bounded_is_not_bare : is_bare bounded ≡ false
+bounded_is_not_bare = refl
+
+cycle_is_not_bare : is_bare cycle ≡ false
+cycle_is_not_bare = refl
