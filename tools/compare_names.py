@@ -301,148 +301,6 @@ class Writer:
             self.own_name(body, [slot.name for slot in body.slots if slot.sort == LOCATION], LOCATION)
 
 
-<<<<<<< HEAD
-=======
-def written(name):
-    return ("." if name[0] is None else "") + ".".join(part for part in name if part is not None)
-
-
-# ---- looking names up
-
-MISSING, BLOCKED = "missing", "blocked"
-
-
-def in_body(body, part):
-    """What a body declares as that part, its parameters left out."""
-    return body.slot(part, len(body.parameters)) or MISSING
-
-
-def behind(root, slot, part, through):
-    """One further part behind what was found, through instances where `through` is a list of those passed."""
-    if slot.sort == COMPONENT:
-        return in_body(slot.body, part)
-    if slot.sort == INSTANCE and through is not None:
-        through.append(slot)
-        found = found_slot(root, slot.instance.body, slot.instance.definition, True)
-        return in_body(found.body, part) if isinstance(found, Slot) and found.sort == DEFINITION else MISSING
-    return BLOCKED
-
-
-def found_slot(root, body, name, as_written=False, through=None):
-    """The slot that a name denotes, MISSING or BLOCKED; a definition is not reached through an instance."""
-    through = None if as_written else ([] if through is None else through)
-    if name[0] is None:
-        body, name = root, name[1:]
-        found = body.slot(name[0]) or MISSING
-    else:
-        while body.outer is not None and not body.slot(name[0]):
-            body = body.outer
-        found = body.slot(name[0]) or MISSING
-    for part in name[1:]:
-        if not isinstance(found, Slot):
-            break
-        found = behind(root, found, part, through)
-    return found
-
-
-# ---- the rules on names
-
-def uses_of(writer, body):
-    """All uses in a body, with those of its instances' arguments, which ask for what the parameters are."""
-    uses = list(body.uses)
-    for instance in body.instances:
-        found = found_slot(writer.root, body, instance.definition, True)
-        parameters = found.body.parameters if isinstance(found, Slot) and found.sort == DEFINITION else []
-        for k, (name, at, is_bare) in enumerate(instance.arguments):
-            sort = parameters[k] if k < len(parameters) else None
-            asked = "any" if sort is None else {EVENT_PARAMETER: "event", LOCATION_PARAMETER: "location"}.get(sort, "value")
-            uses.append((name, at, asked if is_bare else "value"))
-    return uses
-
-
-def judged(writer, body, use):
-    """The refusal of one use of a name, or none."""
-    name, at, asked = use
-    found = found_slot(writer.root, body, name)
-    if asked == "definition" and found != MISSING:
-        found = found_slot(writer.root, body, name, True)
-    if found == MISSING:
-        return "Unknown { at: %d }" % at
-    if found == BLOCKED or asked != "any" and found.sort not in ASKED[asked]:
-        return "WrongKind { at: %d }" % at
-    return None
-
-
-def of_scope(body):
-    for k, slot in enumerate(body.slots):
-        for first in body.slots[:k]:
-            if first.name == slot.name:
-                yield "Duplicate { at: %d, first: %d }" % (slot.at, first.at)
-
-
-def of_own(body):
-    for name, at, asked in body.own:
-        slot = body.slot(name)
-        if slot is None:
-            yield "Unknown { at: %d }" % at
-        elif slot.sort != asked:
-            yield "WrongKind { at: %d }" % at
-
-
-def of_counts(writer, body):
-    for instance in body.instances:
-        found = found_slot(writer.root, body, instance.definition, True)
-        if isinstance(found, Slot) and found.sort == DEFINITION and len(found.body.parameters) != len(instance.arguments):
-            yield "WrongKind { at: %d }" % instance.at
-
-
-def instances_within(body):
-    for instance in body.instances:
-        yield instance
-    for inner in body.inner:
-        yield from instances_within(inner)
-
-
-def cyclic(starts, reached):
-    """Those that reach themselves."""
-    for start in starts:
-        seen, left = set(), list(reached(start))
-        while left:
-            one = left.pop()
-            if id(one) not in seen:
-                seen.add(id(one))
-                left += reached(one)
-        if id(start) in seen:
-            yield start
-
-
-def of_cycles(writer):
-    home = {id(slot): body for body in writer.bodies for slot in body.slots}
-    slots = [slot for body in writer.bodies for slot in body.slots]
-
-    def definitions(slot):
-        if slot.sort != DEFINITION:
-            return []
-        found = [found_slot(writer.root, one.body, one.definition, True) for one in instances_within(slot.body)]
-        return [one for one in found if isinstance(one, Slot)]
-
-    def types(slot):
-        found = [found_slot(writer.root, home[id(slot)], name) for name, _, _ in slot.names]
-        return [one for one in found if isinstance(one, Slot)]
-
-    for slot in list(cyclic(slots, definitions)) + list(cyclic(slots, types)):
-        yield "DefinitionCycle { at: %d }" % slot.at
-
-
-def due(writer):
-    found = set(of_cycles(writer))
-    for body in writer.bodies:
-        found.update(of_scope(body), of_own(body), of_counts(writer, body))
-        found.update(told for told in (judged(writer, body, use) for use in uses_of(writer, body)) if told)
-    return found
-
-
->>>>>>> 569f9c0d3b9ffc1e75c517b407f92e7d51c6b00f
 # ---- the comparison
 
 def answer_of(writer, body, name):
@@ -462,14 +320,10 @@ def printed(duplicate):
 
 def cases_of(choose, writer):
     """The cases of a source, and what is allowed as their answers."""
-<<<<<<< HEAD
-    twice = {printed(told) for body in writer.bodies for told in of_scope(body)}
-=======
     counts = {" ".join(str(len(body.slots)) for body in writer.bodies)}
-    cases = [("resolve " + writer.text, due(writer) or counts)]
-    twice = {told for body in writer.bodies for told in of_scope(body)}
+    cases = [("resolve " + writer.text, {printed(told) for told in due(writer.root, writer.bodies)} or counts)]
+    twice = {printed(told) for body in writer.bodies for told in of_scope(body)}
     cases.append(("scopes " + writer.text, twice or counts))
->>>>>>> 569f9c0d3b9ffc1e75c517b407f92e7d51c6b00f
     if twice:
         return cases
     for number, body in enumerate(writer.bodies):
@@ -484,20 +338,15 @@ def breaks_none(told):
 
 
 def breaks_cycles(told):
-    return told and all(one.startswith("DefinitionCycle") for one in told)
+    return bool(told) and all(one[0] == "DefinitionCycle" for one in told)
 
 
 def made(choose):
-    """A source, mostly one in which no rule is broken, or only that on cycles, where such a one is found."""
+    """A source; two times in three one in which no rule is broken, or the one on what reaches itself alone, where such a one is found."""
     writer = Writer(choose)
-<<<<<<< HEAD
-    for _ in range(choose.choice([0, 30])):
-        if not due(writer.root, writer.bodies):
-=======
     tries, is_meant = choose.choice([(0, breaks_none), (30, breaks_none), (100, breaks_cycles)])
     for _ in range(tries):
-        if is_meant(due(writer)):
->>>>>>> 569f9c0d3b9ffc1e75c517b407f92e7d51c6b00f
+        if is_meant(due(writer.root, writer.bodies)):
             break
         writer = Writer(choose)
     return writer

@@ -8,13 +8,13 @@ use Rattle.cif_run.specs.declared.status.Status.TheVariants as status
 use Rattle.cif_run.specs.declared.status.ProfileWhy.TheVariants as profile
 use Rattle.cif_run.specs.declared.status.Refusal.{Refusal}
 use Rattle.cif_run.specs.declared.ended.Ended.{Ended}
-use Rattle.cif_run.specs.Groups.{group_of, judged, IsUnlessMemory}
+use Rattle.cif_run.specs.Groups.{group_of, IsUnlessMemory}
 use Rattle.cif_run.specs.Works.{Comes, Content, Failed, Holds, Input, IsLonger, Overlong, Reading, StopsIn, Unread, Work, Writing}
 use Rattle.cif_run.proofs.CallLaws.{IsWithin, answers, came_how, ended_so, finished}
 use Rattle.cif_accept.specs.Built.{Built, HasTooMany, IsRefused, ReadsAsBuilt}
 use Rattle.cif_net.specs.declared.guarded.Guarded.{Guarded}
 use Rattle.cif_front.specs.Loads.{Loads}
-use Rattle.cif_accept.specs.Accepts.{BuiltEnds, FileRefused, IsLoaded, SourceEnds, SourceHas, SourceHasTooMany, SourceIs, SourceRefused, no_ends, silent_work, source_input, source_limit, source_work}
+use Rattle.cif_accept.specs.Accepts.{BuiltEnds, FileRefused, IsLoaded, SourceEnds, SourceHas, SourceHasTooMany, SourceIs, SourceRefused, silent_work, source_limit, source_work}
 use Rattle.cif_accept.proofs.SourceLaws.{one_built, refused_reads_none, too_many_none}
 
 -- ---- the reader

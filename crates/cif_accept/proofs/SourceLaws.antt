@@ -1,5 +1,5 @@
 -- Why a source is not loaded, by the status, and that a text that is refused reads as nothing that is built.
-use Rattle.std.proofs.Common.{◌≡◌, ℕ, true, false, refl, sym, ◌∙◌, ap, subst}
+use Rattle.std.proofs.Common.{◌≡◌, ℕ, sym, ◌∙◌, ap, subst}
 use Rattle.grammar.specs.Pieces.{Text}
 use Rattle.cif_lex.specs.declared.error.LexErr.{LexErr}
 use Rattle.cif_lex.specs.declared.error.LexErr.TheVariants as lex

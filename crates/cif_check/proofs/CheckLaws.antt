@@ -1,6 +1,5 @@
 -- What `check` promises, from how its call came to its end, where the answer is the status of that end or want of memory.
-use Rattle.std.proofs.Common.{◌≡◌, Option, ap, ◌∙◌, inl, refl}
-use Rattle.grammar.specs.Pieces.{Text}
+use Rattle.std.proofs.Common.{◌≡◌, ap, ◌∙◌}
 use Rattle.cif_io.specs.Written.{grown}
 use Rattle.cif_run.specs.declared.status.Status.{Status}
 use Rattle.cif_run.specs.declared.status.Status.TheVariants as status

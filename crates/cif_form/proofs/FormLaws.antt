@@ -1,16 +1,15 @@
 -- A source has the built forms exactly where each of its items has one.
-use Rattle.std.proofs.Common.{◌≡◌, Bool, true, false, List, [], ◌∷◌, ◌++◌, refl, sym, ◌∙◌, ap, subst, length, map}
+use Rattle.std.proofs.Common.{◌≡◌, Bool, true, false, List, [], ◌∷◌, ◌++◌, refl}
 use Rattle.std.specs.Prelude.{◌&&◌, flat_map}
 use Rattle.std.specs.List.{list_all}
-use Rattle.cif_ast.specs.declared.names.Ident.{Ident}
 use Rattle.cif_system.proofs.Lists.{false-true}
 use Rattle.cif_system.proofs.Picks.{and-left, and-right}
 use Rattle.cif_model.proofs.Passing.{both-pass}
-use Rattle.cif_source.specs.Source.{no_type, void_type, value_type, UseTree, EdgeTree, LocationTree, DeclTree, type_decl, enum_decl, event_decl, const_decl, alg_decl, input_decl, disc_decl, equation_decl, invariant_decl, marked_decl, SourceItem, decl_item, component_item, definition_item, instance_item, SourceBody, group_body, automaton_body, Source, no_source, source, list_of_items}
+use Rattle.cif_source.specs.Source.{no_type, void_type, value_type, EdgeTree, LocationTree, DeclTree, type_decl, enum_decl, event_decl, const_decl, alg_decl, input_decl, disc_decl, equation_decl, invariant_decl, marked_decl, SourceItem, decl_item, component_item, definition_item, instance_item, SourceBody, group_body, automaton_body, Source, no_source, source, list_of_items}
 use Rattle.cif_source.specs.Components.{Component, whole, part, body_of}
 use Rattle.cif_source.specs.Objects.{bodies, bodies_in, bodies_at, bodies_under, items_in, item_decls, decls_in, locs_in}
-use Rattle.cif_image.specs.Built.{stands_alone, has_no_definitions, is_no_data, has_no_predicates, is_nothing, updates_nothing, is_bare, has_no_data, is_no_channel, only_syncs, has_no_channels, is_no_invariant, has_no_invariants, every_decl, every_edge, every_location, is_flat}
-use Rattle.cif_form.specs.Forms.{decl_fits, use_fits, edge_fits, location_fits, automaton_fits, items_fit, item_fits, body_fits}
+use Rattle.cif_image.specs.Built.{stands_alone, has_no_definitions, is_no_data, has_no_predicates, is_bare, has_no_data, is_no_channel, only_syncs, has_no_channels, is_no_invariant, has_no_invariants, every_decl, every_edge, every_location, is_flat}
+use Rattle.cif_form.specs.Forms.{decl_fits, use_fits, edge_fits, location_fits, items_fit, item_fits, body_fits}
 
 -- ---- tests
 

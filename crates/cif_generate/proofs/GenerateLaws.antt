@@ -118,8 +118,12 @@ module _ (content : Content) (file : Text) (g : Guarded) (l : IsLoaded content f
       go : (s : Status) → e.status ≡ s → TellsOf (net_tree g.plain.net) event e.variable s → StopsIn (generate_work q content) c e (group_of e.status)
       go (status.OutsideProfile (profile.Unclassed k)) is h =
           subst (λ s. StopsIn (generate_work q content) c e (group_of s)) (sym is)
-          (inr (l.0, source, subst (λ s. is_unclassed l.0 s e.variable) (sym is)
-            (subst (λ j. UnclassedDue l.0 j × (e.variable ≡ event_path l.0 j)) (sym h.0) (first_due event first, h.1 ∙ path_is event))))
+          (inr (
+            l.0,
+            source,
+            subst (λ s. is_unclassed l.0 s e.variable) (sym is)
+                (subst (λ j. UnclassedDue l.0 j × (e.variable ≡ event_path l.0 j)) (sym h.0) (first_due event first, h.1 ∙ path_is event)),
+          ))
       go (status.OutsideProfile (profile.TooManyChoices n)) is h = absurd h
       go status.Memory is h = subst (λ s. StopsIn (generate_work q content) c e (group_of s)) (sym is) tt
       go _ is h = absurd h

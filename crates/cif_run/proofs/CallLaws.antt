@@ -1,6 +1,6 @@
 -- What the clauses say that are the same for every command, from how its call came to its end, where the answer is the status
 -- of that end or want of memory.
-use Rattle.std.proofs.Common.{◌≡◌, ℕ, ◌≤◌, ◌⊎◌, length, Option, Some, refl, sym, ap, subst, ◌∙◌, inl, inr, arith}
+use Rattle.std.proofs.Common.{◌≡◌, ℕ, Option, refl, sym, ap, subst, ◌∙◌, inl, inr}
 use Rattle.std.specs.Prelude.{List}
 use Rattle.grammar.specs.Pieces.{Text}
 use Rattle.cif_io.specs.Faults.{Rose}
@@ -9,7 +9,7 @@ use Rattle.cif_run.specs.declared.status.Status.{Status}
 use Rattle.cif_run.specs.declared.status.Status.TheVariants as status
 use Rattle.cif_run.specs.declared.ended.Ended.{Ended}
 use Rattle.cif_run.specs.Groups.{Group, done, unread, too_long, unwritten, wanting, judged, group_of, IsUnlessMemory}
-use Rattle.cif_run.specs.Works.{Comes, GrewByPart, Input, Output, OutputIn, Overlong, Reading, Stops, StopsIn, Unread, Work, WroteIn, Writing}
+use Rattle.cif_run.specs.Works.{Comes, GrewByPart, Input, Output, OutputIn, Overlong, Reading, StopsIn, Unread, Work, WroteIn, Writing}
 use Rattle.cif_run.specs.Tells.{Tells, Told}
 use Rattle.cif_run.proofs.TellLaws.{begins-all}
 

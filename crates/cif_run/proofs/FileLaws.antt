@@ -1,8 +1,7 @@
 -- Why a file was not read, by the error of its read.
-use Rattle.std.proofs.Common.{◌≡◌, ℕ, ◌+◌, ◌<◌, ◌≤◌, Option, refl, sym, ap, subst, inl, inr, arith}
+use Rattle.std.proofs.Common.{◌≡◌, ℕ, ◌<◌, ◌≤◌, Option, refl, sym, subst, inl, inr, arith}
 use Rattle.std.specs.Prelude.{MatchOption, length}
 use Rattle.grammar.specs.Pieces.{Text}
-use Rattle.cif_io.specs.Faults.{Rose}
 use Rattle.cif_io.specs.declared.files.FileErr.{FileErr}
 use Rattle.cif_io.specs.declared.files.FileErr.TheVariants as file
 use Rattle.cif_run.specs.declared.status.Status.{Status}

@@ -1,12 +1,10 @@
 -- What the standard error has, by what became of the line.
-use Rattle.std.proofs.Common.{◌≡◌, ℕ, ◌≤◌, List, length, Option, Some, None, refl, sym, ap, subst, ◌∙◌, arith, append-nil, take_all}
-use Rattle.std.specs.Prelude.{take}
+use Rattle.std.proofs.Common.{◌≡◌, List, length, Option, Some, None, refl, sym, ap, subst, ◌∙◌, arith, append-nil, take_all}
 use Rattle.grammar.specs.Pieces.{Text}
 use Rattle.cif_io.specs.Written.{grown}
 use Rattle.cif_run.specs.Lines.{line_at}
 use Rattle.cif_run.specs.Tells.{Tells}
 use Rattle.cif_run.specs.Works.{GrewByPart}
-use Rattle.cif_run.specs.declared.status.Status.{Status}
 use Rattle.cif_run.specs.declared.status.Status.TheVariants as status
 use Rattle.cif_run.specs.declared.ended.Ended.{Ended}
 

@@ -1,5 +1,5 @@
 -- The words of a command line as texts, where they are few.
-use Rattle.std.proofs.Common.{◌≡◌, ℕ, ◌+◌, ◌<◌, ◌≤◌, List, [], ◌∷◌, length, ◌-◌, take_all, map, arith}
+use Rattle.std.proofs.Common.{◌≡◌, ◌<◌, ◌≤◌, List, [], ◌∷◌, length, ◌-◌, take_all, map, arith}
 use Rattle.std.proofs.Math.ListN.{drop, get_or, take}
 use Rattle.grammar.specs.Pieces.{Text}
 

@@ -1,4 +1,4 @@
-use Rattle.std.proofs.Common.{◌≡◌, ◌≤◌, List, ℕ, length, subst, sym}
+use Rattle.std.proofs.Common.{subst}
 use Rattle.cif_front.specs.Loads.{Loads}
 use Rattle.cif_accept.proofs.AcceptLaws.{file_loaded}
 use Rattle.cif_accept.proofs.accepting.accept_file.Goals as goal

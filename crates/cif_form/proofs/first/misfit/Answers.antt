@@ -1,4 +1,4 @@
-use Rattle.std.proofs.Common.{◌≡◌, ℕ, Option, Some, None, false, subst}
+use Rattle.std.proofs.Common.{subst}
 use Rattle.cif_ast.specs.View.{view_items}
 use Rattle.cif_source.specs.Source.{source_of, source_items}
 use Rattle.cif_form.specs.Forms.{Tells, items_fit}
