@@ -155,12 +155,7 @@ pub fn emit_case(fields: &Fields<'_>, page: &mut String) -> Result<(), Fault> {
 }
 
 /// The program of a source, or why there is none.
-fn put_program(
-    alloc: Global,
-    page: &mut String,
-    text: &[u8],
-    bounds: Bounds,
-) -> Result<(), Fault>
+fn put_program(alloc: Global, page: &mut String, text: &[u8], bounds: Bounds) -> Result<(), Fault>
     requires unc { bounds.unc ≤ 10000 }
     requires con { bounds.con ≤ 10000 }
 {
