@@ -14,8 +14,8 @@
 //!   initial state, or why there is none; `emit TEXT | UNC CON`: its program;
 //! - `uses TEXT`: the names that the items of a source write, each with what its position asks for;
 //! - `scopes TEXT`: how many names the scope of each body of a source declares; `resolve TEXT`: the same where the source keeps all
-//!   rules on scopes; `find BODY NAME | TEXT`: the instances that a name
-//!   passes in the body with that number, and what it finds, each as the number of a body and that of a name of its scope;
+//!   rules on scopes; `find BODY NAME | TEXT`: the instances that a name passes in the body with that number, and what it finds,
+//!   each as the number of a body and that of a name of its scope;
 //! - `laws`: the functions that are laws.
 #![tactic(auto)]
 

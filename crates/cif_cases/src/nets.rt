@@ -1,14 +1,16 @@
 //! Cases of nets: sources of the forms that are built, their nets with the choices of all events, and their programs.
 
-ghost use Rattle.std.specs.Prelude.{◌≤◌, length};
+ghost use Rattle.std.specs.Prelude.{◌≡◌, ◌≤◌, true, length, IfOk};
+ghost use Rattle.cif_net.specs.View.{net_tree};
+ghost use Rattle.plc_gen.specs.Makes.{is_dataless};
 
 use crate::sources::{put_no_tree, spec_of};
 use case_text::{Fault, Fields, Put, put_lines, put_text};
-use cif_base::{Memory, Text};
+use cif_base::Text;
 use cif_form::misfit;
 use cif_front::{Refusal, load};
 use cif_net::{Auto, Choice, Class, Event, Guarded, Move, NetEdge, State};
-use plc_back::{ProfileErr, generate_text};
+use plc_back::generate_text;
 use plc_gen::Bounds;
 use std::alloc::Global;
 
@@ -39,7 +41,10 @@ pub fn load_case(fields: &Fields<'_>, page: &mut String) -> Result<(), Fault> {
     }
 }
 
-fn loaded(alloc: Global, text: &[u8]) -> Result<Result<Guarded, Refusal>, Fault> {
+#[tactic(auto, using(crate::proofs::NetLaws::loads_dataless))]
+fn loaded(alloc: Global, text: &[u8]) -> Result<Result<Guarded, Refusal>, Fault>
+    ensures { IfOk result (λ answer. IfOk answer (λ g. is_dataless (net_tree g.plain.net) ≡ true)) }
+{
     if text.len() > MOST_BYTES {
         return Err(Fault::Form("a source has at most 4194304 bytes"));
     }
@@ -80,11 +85,20 @@ fn put_autos(page: &mut String, autos: &[Auto]) -> Put {
     Ok(())
 }
 
+/// The name of a location, and `-` for one without a name.
+fn put_name(page: &mut String, name: &[u8]) -> Put {
+    if name.is_empty() {
+        page.push('-')
+    } else {
+        put_text(page, name)
+    }
+}
+
 fn put_names(page: &mut String, names: &[Text]) -> Put {
     page.push_str(":")?;
     for name in names {
         page.push(' ')?;
-        put_text(page, name.as_slice())?;
+        put_name(page, name.as_slice())?;
     }
     page.push('\n')
 }
@@ -137,23 +151,19 @@ pub fn emit_case(fields: &Fields<'_>, page: &mut String) -> Result<(), Fault> {
         return Err(Fault::Form("a bound is at most 10000"));
     }
     let text = fields.text()?;
-    match loaded_text(fields.alloc, text.as_slice(), Bounds { unc, con })? {
-        Some(program) => Ok(put_lines(page, "program", program.as_slice())?),
-        None => Ok(page.push_str("  no program\n")?),
-    }
+    put_program(fields.alloc, page, text.as_slice(), Bounds { unc, con })
 }
 
-/// The text of the program of a source, and none where it is refused.
-fn loaded_text(alloc: Global, text: &[u8], bounds: Bounds) -> Result<Option<Vec<u8>>, Fault>
+/// The program of a source, or why there is none.
+fn put_program(alloc: Global, page: &mut String, text: &[u8], bounds: Bounds) -> Result<(), Fault>
     requires unc { bounds.unc ≤ 10000 }
     requires con { bounds.con ≤ 10000 }
 {
     match loaded(alloc, text)? {
-        Err(_) => Ok(None),
+        Err(refusal) => Ok(writeln!(page, "  {refusal:?}")?),
         Ok(guarded) => match generate_text(alloc, &guarded, bounds) {
-            Ok(program) => Ok(Some(program)),
-            Err(ProfileErr::Unclassed { .. }) => Ok(None),
-            Err(ProfileErr::Memory) => Err(Fault::from(Memory)),
+            Ok(program) => Ok(put_lines(page, "program", program.as_slice())?),
+            Err(error) => Ok(writeln!(page, "  {error:?}")?),
         },
     }
 }
