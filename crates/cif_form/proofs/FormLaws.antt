@@ -212,12 +212,12 @@ module _ (t : Source) (h : list_all own_at (bodies t) ≡ true) where
   bodies-flat =
       and-both (has_no_definitions t && has_no_data t && has_no_channels t) (has_no_invariants t)
       (and-both (has_no_definitions t && has_no_data t) (has_no_channels t)
-        (and-both (has_no_definitions t) (has_no_data t)
-          (all-implied own_at (λ c. list_all stands_alone (items_in (body_of c))) (bodies t) (λ c k. own-alone (body_of c) k) h)
-          (and-both (every_decl is_no_data t && every_location has_no_predicates t) (every_edge is_bare t)
-            (and-both (every_decl is_no_data t) (every_location has_no_predicates t) (decls-fit is_no_data decl-data) (locations-fit has_no_predicates location-plain))
-            (edges-fit is_bare edge-bare)))
-        (and-both (every_decl is_no_channel t) (every_edge (λ e. list_all only_syncs e.uses) t) (decls-fit is_no_channel decl-channel) (edges-fit (λ e. list_all only_syncs e.uses) edge-syncs)))
+      (and-both (has_no_definitions t) (has_no_data t)
+      (all-implied own_at (λ c. list_all stands_alone (items_in (body_of c))) (bodies t) (λ c k. own-alone (body_of c) k) h)
+      (and-both (every_decl is_no_data t && every_location has_no_predicates t) (every_edge is_bare t)
+      (and-both (every_decl is_no_data t) (every_location has_no_predicates t) (decls-fit is_no_data decl-data) (locations-fit has_no_predicates location-plain))
+      (edges-fit is_bare edge-bare)))
+      (and-both (every_decl is_no_channel t) (every_edge (λ e. list_all only_syncs e.uses) t) (decls-fit is_no_channel decl-channel) (edges-fit (λ e. list_all only_syncs e.uses) edge-syncs)))
       (decls-fit is_no_invariant decl-invariant)
 
 module _ (t : Source) (h : is_flat t ≡ true) where
@@ -247,9 +247,9 @@ module _ (t : Source) (h : is_flat t ≡ true) where
       of_body (x ∷ xs) a b d =
           and-both (decl_fits x) (list_all decl_fits xs)
           (decl-all x
-            (and-both (is_no_data x && is_no_channel x) (is_no_invariant x)
-              (and-both (is_no_data x) (is_no_channel x) (and-left (is_no_data x) (list_all is_no_data xs) a) (and-left (is_no_channel x) (list_all is_no_channel xs) b))
-              (and-left (is_no_invariant x) (list_all is_no_invariant xs) d)))
+          (and-both (is_no_data x && is_no_channel x) (is_no_invariant x)
+          (and-both (is_no_data x) (is_no_channel x) (and-left (is_no_data x) (list_all is_no_data xs) a) (and-left (is_no_channel x) (list_all is_no_channel xs) b))
+          (and-left (is_no_invariant x) (list_all is_no_invariant xs) d)))
           (of_body xs (and-right (is_no_data x) (list_all is_no_data xs) a) (and-right (is_no_channel x) (list_all is_no_channel xs) b) (and-right (is_no_invariant x) (list_all is_no_invariant xs) d))
 
       each : (cs : List Component) → list_all (λ c. list_all is_no_data (decls_in (body_of c))) cs ≡ true → list_all (λ c. list_all is_no_channel (decls_in (body_of c))) cs ≡ true
@@ -258,13 +258,13 @@ module _ (t : Source) (h : is_flat t ≡ true) where
       each (x ∷ xs) a b d =
           and-both (list_all decl_fits (decls_in (body_of x))) (list_all (λ c. list_all decl_fits (decls_in (body_of c))) xs)
           (of_body (decls_in (body_of x))
-            (and-left (list_all is_no_data (decls_in (body_of x))) (list_all (λ c. list_all is_no_data (decls_in (body_of c))) xs) a)
-            (and-left (list_all is_no_channel (decls_in (body_of x))) (list_all (λ c. list_all is_no_channel (decls_in (body_of c))) xs) b)
-            (and-left (list_all is_no_invariant (decls_in (body_of x))) (list_all (λ c. list_all is_no_invariant (decls_in (body_of c))) xs) d))
+          (and-left (list_all is_no_data (decls_in (body_of x))) (list_all (λ c. list_all is_no_data (decls_in (body_of c))) xs) a)
+          (and-left (list_all is_no_channel (decls_in (body_of x))) (list_all (λ c. list_all is_no_channel (decls_in (body_of c))) xs) b)
+          (and-left (list_all is_no_invariant (decls_in (body_of x))) (list_all (λ c. list_all is_no_invariant (decls_in (body_of c))) xs) d))
           (each xs
-            (and-right (list_all is_no_data (decls_in (body_of x))) (list_all (λ c. list_all is_no_data (decls_in (body_of c))) xs) a)
-            (and-right (list_all is_no_channel (decls_in (body_of x))) (list_all (λ c. list_all is_no_channel (decls_in (body_of c))) xs) b)
-            (and-right (list_all is_no_invariant (decls_in (body_of x))) (list_all (λ c. list_all is_no_invariant (decls_in (body_of c))) xs) d))
+          (and-right (list_all is_no_data (decls_in (body_of x))) (list_all (λ c. list_all is_no_data (decls_in (body_of c))) xs) a)
+          (and-right (list_all is_no_channel (decls_in (body_of x))) (list_all (λ c. list_all is_no_channel (decls_in (body_of c))) xs) b)
+          (and-right (list_all is_no_invariant (decls_in (body_of x))) (list_all (λ c. list_all is_no_invariant (decls_in (body_of c))) xs) d))
 
   edges-flat : (ls : List LocationTree) → list_all has_no_predicates ls ≡ true → list_all (λ (l : LocationTree). list_all is_bare l.edges) ls ≡ true
       → list_all (λ (l : LocationTree). list_all (λ (e : EdgeTree). list_all only_syncs e.uses) l.edges) ls ≡ true → list_all location_fits ls ≡ true
@@ -296,10 +296,10 @@ module _ (t : Source) (h : is_flat t ≡ true) where
   flat-bodies =
       all-both (λ c. list_all stands_alone (items_in (body_of c))) (λ c. inside (body_of c)) (bodies t) (and-left (has_no_definitions t) (has_no_data t) first_two)
       (all-both (λ c. list_all decl_fits (decls_in (body_of c))) (λ c. list_all location_fits (locs_in (body_of c))) (bodies t) decls-flat
-        (locs-flat (bodies t)
-          (and-right (every_decl is_no_data t) (every_location has_no_predicates t) decls_and_places)
-          (and-right (every_decl is_no_data t && every_location has_no_predicates t) (every_edge is_bare t) data_free)
-          (and-right (every_decl is_no_channel t) (every_edge (λ e. list_all only_syncs e.uses) t) channel_free)))
+      (locs-flat (bodies t)
+      (and-right (every_decl is_no_data t) (every_location has_no_predicates t) decls_and_places)
+      (and-right (every_decl is_no_data t && every_location has_no_predicates t) (every_edge is_bare t) data_free)
+      (and-right (every_decl is_no_channel t) (every_edge (λ e. list_all only_syncs e.uses) t) channel_free)))
 
   flat-fits : items_fit t ≡ true
   flat-fits =

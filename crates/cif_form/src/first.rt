@@ -1,4 +1,4 @@
-//! The first thing in a source that has no form that is built.
+//! Where a source has a thing that has no form that is built.
 
 ghost use Rattle.std.specs.Prelude.{◌≡◌, ℕ, Some, None, true, false};
 ghost use Rattle.cif_ast.specs.View.{view_body, view_item, view_items};
@@ -45,9 +45,11 @@ fn items_misfit(items: &[Item]) -> Option<u32>
     None
 }
 
-/// The byte of the first thing, in text order, that has no form for which programs are written so far: a definition, an instance,
-/// a declaration of anything but an event that is no channel, a marking predicate, an equation, a guard, an update, or a use of
-/// an event that sends or receives. `None` where there is no such thing. The time is linear in the tree.
+/// The byte of a thing that has no form for which programs are written so far: a definition, an instance, a declaration of anything
+/// but an event that is no channel, a marking predicate, an equation, a guard, an update, or a use of an event that sends or
+/// receives. It is the first, but for the parts of a location and of an edge: a location's predicates and equations come before
+/// its edges, and an edge's guards and updates before its events. `None` where there is no such thing. The time is linear in
+/// the tree.
 pub fn misfit(spec: &Spec) -> Option<u32>
     ensures none { result ≡ None → is_flat (source_of spec.now) ≡ true }
     ensures some { (at : ℕ) → result ≡ Some at → is_flat (source_of spec.now) ≡ false }
