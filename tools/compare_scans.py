@@ -8,9 +8,12 @@ A scan makes its rounds of the uncontrollable events, and then those of the cont
 class in ascending number, and for each the first choice that makes a step, if there is one: the automata that have the event in
 their alphabet take an edge for it, or stay where they monitor it and have no such edge. `generate` writes the program of a
 source, and `replay` gives the locations after each scan. Compared are that table, and the variables in which the program holds
-the locations. The status is 1 where the two differ. The simulation is in `plain_nets.py`; with `--self-test` it is compared with
-worked examples.
+the locations. And each scan is to be legal, by a search over all choices: a run of uncontrollable events and then one of
+controllable events leads from one state to the next, where a run of fewer events than the bound of its class ends where none of the
+class has a step. The status is 1 where something differs. The simulation is in `plain_nets.py`; with `--self-test` it and the search
+are compared with worked examples.
 """
+import itertools
 import os
 import random
 import re
@@ -23,6 +26,8 @@ from plain_nets import Net, Source, broken, line_of
 from random_nets import Maker, spelled, tokens_of
 
 MOST_SCANS, MOST_TRIED, DEFAULT_ROUNDS = 6, 400, 100
+# How many states the runs of a class in one scan may pass before the search gives up.
+MOST_PASSED = 20000
 # What is generated and replayed: a source, the words of its options, the most rounds of each class, and how many scans.
 Trial = namedtuple("Trial", "text options unc con scans")
 
@@ -73,6 +78,69 @@ def made(choose):
     options = [[word, str(number)] for word, number in (("--unc", unc), ("--con", con)) if number is not None]
     choose.shuffle(options)
     return Trial(text, sum(options, []), unc or DEFAULT_ROUNDS, con or DEFAULT_ROUNDS, choose.randint(1, MOST_SCANS))
+
+
+# ---- legal scans
+
+class TooMany(Exception):
+    """The runs pass too many states to be searched."""
+
+
+class Runs:
+    """The runs of events of a class, by any choices."""
+
+    def __init__(self, net, word):
+        self.net, self.after = net, {}
+        self.events = [number for number, event in enumerate(net.events) if event.word == word]
+
+    def steps(self, state):
+        """The states after a step."""
+        if state not in self.after:
+            self.after[state] = {after for event in self.events for after in self.net.moves(event, state)}
+        return self.after[state]
+
+    def all_steps(self, states):
+        if len(self.after) > MOST_PASSED:
+            raise TooMany
+        return frozenset(after for state in states for after in self.steps(state))
+
+    def ends(self, begins, least):
+        """Where a run may end: after at least so many steps, or where none is left."""
+        layers, numbers, layer = [], {}, frozenset(begins)
+        while len(layers) < least and layer not in numbers:
+            numbers[layer] = len(layers)
+            layers.append(layer)
+            layer = self.all_steps(layer)
+            if sum(map(len, layers)) > MOST_PASSED:
+                raise TooMany
+        ended = {state for states in layers for state in states if not self.steps(state)}
+        if len(layers) < least:
+            # From here on the states after so many steps are those of before, again and again.
+            first = numbers[layer]
+            layer = layers[first + (least - first) % (len(layers) - first)]
+        reached = set()
+        while not layer <= reached:
+            reached |= layer
+            layer = self.all_steps(layer)
+        return ended | reached
+
+
+def is_legal(unc_runs, con_runs, unc, con, before, after):
+    return after in con_runs.ends(unc_runs.ends({before}, unc), con)
+
+
+def illegal_scans(net, trial, table, notes):
+    """The numbers of the scans in a table that are not legal."""
+    states = [net.initial()] + [tuple(map(int, line.split(",")[1:])) for line in table.splitlines()[1:]]
+    unc_runs, con_runs, found = Runs(net, "uncontrollable"), Runs(net, "controllable"), []
+    for scan in range(1, len(states)):
+        try:
+            if not is_legal(unc_runs, con_runs, trial.unc, trial.con, states[scan - 1], states[scan]):
+                found.append(scan)
+            notes["scans searched"] += 1
+        except TooMany:
+            notes["scans not searched"] += 1
+    return found
 
 
 # ---- the comparison
@@ -131,6 +199,8 @@ def differences(program, folder, trial, notes):
         found.append("variables: wanted %s, given %s" % (wanted_variables(net), declared(generated)))
     if given != wanted:
         found.append("table: wanted %r, given %r" % (wanted, given))
+    if not given.startswith("status "):
+        found += ["scan %d is not legal" % scan for scan in illegal_scans(net, trial, given, notes)]
     return found
 
 
@@ -143,8 +213,9 @@ def main(program, sources=500, seed=1):
             if found:
                 differ += 1
                 print("%r %s, %d scans\n  %s" % (trial.text, " ".join(trial.options), trial.scans, "\n  ".join(found)))
+    searched = "%d scans searched, %d not" % (notes.pop("scans searched", 0), notes.pop("scans not searched", 0))
     shown = ", ".join("%d %s" % (count, what) for what, count in sorted(notes.items()))
-    print("%d sources, of which in the first scan %s: %d differences" % (sources, shown, differ))
+    print("%d sources, of which in the first scan %s; %s: %d differences" % (sources, shown, searched, differ))
     return 1 if differ else 0
 
 
@@ -216,6 +287,33 @@ EXAMPLES = [
 ]
 
 
+# a source, the most rounds of each class, a state, and the states to which a legal scan may lead from it
+LEGAL = [
+    # what can fire has fired, if the bound allows
+    ("controllable e; plant A: location x: initial; edge e goto y; location y; end", 1, 1, (0,), {(1,)}),
+    # by any choice, and not by the first alone
+    ("controllable e; plant A: location x: initial; edge e goto y; edge e goto z; location y; location z; end", 1, 1, (0,),
+     {(1,), (2,)}),
+    # uncontrollable events come first
+    ("uncontrollable u; controllable c; plant A: location x: initial; edge c goto y; edge u goto z; location y; location z: "
+     "edge c goto w; location w; end", 2, 2, (0,), {(3,)}),
+    # a run of two at least ends in x after an even number, and in y after an odd one
+    ("controllable e; plant A: location x: initial; edge e goto y; location y: edge e goto x; end", 1, 2, (0,), {(0,), (1,)}),
+    # a run of at least three steps leaves a line of three places at its end
+    ("controllable e; plant A: location a: initial; edge e goto b; location b: edge e goto c; location c: edge e goto d; "
+     "location d: edge e goto d; end", 1, 3, (0,), {(3,)}),
+    # after the bound a run may end, and may go on
+    ("controllable e; plant A: location a: initial; edge e goto b; location b: edge e goto c; location c; end", 1, 1, (0,),
+     {(1,), (2,)}),
+    # who monitors moves where it can
+    ("controllable e; plant A: location p: initial; edge e goto q; location q; end "
+     "automaton B: monitor e; location x: initial; edge e goto y; location y; end", 1, 1, (0, 0), {(1, 1)}),
+    # the events of many rounds are as those of few, in a circle of three
+    ("uncontrollable e; plant A: location a: initial; edge e goto b; location b: edge e goto c; location c: edge e goto a; end",
+     9999, 1, (0,), {(0,), (1,), (2,)}),
+]
+
+
 def example(name):
     with open(os.path.join(os.path.dirname(os.path.abspath(__file__)), "..", "examples", name)) as file:
         return file.read()
@@ -228,7 +326,13 @@ def self_test():
         assert not due, (text, list(map(line_of, due)))
         given = net.table(unc, con, table.count("\n") - 1)
         assert given == table, (text, table, given)
-    print("the simulation agrees with %d worked examples" % len(worked))
+    for text, unc, con, before, ends in LEGAL:
+        net = Net(Source(text))
+        unc_runs, con_runs = Runs(net, "uncontrollable"), Runs(net, "controllable")
+        states = itertools.product(*[range(party.places) for party in net.parties])
+        given = {after for after in states if is_legal(unc_runs, con_runs, unc, con, before, after)}
+        assert given == ends, (text, ends, given)
+    print("the simulation agrees with %d worked examples, and the search with %d" % (len(worked), len(LEGAL)))
     return 0
 
 

@@ -312,15 +312,18 @@ class Net:
                 return False
         return True
 
-    def first_step(self, event, state):
-        """The state after the first choice that makes a step, or None."""
+    def moves(self, event, state):
+        """The states after a step of the event, by its choices in their order."""
         for choice in self.choices(event):
             if self.agrees(choice, event, state):
                 after = list(state)
                 for number, arc in choice:
                     after[number] = state[number] if arc is STAYS else arc.target
-                return tuple(after)
-        return None
+                yield tuple(after)
+
+    def first_step(self, event, state):
+        """The state after the first choice that makes a step, or None."""
+        return next(self.moves(event, state), None)
 
     def step(self, event, state):
         """`first_step`, which is asked once for each state."""
