@@ -20,7 +20,7 @@ GREATEST_NUMBER = 2147483647
 MOST_OBJECTS, MOST_NODES, MOST_CHOICES = 100000, 1000000, 16384
 
 PIECE = re.compile(r"""(?P<blank>[ \t\r\n]+|//[^\n]*|/\*.*?\*/)|(?P<word>\$?[A-Za-z_][A-Za-z0-9_]*)|(?P<number>0|[1-9][0-9]*)
-    |(?P<sign><=>|\.\.|:=|!=|<=|>=|=>|[.,;:()\[\]{}+*/=<>!?-])""", re.S | re.X)
+    |(?P<sign><=>|\.\.|:=|!=|<=|>=|=>|[.,;:()\[\]{}+*=<>!?-])""", re.S | re.X)
 
 # A token's kind is ID, NUMBER, or the reserved word or sign that it is; the text of an ID is without `$`.
 Token = namedtuple("Token", "kind text at")
@@ -43,8 +43,8 @@ def lexed(text):
     tokens, due, at = [], set(), 0
     while at < len(text):
         piece = PIECE.match(text, at)
-        is_open = text.startswith("/*", at) and piece.lastgroup != "blank"
-        if is_open or piece is None:
+        if piece is None:
+            is_open = text.startswith("/*", at)
             due.add(("OpenComment" if is_open else "BadByte", ("at", at)))
             break
         word = piece.group()
