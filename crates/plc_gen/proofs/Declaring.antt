@@ -1,19 +1,25 @@
 -- The variables of a program that stand in blocks, one for each letter: no two have the same name, each is found by its name,
 -- and each starts with its first value.
-use Rattle.std.proofs.Common.{◌≡◌, ℕ, zero, suc, ◌+◌, ◌^◌, ◌<◌, ◌≤◌, ℤ, pos, negsuc, Bool, true, false, ◌&&◌, ◌||◌, List, [], ◌∷◌, ◌++◌, map, filter, length, Some, inr, refl, sym, ap, subst, ◌∙◌, arith}
-use Rattle.std.specs.Prelude.{IsTrue, int_le, option_map, slice_get, if◌then◌else◌}
+use Rattle.std.proofs.Common.{◌≡◌, ℕ, zero, suc, ◌+◌, ◌-◌, ◌^◌, ◌<◌, ◌≤◌, ℤ, pos, negsuc, Bool, true, false, ◌&&◌, ◌||◌, not, List, [], ◌∷◌, ◌++◌, map, filter, length, Option, Some, None, inr, refl, sym, ap, subst, ◌∙◌, arith, le-leb}
+use Rattle.std.specs.Prelude.{IsTrue, int_le, nat_le, option_map, slice_get, if◌then◌else◌}
 use Rattle.std.specs.List.{AllByRecursion, AllZip, enumerate_from, list_any}
 use Rattle.std.proofs.lemmas.Int.{ints}
-use Rattle.std.proofs.lemmas.List.{map-append}
+use Rattle.std.proofs.lemmas.Bool.Decides.{nat_tests}
+use Rattle.std.proofs.lemmas.List.{append_assoc, map-append}
 use Rattle.std.proofs.lemmas.List.Folds.{list_any-append}
 use Rattle.grammar.specs.Pieces.{Text}
 use Rattle.cif_system.specs.System.{in_range}
 use Rattle.cif_system.proofs.Lists.{none-some, some-same}
+use Rattle.cif_system.proofs.Picks.{and-left, and-right}
 use Rattle.st_ast.specs.Tree.{Program}
 use Rattle.st_ast.specs.Names.{declared, place_of, same_name}
 use Rattle.st_ast.specs.Values.{Memory, is_true, of_bool}
-use Rattle.st_ast.specs.Scan.{first_of, start_memory, value_of_literal}
-use Rattle.st_ast.specs.Checks.{is_type, starts_well, variable_faults, variables_faults}
+use Rattle.st_ast.specs.Scan.{first_of, first_or, start_memory, value_of_literal}
+use Rattle.st_ast.specs.Checks.{CheckFault, duplicate, init_range, is_type, starts_well, unless, variable_faults, variables_faults}
+use Rattle.st_ast.specs.Spelled.{are_declarations, is_first_spelled}
+use Rattle.st_ast.specs.Tokens.{greatest}
+use Rattle.st_ast.specs.declared.tree.StLit.{StLit}
+use Rattle.st_ast.specs.declared.tree.StLit.TheVariants as lit
 use Rattle.st_ast.specs.declared.tree.StVar.{StVar}
 use Rattle.st_ast.specs.declared.tree.StClass.{StClass}
 use Rattle.st_ast.specs.declared.tree.StClass.TheVariants as class
@@ -21,10 +27,11 @@ use Rattle.st_ast.specs.declared.tree.StTy.{StTy}
 use Rattle.st_ast.specs.declared.tree.StTy.TheVariants as ty
 use Rattle.plc_face.specs.declared.letter.Letter.{Letter}
 use Rattle.plc_face.specs.Names.{name_for}
-use Rattle.plc_face.specs.Face.{VariableFace, HoldsAt, head_of, declaration, literal_of, range_of}
+use Rattle.plc_face.specs.Face.{VariableFace, HoldsAt, head_of, declaration, declarations, literal_of, range_of}
 use Rattle.plc_face.proofs.NameLaws.{letters-differ, names-differ}
 use Rattle.plc_face.proofs.FaceLaws.{same_name-self, Typed}
 use Rattle.plc_gen.specs.Emitted.{Block, block_variables, variables_of}
+use Rattle.plc_gen.specs.Given.{Section, all_variables}
 use Rattle.plc_gen.proofs.Choosing.{filter-append}
 use Rattle.plc_gen.proofs.Writing.{name_of}
 
@@ -121,12 +128,26 @@ declared-skip v vars x h = ap (λ b. slice_get (v ∷ vars) (if b then 0 else su
 declared-hit : (v : StVar) (vars : List StVar) (x : Text) → same_name v.name x ≡ true → declared (v ∷ vars) x ≡ Some v
 declared-hit v vars x h = ap (λ b. slice_get (v ∷ vars) (if b then 0 else suc (place_of vars x))) h
 
-block-skip : (l : Letter) (c : StClass) (j : ℕ) (ys : List VariableFace) (rest : List StVar) (t : Letter) (k : ℕ) (path : Text) → (l ≡ t → ⊥)
-    → declared (map (declaration l c) (enumerate_from j ys) ++ rest) (name_for t k path) ≡ declared rest (name_for t k path)
-block-skip l c j [] rest t k path other = refl
-block-skip l c j (y ∷ ys) rest t k path other =
-    declared-skip (declaration l c (j, y)) (map (declaration l c) (enumerate_from (j + 1) ys) ++ rest) (name_for t k path) (letters-differ l t j k y.path path other)
-    ∙ block-skip l c (j + 1) ys rest t k path other
+-- a variable of this letter and class
+pub record IsOf (l : Letter) (c : StClass) (v : StVar) : Type 0 where
+  pub number : ℕ
+  pub path : Text
+  pub name : v.name ≡ name_for l number path
+  pub class : v.class ≡ c
+
+abbrev pub AllOf : Letter → StClass → List StVar → Type 0
+AllOf l c vs = AllByRecursion (IsOf l c) vs
+
+pub declared-of : (l : Letter) (c : StClass) (k : ℕ) (xs : List VariableFace) → AllOf l c (map (declaration l c) (enumerate_from k xs))
+declared-of l c k [] = tt
+declared-of l c k (x ∷ xs) = (record { number = k; path = x.path; name = refl; class = refl }, declared-of l c (k + 1) xs)
+
+-- no name is found among variables of another letter
+skip-others : (l : Letter) (c : StClass) (vs rest : List StVar) (t : Letter) (k : ℕ) (path : Text) → (l ≡ t → ⊥) → AllOf l c vs → declared (vs ++ rest) (name_for t k path) ≡ declared rest (name_for t k path)
+skip-others l c [] rest t k path other all = refl
+skip-others l c (v ∷ vs) rest t k path other all =
+    declared-skip v (vs ++ rest) (name_for t k path) (ap (λ x. same_name x (name_for t k path)) all.0.name ∙ letters-differ l t all.0.number k all.0.path path other)
+    ∙ skip-others l c vs rest t k path other all.1
 
 block-hit : (l : Letter) (c : StClass) (j : ℕ) (ys : List VariableFace) (rest : List StVar) (k : ℕ) (x : VariableFace) → j + length ys < 2 ^ 64 → slice_get ys k ≡ Some x
     → declared (map (declaration l c) (enumerate_from j ys) ++ rest) (name_for l (j + k) x.path) ≡ Some (declaration l c (j + k, x))
@@ -163,17 +184,39 @@ by-number vars l c i (x ∷ xs) h =
       by-number vars l c (i + 1) xs (λ k y e. let number : i + suc k ≡ (i + 1) + k = omega arith in subst (λ j. declared vars (name_for l j y.path) ≡ Some (declaration l c (j, y))) number (h (suc k) y e)),
     )
 
--- a block at the front
-pub front-declared : (b : Block) (rest : List StVar) → length b.faces < 2 ^ 64 → AllDeclared (block_variables b ++ rest) b.letter b.class 0 b.faces
-front-declared b rest few = by-number (block_variables b ++ rest) b.letter b.class 0 b.faces (λ k x at. block-hit b.letter b.class 0 b.faces rest k x (omega (arith, few)) at)
+front-declared : (l : Letter) (c : StClass) (xs : List VariableFace) (rest : List StVar) → length xs < 2 ^ 64 → AllDeclared (declarations l c xs ++ rest) l c 0 xs
+front-declared l c xs rest few = by-number (declarations l c xs ++ rest) l c 0 xs (λ k x at. block-hit l c 0 xs rest k x (omega (arith, few)) at)
 
--- a block behind one of another letter
-pub later-declared : (b : Block) (rest : List StVar) (l : Letter) (c : StClass) (k : ℕ) (xs : List VariableFace) → (b.letter ≡ l → ⊥) → AllDeclared rest l c k xs → AllDeclared (block_variables b ++ rest) l c k xs
-later-declared b rest l c k [] other all = tt
-later-declared b rest l c k (x ∷ xs) other all = (
-  block-skip b.letter b.class 0 b.faces rest l k x.path other ∙ all.0,
-  later-declared b rest l c (k + 1) xs other all.1,
+-- behind variables of another letter
+later-declared : (s : Section) (rest : List StVar) (l : Letter) (c : StClass) (k : ℕ) (xs : List VariableFace) → (s.letter ≡ l → ⊥) → AllOf s.letter s.class s.variables → AllDeclared rest l c k xs
+    → AllDeclared (s.variables ++ rest) l c k xs
+later-declared s rest l c k [] other of all = tt
+later-declared s rest l c k (x ∷ xs) other of all = (
+  skip-others s.letter s.class s.variables rest l k x.path other of ∙ all.0,
+  later-declared s rest l c (k + 1) xs other of all.1,
 )
+
+-- each section has a letter of its own, and variables of that letter and of its class
+abbrev pub AreSections : List Section → Type 0
+AreSections [] = Unit {0}
+AreSections (s ∷ ss) = AllByRecursion (λ (u : Section). s.letter ≡ u.letter → ⊥) ss × AllOf s.letter s.class s.variables × AreSections ss
+
+all-section : (P : Section → Type 0) (ss : List Section) (k : ℕ) (s : Section) → AllByRecursion P ss → slice_get ss k ≡ Some s → P s
+all-section P [] k s h e = absurd (none-some s e)
+all-section P (u ∷ ss) zero s h e = subst P (some-same u s e) h.0
+all-section P (u ∷ ss) (suc k) s h e = all-section P ss k s h.1 e
+
+-- the variables at the front of a section are found by their names
+pub section-declared : (ss : List Section) (k : ℕ) (s : Section) (xs : List VariableFace) (more : List StVar) → AreSections ss → slice_get ss k ≡ Some s → length xs < 2 ^ 64
+    → s.variables ≡ declarations s.letter s.class xs ++ more → AllDeclared (all_variables ss) s.letter s.class 0 xs
+section-declared [] k s xs more h e few is = absurd (none-some s e)
+section-declared (u ∷ ss) zero s xs more h e few is =
+    let same : u ≡ s = some-same u s e in
+    subst (λ (vs : List StVar). AllDeclared vs s.letter s.class 0 xs)
+    (sym (ap (λ (w : Section). w.variables ++ all_variables ss) same ∙ ap (λ vs. vs ++ all_variables ss) is ∙ append_assoc (declarations s.letter s.class xs) more (all_variables ss)))
+    (front-declared s.letter s.class xs (more ++ all_variables ss) few)
+section-declared (u ∷ ss) (suc k) s xs more h e few is =
+    later-declared u (all_variables ss) s.letter s.class 0 xs (all-section (λ (w : Section). u.letter ≡ w.letter → ⊥) ss k s h.0 e) h.1 (section-declared ss k s xs more h.2 e few is)
 
 -- by its number
 pub declared-at : (vars : List StVar) (l : Letter) (c : StClass) (i : ℕ) (xs : List VariableFace) (k : ℕ) (x : VariableFace) → AllDeclared vars l c i xs → slice_get xs k ≡ Some x
@@ -226,27 +269,72 @@ starts-typed (b ∷ bs) h =
     subst (λ m. Typed (variables_of (b ∷ bs)) m) (sym (map-append first_of (block_variables b) (variables_of bs)))
     (typed-append (block_variables b) (variables_of bs) (map first_of (block_variables b)) (map first_of (variables_of bs)) (block-typed b.letter b.class 0 b.faces h.2) (starts-typed bs h.3))
 
+-- a variable that breaks no check and has a spelling starts in its type
+starts-in : (t : StTy) (o : Option StLit) → is_type t ≡ true → starts_well t o ≡ true → is_first_spelled o ≡ true → IsTrue (in_range (range_of t) (first_or t o))
+starts-in ty.Bool None h g f = refl
+starts-in ty.Lint None h g f = refl
+starts-in (ty.Range lo hi) None h g f = low-inside lo hi h
+  where
+    low-inside : (lo hi : ℤ) → int_le lo hi ≡ true → (int_le lo lo && int_le lo hi) ≡ true
+    low-inside lo hi h = grind (arith, ints)
+starts-in ty.Bool (Some (lit.Bool true)) h g f = refl
+starts-in ty.Bool (Some (lit.Bool false)) h g f = refl
+starts-in ty.Bool (Some (lit.Int z)) h g f = absurd cc
+starts-in ty.Lint (Some (lit.Bool b)) h g f = absurd cc
+starts-in ty.Lint (Some (lit.Int (pos n))) h g f = small n f
+  where
+    small : (n : ℕ) → nat_le n greatest ≡ true → (int_le (negsuc (2 ^ 63 - 1)) (pos n) && int_le (pos n) (pos (2 ^ 63 - 1))) ≡ true
+    small n f = let few : n ≤ greatest = grind (arith, nat_tests) in let top = le-leb n (2 ^ 63 - 1) (omega (arith, few)) in rw top refl
+starts-in ty.Lint (Some (lit.Int (negsuc n))) h g f = small n f
+  where
+    small : (n : ℕ) → nat_le (suc n) greatest ≡ true → (int_le (negsuc (2 ^ 63 - 1)) (negsuc n) && int_le (negsuc n) (pos (2 ^ 63 - 1))) ≡ true
+    small n f = let few : suc n ≤ greatest = grind (arith, nat_tests) in let top = le-leb n (2 ^ 63 - 1) (omega (arith, few)) in rw top refl
+starts-in (ty.Range lo hi) (Some (lit.Bool b)) h g f = absurd cc
+starts-in (ty.Range lo hi) (Some (lit.Int z)) h g f = g
+
+pub append-none-left : {A : Type 0} (xs ys : List A) → xs ++ ys ≡ [] → xs ≡ []
+append-none-left [] ys e = refl
+append-none-left (x ∷ xs) ys e = absurd cc
+
+append-none-right : {A : Type 0} (xs ys : List A) → xs ++ ys ≡ [] → ys ≡ []
+append-none-right [] ys e = e
+append-none-right (x ∷ xs) ys e = absurd cc
+
+unless-none : (b : Bool) (f : CheckFault) → unless b f ≡ [] → b ≡ true
+unless-none true f e = refl
+unless-none false f e = cc
+
+pub checked-typed : (before : List StVar) (k : ℕ) (vars : List StVar) → variables_faults before k vars ≡ [] → are_declarations vars ≡ true → Typed vars (map first_of vars)
+checked-typed before k [] e g = tt
+checked-typed before k (v ∷ vars) e g =
+    let own : variable_faults before k v ≡ [] = append-none-left (variable_faults before k v) (variables_faults (before ++ v ∷ []) (suc k) vars) e in
+    let fits : (is_type v.ty && starts_well v.ty v.init) ≡ true =
+    unless-none (is_type v.ty && starts_well v.ty v.init) (init_range k) (append-none-right (unless (not (list_any (λ (u : StVar). same_name u.name v.name) before)) (duplicate k)) _ own) in (
+      starts-in v.ty v.init (and-left _ _ fits) (and-right _ _ fits) (and-left _ _ (and-right _ _ (and-right _ _ (and-left _ _ g)))),
+      checked-typed (before ++ v ∷ []) (suc k) vars (append-none-right (variable_faults before k v) (variables_faults (before ++ v ∷ []) (suc k) vars) e) (and-right _ _ g),
+    )
+
 -- ---- the variables of a class
 
-kept-all : (f : StClass → Bool) (l : Letter) (c : StClass) (k : ℕ) (xs : List VariableFace) → f c ≡ true → filter (λ (v : StVar). f v.class) (map (declaration l c) (enumerate_from k xs)) ≡ map (declaration l c) (enumerate_from k xs)
-kept-all f l c k [] h = refl
-kept-all f l c k (x ∷ xs) h = rw h (ap (λ r. declaration l c (k, x) ∷ r) (kept-all f l c (k + 1) xs h))
+kept-all : (f : StClass → Bool) (l : Letter) (c : StClass) (vs : List StVar) → AllOf l c vs → f c ≡ true → filter (λ (v : StVar). f v.class) vs ≡ vs
+kept-all f l c [] of h = refl
+kept-all f l c (v ∷ vs) of h = let is = ap f of.0.class ∙ h in rw is (ap (λ r. v ∷ r) (kept-all f l c vs of.1 h))
 
-kept-none : (f : StClass → Bool) (l : Letter) (c : StClass) (k : ℕ) (xs : List VariableFace) → f c ≡ false → filter (λ (v : StVar). f v.class) (map (declaration l c) (enumerate_from k xs)) ≡ []
-kept-none f l c k [] h = refl
-kept-none f l c k (x ∷ xs) h = rw h (kept-none f l c (k + 1) xs h)
+kept-none : (f : StClass → Bool) (l : Letter) (c : StClass) (vs : List StVar) → AllOf l c vs → f c ≡ false → filter (λ (v : StVar). f v.class) vs ≡ []
+kept-none f l c [] of h = refl
+kept-none f l c (v ∷ vs) of h = let is = ap f of.0.class ∙ h in rw is (kept-none f l c vs of.1 h)
 
--- the variables of the blocks whose class passes
-abbrev pub passing : (StClass → Bool) → List Block → List StVar
+-- the variables of the sections whose class passes
+abbrev pub passing : (StClass → Bool) → List Section → List StVar
 passing f [] = []
-passing f (b ∷ bs) = if f b.class then block_variables b ++ passing f bs else passing f bs
+passing f (s ∷ ss) = if f s.class then s.variables ++ passing f ss else passing f ss
 
-pub variables-passing : (f : StClass → Bool) (bs : List Block) → filter (λ (v : StVar). f v.class) (variables_of bs) ≡ passing f bs
-variables-passing f [] = refl
-variables-passing f (b ∷ bs) =
-    filter-append (λ (v : StVar). f v.class) (block_variables b) (variables_of bs) ∙ go (f b.class) refl (variables-passing f bs)
+pub variables-passing : (f : StClass → Bool) (ss : List Section) → AreSections ss → filter (λ (v : StVar). f v.class) (all_variables ss) ≡ passing f ss
+variables-passing f [] h = refl
+variables-passing f (s ∷ ss) h =
+    filter-append (λ (v : StVar). f v.class) s.variables (all_variables ss) ∙ go (f s.class) refl (variables-passing f ss h.2)
   where
-    go : (t : Bool) → f b.class ≡ t → filter (λ (v : StVar). f v.class) (variables_of bs) ≡ passing f bs
-        → filter (λ (v : StVar). f v.class) (block_variables b) ++ filter (λ (v : StVar). f v.class) (variables_of bs) ≡ (if t then block_variables b ++ passing f bs else passing f bs)
-    go true is rest = ap (λ r. r ++ filter (λ (v : StVar). f v.class) (variables_of bs)) (kept-all f b.letter b.class 0 b.faces is) ∙ ap (λ r. block_variables b ++ r) rest
-    go false is rest = ap (λ r. r ++ filter (λ (v : StVar). f v.class) (variables_of bs)) (kept-none f b.letter b.class 0 b.faces is) ∙ rest
+    go : (t : Bool) → f s.class ≡ t → filter (λ (v : StVar). f v.class) (all_variables ss) ≡ passing f ss
+        → filter (λ (v : StVar). f v.class) s.variables ++ filter (λ (v : StVar). f v.class) (all_variables ss) ≡ (if t then s.variables ++ passing f ss else passing f ss)
+    go true is rest = ap (λ r. r ++ filter (λ (v : StVar). f v.class) (all_variables ss)) (kept-all f s.letter s.class s.variables h.1 is) ∙ ap (λ r. s.variables ++ r) rest
+    go false is rest = ap (λ r. r ++ filter (λ (v : StVar). f v.class) (all_variables ss)) (kept-none f s.letter s.class s.variables h.1 is) ∙ rest

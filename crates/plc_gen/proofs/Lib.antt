@@ -9,6 +9,7 @@ pub mod Declaring
 pub mod Checking
 pub mod Showing
 pub mod Facts
+pub mod Framing
 pub mod Emits
 pub mod Dataless
 pub mod Marked
@@ -18,4 +19,5 @@ pub mod Building
 pub mod Shaping
 pub mod TryLaws
 pub mod ScanLaws
+pub mod GivenLaws
 pub mod LoopLaws

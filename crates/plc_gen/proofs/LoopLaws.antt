@@ -10,7 +10,7 @@ use Rattle.cif_model.specs.Net as n
 use Rattle.cif_net.specs.declared.events.Event.{Event}
 use Rattle.cif_net.specs.declared.listing.Move.{Move}
 use Rattle.cif_net.specs.View.{class_of, event_tree, move_tree}
-use Rattle.st_ast.specs.Tree.{Expr, Branches, append, assign, truth, choice, no_other, no_stms, stms}
+use Rattle.st_ast.specs.Tree.{Expr, Stms, append, assign, truth, choice, no_other, no_stms, stms}
 use Rattle.st_ast.specs.View.{view_branches, view_expr, view_stmt, view_stmts}
 use Rattle.st_ast.specs.declared.tree.StExpr.{StExpr}
 use Rattle.st_ast.specs.declared.tree.StBranch.{StBranch}
@@ -18,7 +18,7 @@ use Rattle.st_ast.specs.declared.tree.Stmt.{Stmt}
 use Rattle.plc_face.specs.Frame.{fired}
 use Rattle.plc_gen.specs.Events.{marks, move_text, moves_text}
 use Rattle.plc_gen.specs.Tests.{Naming, said, says, text, texts}
-use Rattle.plc_gen.specs.Tries.{class_tries, first_list, one_try, other_lists}
+use Rattle.plc_gen.specs.Tries.{class_bodies, first_body, one_try, other_bodies}
 use Rattle.plc_gen.proofs.Building.{append-assoc, append-none, view_append}
 use Rattle.plc_gen.proofs.TryLaws.{moves-next, moves_append}
 
@@ -58,39 +58,39 @@ moves-marked net steps made a all s a_is same s_is all_is =
 
 -- ---- events
 
-tries-head : (k : Class) (es : List Event) (i : ℕ) (x : Event) (lists : List Branches) (b : Bool) → i < length es → x ≡ get_or es i x → same_class k (class_of x.class) ≡ b
-    → class_tries k (map event_tree (drop i es)) lists
-    ≡ if b then append (one_try (first_list lists)) (class_tries k (map event_tree (drop (i + 1) es)) (other_lists lists)) else class_tries k (map event_tree (drop (i + 1) es)) (other_lists lists)
-tries-head k es i x lists b within item is =
-    ap (λ (xs : List Event). class_tries k (map event_tree xs) lists) (drop-item es i x within item)
-    ∙ ap (λ t. if t then append (one_try (first_list lists)) (class_tries k (map event_tree (drop (i + 1) es)) (other_lists lists)) else class_tries k (map event_tree (drop (i + 1) es)) (other_lists lists)) is
+bodies-head : (k : Class) (es : List Event) (i : ℕ) (x : Event) (bodies : List Stms) (b : Bool) → i < length es → x ≡ get_or es i x → same_class k (class_of x.class) ≡ b
+    → class_bodies k (map event_tree (drop i es)) bodies
+    ≡ if b then append (first_body bodies) (class_bodies k (map event_tree (drop (i + 1) es)) (other_bodies bodies)) else class_bodies k (map event_tree (drop (i + 1) es)) (other_bodies bodies)
+bodies-head k es i x bodies b within item is =
+    ap (λ (xs : List Event). class_bodies k (map event_tree xs) bodies) (drop-item es i x within item)
+    ∙ ap (λ t. if t then append (first_body bodies) (class_bodies k (map event_tree (drop (i + 1) es)) (other_bodies bodies)) else class_bodies k (map event_tree (drop (i + 1) es)) (other_bodies bodies)) is
 
--- the tries of an event of the class go from what is left to what is done
-pub tries-taken : (k : Class) (es : List Event) (i : ℕ) (x : Event) (all part new : List Stmt) (lists rest : List Branches) → i < length es → x ≡ get_or es i x
-    → same_class k (class_of x.class) ≡ true → view_stmts part ≡ one_try (first_list lists) → rest ≡ other_lists lists → new ≡ all ++ part
-    → append (view_stmts new) (class_tries k (map event_tree (drop (i + 1) es)) rest) ≡ append (view_stmts all) (class_tries k (map event_tree (drop i es)) lists)
-tries-taken k es i x all part new lists rest within item is part_is rest_is new_is =
-    ap (λ (ss : List Stmt). append (view_stmts ss) (class_tries k (map event_tree (drop (i + 1) es)) rest)) new_is
-    ∙ ap (λ ss. append ss (class_tries k (map event_tree (drop (i + 1) es)) rest)) (view_append all part)
-    ∙ append-assoc (view_stmts all) (view_stmts part) (class_tries k (map event_tree (drop (i + 1) es)) rest)
-    ∙ ap (λ ss. append (view_stmts all) (append ss (class_tries k (map event_tree (drop (i + 1) es)) rest))) part_is
-    ∙ ap (λ ls. append (view_stmts all) (append (one_try (first_list lists)) (class_tries k (map event_tree (drop (i + 1) es)) ls))) rest_is
-    ∙ ap (append (view_stmts all)) (sym (tries-head k es i x lists true within item is))
+-- the statements of an event of the class go from what is left to what is done
+pub bodies-taken : (k : Class) (es : List Event) (i : ℕ) (x : Event) (all body new : List Stmt) (bodies rest : List Stms) → i < length es → x ≡ get_or es i x
+    → same_class k (class_of x.class) ≡ true → view_stmts body ≡ first_body bodies → rest ≡ other_bodies bodies → new ≡ all ++ body
+    → append (view_stmts new) (class_bodies k (map event_tree (drop (i + 1) es)) rest) ≡ append (view_stmts all) (class_bodies k (map event_tree (drop i es)) bodies)
+bodies-taken k es i x all body new bodies rest within item is body_is rest_is new_is =
+    ap (λ (ss : List Stmt). append (view_stmts ss) (class_bodies k (map event_tree (drop (i + 1) es)) rest)) new_is
+    ∙ ap (λ ss. append ss (class_bodies k (map event_tree (drop (i + 1) es)) rest)) (view_append all body)
+    ∙ append-assoc (view_stmts all) (view_stmts body) (class_bodies k (map event_tree (drop (i + 1) es)) rest)
+    ∙ ap (λ ss. append (view_stmts all) (append ss (class_bodies k (map event_tree (drop (i + 1) es)) rest))) body_is
+    ∙ ap (λ bs. append (view_stmts all) (append (first_body bodies) (class_bodies k (map event_tree (drop (i + 1) es)) bs))) rest_is
+    ∙ ap (append (view_stmts all)) (sym (bodies-head k es i x bodies true within item is))
 
 -- an event of another class is left out
-pub tries-left : (k : Class) (es : List Event) (i : ℕ) (x : Event) (all new : List Stmt) (lists rest : List Branches) → i < length es → x ≡ get_or es i x
-    → same_class k (class_of x.class) ≡ false → rest ≡ other_lists lists → new ≡ all
-    → append (view_stmts new) (class_tries k (map event_tree (drop (i + 1) es)) rest) ≡ append (view_stmts all) (class_tries k (map event_tree (drop i es)) lists)
-tries-left k es i x all new lists rest within item is rest_is new_is =
-    ap (λ (ss : List Stmt). append (view_stmts ss) (class_tries k (map event_tree (drop (i + 1) es)) rest)) new_is
-    ∙ ap (λ ls. append (view_stmts all) (class_tries k (map event_tree (drop (i + 1) es)) ls)) rest_is
-    ∙ ap (append (view_stmts all)) (sym (tries-head k es i x lists false within item is))
+pub bodies-left : (k : Class) (es : List Event) (i : ℕ) (x : Event) (all new : List Stmt) (bodies rest : List Stms) → i < length es → x ≡ get_or es i x
+    → same_class k (class_of x.class) ≡ false → rest ≡ other_bodies bodies → new ≡ all
+    → append (view_stmts new) (class_bodies k (map event_tree (drop (i + 1) es)) rest) ≡ append (view_stmts all) (class_bodies k (map event_tree (drop i es)) bodies)
+bodies-left k es i x all new bodies rest within item is rest_is new_is =
+    ap (λ (ss : List Stmt). append (view_stmts ss) (class_bodies k (map event_tree (drop (i + 1) es)) rest)) new_is
+    ∙ ap (λ bs. append (view_stmts all) (class_bodies k (map event_tree (drop (i + 1) es)) bs)) rest_is
+    ∙ ap (append (view_stmts all)) (sym (bodies-head k es i x bodies false within item is))
 
 -- where no event is left, all is done
-pub tries-done : (k : Class) (es : List Event) (i : ℕ) (all : List Stmt) (lists : List Branches) → length es ≤ i
-    → append (view_stmts all) (class_tries k (map event_tree (drop i es)) lists) ≡ view_stmts all
-tries-done k es i all lists past =
-    ap (λ (xs : List Event). append (view_stmts all) (class_tries k (map event_tree xs) lists)) (drop_all i es past) ∙ append-none (view_stmts all)
+pub bodies-done : (k : Class) (es : List Event) (i : ℕ) (all : List Stmt) (bodies : List Stms) → length es ≤ i
+    → append (view_stmts all) (class_bodies k (map event_tree (drop i es)) bodies) ≡ view_stmts all
+bodies-done k es i all bodies past =
+    ap (λ (xs : List Event). append (view_stmts all) (class_bodies k (map event_tree xs) bodies)) (drop_all i es past) ∙ append-none (view_stmts all)
 
 -- a try where there is a branch
 pub try-made : (bs : List StBranch) (b : Bool) (s : Stmt) (ss : List Stmt) → (IsTrue b ↔ (bs ≡ [])) → b ≡ false → view_stmt s ≡ choice (view_branches bs) no_other → ss ≡ s ∷ []

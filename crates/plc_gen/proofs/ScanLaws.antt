@@ -1,7 +1,6 @@
 -- What code makes is the program of the net.
-use Rattle.std.proofs.Common.{◌≡◌, ℕ, zero, suc, ◌+◌, ◌<◌, ◌≤◌, ◌^◌, true, List, [], ◌∷◌, ◌++◌, map, length, get_or, sym, ap, subst, ◌∙◌, arith}
+use Rattle.std.proofs.Common.{◌≡◌, ℕ, zero, suc, ◌+◌, ◌<◌, ◌≤◌, ◌^◌, true, List, [], ◌∷◌, ◌++◌, map, length, get_or, refl, sym, ap, subst, ◌∙◌, arith}
 use Rattle.std.specs.Prelude.{codes, nat_le, sum}
-use Rattle.std.specs.List.{AllByRecursion}
 use Rattle.std.proofs.lemmas.Bool.Decides.{nat_tests}
 use Rattle.std.proofs.lemmas.List.{append-nil, append_assoc}
 use Rattle.std.proofs.lemmas.List.Sums.{sum_by-cons}
@@ -25,20 +24,20 @@ use Rattle.st_ast.specs.declared.tree.StVar.{StVar}
 use Rattle.st_ast.specs.declared.tree.StClass.TheVariants as class
 use Rattle.plc_face.specs.declared.letter.Letter.TheVariants as letter
 use Rattle.plc_face.specs.Face.{VariableFace, alg_face, algs_of, declarations, places_of, place_face}
-use Rattle.plc_face.specs.Frame.{latches_of, loop_of, part_of, tries_of}
-use Rattle.plc_gen.specs.Emitted.{all_shown_by, blocks_of, outputs_of, parts_of, program_of, variables_of}
+use Rattle.plc_face.specs.Frame.{Part, framed, latches_of, loop_of, part_of, tries_of}
+use Rattle.plc_gen.specs.Emitted.{all_shown_by, mark_and_counter, outputs_of, parts_of, program_of}
 use Rattle.plc_gen.specs.Faces.{alg_face_of, auto_face, face_of_net, stored_face}
 use Rattle.plc_gen.specs.Makes.{needs_tests_alone}
-use Rattle.plc_gen.specs.Shown.{AreFaces, declared_by, declared_for, face_tree, mark_and_counter}
-use Rattle.plc_gen.specs.Tries.{branch_lists, class_tries, scan_text}
+use Rattle.plc_gen.specs.Shown.{AreFaces, declared_by, declared_for, face_tree}
+use Rattle.plc_gen.specs.Given.{EventPart, all_variables, asked, body_of, framed_program, own_variables, program_with, sections_of}
+use Rattle.plc_gen.specs.Tries.{all_tries, class_bodies, scan_text}
 use Rattle.plc_gen.specs.declared.faces.Faces.{Faces}
 use Rattle.plc_gen.specs.declared.faces.Shown.{Shown}
 use Rattle.plc_gen.proofs.Building.{append-assoc, view_append}
-use Rattle.plc_gen.proofs.Emits.{stms_of-append}
+use Rattle.plc_gen.proofs.Emits.{own-declared-none}
+use Rattle.plc_gen.proofs.Framing.{stms_of-append}
 use Rattle.plc_gen.proofs.Facts.{all-simple, none-of}
-use Rattle.plc_gen.proofs.Making.{Simple}
-use Rattle.plc_gen.proofs.TryLaws.{tries-are}
-use Rattle.plc_gen.proofs.Whole.{own-temporaries}
+use Rattle.plc_gen.proofs.TryLaws.{bodies-are, tries-are}
 
 -- ---- sizes
 
@@ -114,56 +113,68 @@ outputs-are x f a b all h p q is =
 laid : (a b c d : Stms) → append (append (append a b) c) d ≡ append a (append b (append c d))
 laid a b c d = append-assoc (append a b) c d ∙ append-assoc a b (append c d)
 
-blocks : (a b c d e f g r : List StVar) → r ≡ [] → a ++ b ++ c ++ d ++ e ++ f ++ g ≡ a ++ (b ++ (c ++ (d ++ (e ++ (f ++ (g ++ (r ++ [])))))))
-blocks a b c d e f g r h =
-    append_assoc (a ++ b ++ c ++ d ++ e) f g
-    ∙ append_assoc (a ++ b ++ c ++ d) e (f ++ g)
-    ∙ append_assoc (a ++ b ++ c) d (e ++ (f ++ g))
-    ∙ append_assoc (a ++ b) c (d ++ (e ++ (f ++ g)))
-    ∙ append_assoc a b (c ++ (d ++ (e ++ (f ++ g))))
-    ∙ ap (λ s. a ++ (b ++ (c ++ (d ++ (e ++ (f ++ s)))))) (sym (ap (λ q. g ++ (q ++ [])) h ∙ append-nil g))
+sections : (a b c d o e f g r : List StVar) → r ≡ [] → a ++ b ++ c ++ d ++ o ++ e ++ f ++ g ≡ a ++ (b ++ (c ++ ((d ++ o) ++ (e ++ (f ++ (g ++ (r ++ [])))))))
+sections a b c d o e f g r h =
+    ap (λ s. s ++ e ++ f ++ g) (append_assoc (a ++ b ++ c) d o)
+    ∙ append_assoc (a ++ b ++ c ++ (d ++ o) ++ e) f g
+    ∙ append_assoc (a ++ b ++ c ++ (d ++ o)) e (f ++ g)
+    ∙ append_assoc (a ++ b ++ c) (d ++ o) (e ++ (f ++ g))
+    ∙ append_assoc (a ++ b) c ((d ++ o) ++ (e ++ (f ++ g)))
+    ∙ append_assoc a b (c ++ ((d ++ o) ++ (e ++ (f ++ g))))
+    ∙ ap (λ s. a ++ (b ++ (c ++ ((d ++ o) ++ (e ++ (f ++ s)))))) (sym (ap (λ q. g ++ (q ++ [])) h ∙ append-nil g))
 
-module _ (x : n.Net) (cs : List NetChoice) (guarded : IsGuarded x cs) (alone : needs_tests_alone x cs ≡ true) where
-  simple : AllByRecursion (Simple x) cs
-  simple = all-simple x cs guarded (and-right _ _ alone)
-
+module _ (x : n.Net) (parts : List Part) where
   abbrev tried : Class → Stms
-  tried k = tries_of (λ e. (part_of (parts_of x cs) e).body) (of_class (system_of_net x) k)
+  tried k = tries_of (λ e. (part_of parts e).body) (of_class (system_of_net x) k)
 
-  pub scan-is : (U C : ℕ) → scan_text x cs U C ≡ (program_of x cs U C).body
-  scan-is U C =
-      ap (λ ss. append (append (append (latches_of (face_of_net x)) (loop_of U ss)) (loop_of C (class_tries con x.events (branch_lists x cs)))) (outputs_of (face_of_net x))) (tries-are x cs simple unc)
-      ∙ ap (λ ss. append (append (append (latches_of (face_of_net x)) (loop_of U (tried unc))) (loop_of C ss)) (outputs_of (face_of_net x))) (tries-are x cs simple con)
+  scan-is : (bodies : List Stms) (U C : ℕ) → bodies ≡ map (λ (q : Part). q.body) parts → scan_text x bodies U C ≡ framed (face_of_net x) (system_of_net x) parts U C (outputs_of (face_of_net x))
+  scan-is bodies U C are =
+      ap (λ bs. scan_text x bs U C) are
+      ∙ ap (λ ss. append (append (append (latches_of (face_of_net x)) (loop_of U ss)) (loop_of C (class_bodies con x.events (map (λ (q : Part). q.body) parts)))) (outputs_of (face_of_net x))) (bodies-are x parts unc)
+      ∙ ap (λ ss. append (append (append (latches_of (face_of_net x)) (loop_of U (tried unc))) (loop_of C ss)) (outputs_of (face_of_net x))) (bodies-are x parts con)
       ∙ laid (latches_of (face_of_net x)) (loop_of U (tried unc)) (loop_of C (tried con)) (outputs_of (face_of_net x))
 
-  no-algs : declarations letter.R class.Output (algs_of (face_of_net x)) ≡ []
-  no-algs = ap (λ (as' : List n.NetAlg). declarations letter.R class.Output (map alg_face (map alg_face_of as'))) (none-of x.algs (and-right _ _ (and-left _ _ alone)))
-
-  pub variables-are : (f : Faces) → AreFaces x f → declared_for f ≡ variables_of (blocks_of x cs)
-  variables-are f h =
-      ap (λ (xs : List VariableFace). declared_by xs (map face_tree f.variables) (map face_tree f.inputs)) h.places
-      ∙ ap (λ (xs : List VariableFace). declared_by (places_of (face_of_net x)) xs (map face_tree f.inputs)) h.variables
-      ∙ ap (λ (xs : List VariableFace). declared_by (places_of (face_of_net x)) (face_of_net x).variables xs) h.inputs
-      ∙ blocks (declarations letter.L class.Plain (places_of (face_of_net x))) (declarations letter.V class.Plain (face_of_net x).variables)
-      (declarations letter.H class.Plain (face_of_net x).inputs) (declarations letter.T class.Plain mark_and_counter)
+  variables-are : (f : Faces) (own : List StVar) → x.algs ≡ [] → AreFaces x f → declared_for f own ≡ all_variables (sections_of (face_of_net x) own)
+  variables-are f own none h =
+      ap (λ (xs : List VariableFace). declared_by own xs (map face_tree f.variables) (map face_tree f.inputs)) h.places
+      ∙ ap (λ (xs : List VariableFace). declared_by own (places_of (face_of_net x)) xs (map face_tree f.inputs)) h.variables
+      ∙ ap (λ (xs : List VariableFace). declared_by own (places_of (face_of_net x)) (face_of_net x).variables xs) h.inputs
+      ∙ sections (declarations letter.L class.Plain (places_of (face_of_net x))) (declarations letter.V class.Plain (face_of_net x).variables)
+      (declarations letter.H class.Plain (face_of_net x).inputs) (declarations letter.T class.Plain mark_and_counter) own
       (declarations letter.I class.Input (face_of_net x).inputs) (declarations letter.P class.Output (places_of (face_of_net x)))
-      (declarations letter.Q class.Output (face_of_net x).variables) (declarations letter.R class.Output (algs_of (face_of_net x))) no-algs
-      ∙ ap (λ (xs : List VariableFace). declarations letter.L class.Plain (places_of (face_of_net x))
-      ++ (declarations letter.V class.Plain (face_of_net x).variables
-      ++ (declarations letter.H class.Plain (face_of_net x).inputs
-      ++ (declarations letter.T class.Plain xs
-      ++ (declarations letter.I class.Input (face_of_net x).inputs
-      ++ (declarations letter.P class.Output (places_of (face_of_net x))
-      ++ (declarations letter.Q class.Output (face_of_net x).variables ++ (declarations letter.R class.Output (algs_of (face_of_net x)) ++ []))))))))
-      (sym (own-temporaries x cs simple))
+      (declarations letter.Q class.Output (face_of_net x).variables) (declarations letter.R class.Output (algs_of (face_of_net x)))
+      (ap (λ (as' : List n.NetAlg). declarations letter.R class.Output (map alg_face (map alg_face_of as'))) none)
 
-  abbrev program_with : Text → List StVar → Stms → Program
-  program_with name vars body = record { name = name; vars = vars; body = body }
+  abbrev made_of : Text → List StVar → Stms → Program
+  made_of name vars body = record { name = name; vars = vars; body = body }
 
-  -- what code puts together is the program
-  pub program-is : (U C : ℕ) (f : Faces) (name : Text) (vars : List StVar) (body : List Stmt) → AreFaces x f → name ≡ codes "CifScan" → vars ≡ declared_for f
-      → view_stmts body ≡ scan_text x cs U C → program_of_parts name vars body ≡ program_of x cs U C
-  program-is U C f name vars body h a b d =
-      ap (λ w. program_with w vars (view_stmts body)) a
-      ∙ ap (λ v. program_with (codes "CifScan") v (view_stmts body)) (b ∙ variables-are f h)
-      ∙ ap (program_with (codes "CifScan") (variables_of (blocks_of x cs))) (d ∙ scan-is U C)
+  -- what code puts together is the frame round the parts
+  pub program-is : (own : List StVar) (bodies : List Stms) (U C : ℕ) (f : Faces) (name : Text) (vars : List StVar) (body : List Stmt) → x.algs ≡ [] → bodies ≡ map (λ (q : Part). q.body) parts
+      → AreFaces x f → name ≡ codes "CifScan" → vars ≡ declared_for f own → view_stmts body ≡ scan_text x bodies U C → program_of_parts name vars body ≡ program_with x own parts U C
+  program-is own bodies U C f name vars body none are h a b d =
+      ap (λ w. made_of w vars (view_stmts body)) a
+      ∙ ap (λ v. made_of (codes "CifScan") v (view_stmts body)) (b ∙ variables-are f own none h)
+      ∙ ap (made_of (codes "CifScan") (all_variables (sections_of (face_of_net x) own))) (d ∙ scan-is bodies U C are)
+
+-- ---- the programs
+
+-- what code puts together from the choices of a net
+pub emitted-is : (x : n.Net) (cs : List NetChoice) → IsGuarded x cs → needs_tests_alone x cs ≡ true → (own : List StVar) (bodies : List Stms) (U C : ℕ) (f : Faces) (name : Text) (vars : List StVar) (body : List Stmt)
+    → own ≡ [] → bodies ≡ all_tries x cs → AreFaces x f → name ≡ codes "CifScan" → vars ≡ declared_for f own → view_stmts body ≡ scan_text x bodies U C
+    → program_of_parts name vars body ≡ program_of x cs U C
+emitted-is x cs guarded alone own bodies U C f name vars body nothing are h a b d =
+    let simple = all-simple x cs guarded (and-right _ _ alone) in
+    program-is x (parts_of x cs) own bodies U C f name vars body (none-of x.algs (and-right _ _ (and-left _ _ alone))) (are ∙ tries-are x cs simple) h a b d
+    ∙ ap (λ (vs : List StVar). program_with x vs (parts_of x cs) U C) (nothing ∙ sym (own-declared-none x cs simple))
+
+-- what code puts together from given parts
+pub given-is : (x : n.Net) (parts : List EventPart) (own : List StVar) (bodies : List Stms) (U C : ℕ) (f : Faces) (name : Text) (vars : List StVar) (body : List Stmt)
+    → x.algs ≡ [] → own ≡ own_variables parts → bodies ≡ map body_of parts → AreFaces x f → name ≡ codes "CifScan" → vars ≡ declared_for f own → view_stmts body ≡ scan_text x bodies U C
+    → program_of_parts name vars body ≡ framed_program x parts U C
+given-is x parts own bodies U C f name vars body none own_are are h a b d =
+    program-is x (map asked parts) own bodies U C f name vars body none (are ∙ asked-bodies parts) h a b d
+    ∙ ap (λ (vs : List StVar). program_with x vs (map asked parts) U C) own_are
+  where
+    asked-bodies : (qs : List EventPart) → map body_of qs ≡ map (λ (q : Part). q.body) (map asked qs)
+    asked-bodies [] = refl
+    asked-bodies (q ∷ qs) = ap (λ r. q.body ∷ r) (asked-bodies qs)

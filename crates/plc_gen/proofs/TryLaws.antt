@@ -1,5 +1,5 @@
 -- What code puts together are the parts of the frame.
-use Rattle.std.proofs.Common.{◌≡◌, ℕ, zero, suc, ◌+◌, ◌<◌, ◌≤◌, pos, Bool, true, false, nat_eq, List, [], ◌∷◌, ◌++◌, map, filter, length, replicate, Option, Some, None, refl, sym, ap, ◌∙◌, arith}
+use Rattle.std.proofs.Common.{◌≡◌, ℕ, zero, suc, ◌+◌, ◌≤◌, pos, Bool, true, false, nat_eq, List, [], ◌∷◌, ◌++◌, map, filter, length, replicate, Option, Some, None, refl, sym, ap, ◌∙◌, arith}
 use Rattle.std.specs.Prelude.{slice_get, slice_set, if◌then◌else◌}
 use Rattle.std.specs.List.{AllByRecursion, range_with_len}
 use Rattle.std.proofs.lemmas.Bool.Decides.{nat_tests}
@@ -13,11 +13,11 @@ use Rattle.cif_model.specs.Listing.{NetChoice, NetMove}
 use Rattle.st_ast.specs.Tree.{Expr, Stms, Branches, assign, number, no_stms, stms, append, no_branches, branches}
 use Rattle.st_ast.specs.View.{view_branch, view_branches}
 use Rattle.st_ast.specs.declared.tree.StBranch.{StBranch}
-use Rattle.plc_face.specs.Frame.{part_of, part_or_none, tries_of}
+use Rattle.plc_face.specs.Frame.{Part, part_of, tries_of}
 use Rattle.plc_gen.specs.Tests.{place_name}
 use Rattle.plc_gen.specs.Events.{chain_branches, choices_of, done_face, event_text, move_text, moves_text, own_name, own_of, target_of, written_for, written_of}
 use Rattle.plc_gen.specs.Emitted.{parts_from, parts_of}
-use Rattle.plc_gen.specs.Tries.{all_placed, branch_of, class_tries, join, one_branch, one_try, placed}
+use Rattle.plc_gen.specs.Tries.{all_placed, all_tries, branch_of, class_bodies, first_body, join, one_branch, one_try, other_bodies, placed}
 use Rattle.plc_gen.proofs.Chaining.{bare}
 use Rattle.plc_gen.proofs.Choosing.{all-filter}
 use Rattle.plc_gen.proofs.Making.{Simple}
@@ -111,6 +111,24 @@ placed-from b (suc e) i (suc len) f =
     same-cons (sym (chosen (nat_eq (i + suc e) i) false (join (f i) (one_branch b)) (f i) t))
     (placed-from b e (i + 1) len f ∙ ap (λ c. table (λ j. with_one b c j (f j)) (i + 1) len) m)
 
+-- ---- the bodies of all events
+
+abbrev body_at : List Stms → ℕ → Stms
+body_at bodies e = elim (slice_get bodies e) [ None ↦ no_stms | Some b ↦ b ]
+
+first-at : (bodies : List Stms) → first_body bodies ≡ body_at bodies 0
+first-at [] = refl
+first-at (b ∷ bodies) = refl
+
+other-at : (bodies : List Stms) (j : ℕ) → body_at (other_bodies bodies) j ≡ body_at bodies (suc j)
+other-at [] j = refl
+other-at (b ∷ bodies) j = refl
+
+part-at : (parts : List Part) (e : ℕ) → body_at (map (λ (q : Part). q.body) parts) e ≡ (part_of parts e).body
+part-at [] e = refl
+part-at (q ∷ parts) zero = refl
+part-at (q ∷ parts) (suc e) = part-at parts e
+
 module _ (x : n.Net) where
   abbrev listed_for : List NetChoice → ℕ → Branches
   listed_for cs e = chain_branches (map (written_of x) (choices_of cs e))
@@ -142,52 +160,49 @@ module _ (x : n.Net) where
   try-is done (c ∷ []) all = refl
   try-is done (c ∷ d ∷ ds) all = let b = bare x (c ∷ d ∷ ds) all in rw b refl
 
-  body-at : (cs : List NetChoice) → AllByRecursion (Simple x) cs → (k i len e : ℕ) → e < len
-      → (part_or_none (slice_get (parts_from k (map (written_for x cs) (range_with_len i len))) e)).body ≡ one_try (listed_for cs (i + e))
-  body-at cs all k i zero e h = absurd (omega (arith, h))
-  body-at cs all k i (suc len) zero h =
-      let m : i ≡ i + 0 = omega arith in
-      sym (try-is (own_name (k, done_face)) (choices_of cs i) (all-filter (Simple x) (λ (c : NetChoice). nat_eq c.event i) cs all))
-      ∙ ap (λ j. one_try (listed_for cs j)) m
-  body-at cs all k i (suc len) (suc e) h =
-      let m : i + 1 + e ≡ i + suc e = omega arith in
-      body-at cs all (k + length (own_of (written_for x cs i))) (i + 1) len e (omega (arith, h)) ∙ ap (λ j. one_try (listed_for cs j)) m
+  -- one by one
+  tries-from : (cs : List NetChoice) → AllByRecursion (Simple x) cs → (k i len : ℕ)
+      → map one_try (map (listed_for cs) (range_with_len i len)) ≡ map (λ (q : Part). q.body) (parts_from k (map (written_for x cs) (range_with_len i len)))
+  tries-from cs all k i zero = refl
+  tries-from cs all k i (suc len) =
+      same-cons (try-is (own_name (k, done_face)) (choices_of cs i) (all-filter (Simple x) (λ (c : NetChoice). nat_eq c.event i) cs all))
+      (tries-from cs all (k + length (own_of (written_for x cs i))) (i + 1) len)
 
-  abbrev body_of : List NetChoice → ℕ → Stms
-  body_of cs e = (part_of (parts_of x cs) e).body
+  -- the tries are the bodies of the parts
+  pub tries-are : (cs : List NetChoice) → AllByRecursion (Simple x) cs → all_tries x cs ≡ map (λ (q : Part). q.body) (parts_of x cs)
+  tries-are cs all = ap (map one_try) (lists-are cs (length x.events)) ∙ tries-from cs all 2 0 (length x.events)
+
+  -- ---- the events of a class
 
   -- the events from the i-th on
-  tries-from : (cs : List NetChoice) → AllByRecursion (Simple x) cs → (k : Class) (i : ℕ) (es : List n.NetEvent)
-      → ((j : ℕ) → slice_get x.events (i + j) ≡ slice_get es j) → i + length es ≡ length x.events
-      → class_tries k es (map (listed_for cs) (range_with_len i (length es)))
-      ≡ tries_of (body_of cs) (filter (is_of (system_of_net x) k) (range_with_len i (length es)))
-  tries-from cs all k i [] at long = refl
-  tries-from cs all k i (e ∷ es) at long =
+  bodies-from : (body : ℕ → Stms) (k : Class) (i : ℕ) (es : List n.NetEvent) (bodies : List Stms) → ((j : ℕ) → slice_get x.events (i + j) ≡ slice_get es j)
+      → ((j : ℕ) → body_at bodies j ≡ body (i + j)) → class_bodies k es bodies ≡ tries_of body (filter (is_of (system_of_net x) k) (range_with_len i (length es)))
+  bodies-from body k i [] bodies at are = refl
+  bodies-from body k i (e ∷ es) bodies at are =
       let m : i + 0 ≡ i = omega arith in
       let here : slice_get x.events i ≡ Some e = ap (slice_get x.events) (sym m) ∙ at 0 in
       let class : is_of (system_of_net x) k i ≡ same_class k e.class = ap (has_class k) (event-at x.events i e here) in
-      let rest = tries-from cs all k (i + 1) es (λ j. let q : i + 1 + j ≡ i + suc j = omega arith in ap (slice_get x.events) q ∙ at (suc j)) (omega (arith, long)) in
-      let zeroth : 0 + i ≡ i = omega arith in
-      let one : one_try (listed_for cs i) ≡ body_of cs i = ap (λ j. one_try (listed_for cs j)) (sym zeroth) ∙ sym (body-at cs all 2 0 (length x.events) i (omega (arith, long))) in
-      go (same_class k e.class) one rest
-      ∙ ap (λ t. tries_of (body_of cs) (if t then i ∷ filter (is_of (system_of_net x) k) (range_with_len (i + 1) (length es)) else filter (is_of (system_of_net x) k) (range_with_len (i + 1) (length es)))) (sym class)
+      let rest = bodies-from body k (i + 1) es (other_bodies bodies) (λ j. let q : i + 1 + j ≡ i + suc j = omega arith in ap (slice_get x.events) q ∙ at (suc j))
+      (λ j. let q : i + suc j ≡ i + 1 + j = omega arith in other-at bodies j ∙ are (suc j) ∙ ap body q) in
+      go (same_class k e.class) (first-at bodies ∙ are 0 ∙ ap body m) rest
+      ∙ ap (λ t. tries_of body (if t then i ∷ filter (is_of (system_of_net x) k) (range_with_len (i + 1) (length es)) else filter (is_of (system_of_net x) k) (range_with_len (i + 1) (length es)))) (sym class)
     where
       event-at : (xs : List n.NetEvent) (j : ℕ) (y : n.NetEvent) → slice_get xs j ≡ Some y → slice_get (map event_in xs) j ≡ Some (event_in y)
       event-at [] j y h = absurd (none-some y h)
       event-at (z ∷ xs) zero y h = ap (λ (o : Option n.NetEvent). elim o [ None ↦ None | Some w ↦ Some (event_in w) ]) h
       event-at (z ∷ xs) (suc j) y h = event-at xs j y h
 
-      go : (t : Bool) → one_try (listed_for cs i) ≡ body_of cs i
-          → class_tries k es (map (listed_for cs) (range_with_len (i + 1) (length es))) ≡ tries_of (body_of cs) (filter (is_of (system_of_net x) k) (range_with_len (i + 1) (length es)))
-          → (if t then append (one_try (listed_for cs i)) (class_tries k es (map (listed_for cs) (range_with_len (i + 1) (length es)))) else class_tries k es (map (listed_for cs) (range_with_len (i + 1) (length es))))
-          ≡ tries_of (body_of cs) (if t then i ∷ filter (is_of (system_of_net x) k) (range_with_len (i + 1) (length es)) else filter (is_of (system_of_net x) k) (range_with_len (i + 1) (length es)))
-      go true p q = ap (λ ss. append ss (class_tries k es (map (listed_for cs) (range_with_len (i + 1) (length es))))) p ∙ ap (append (body_of cs i)) q
+      go : (t : Bool) → first_body bodies ≡ body i
+          → class_bodies k es (other_bodies bodies) ≡ tries_of body (filter (is_of (system_of_net x) k) (range_with_len (i + 1) (length es)))
+          → (if t then append (first_body bodies) (class_bodies k es (other_bodies bodies)) else class_bodies k es (other_bodies bodies))
+          ≡ tries_of body (if t then i ∷ filter (is_of (system_of_net x) k) (range_with_len (i + 1) (length es)) else filter (is_of (system_of_net x) k) (range_with_len (i + 1) (length es)))
+      go true p q = ap (λ ss. append ss (class_bodies k es (other_bodies bodies))) p ∙ ap (append (body i)) q
       go false p q = q
 
-  -- the tries of a class are those of the frame
-  pub tries-are : (cs : List NetChoice) → AllByRecursion (Simple x) cs → (k : Class)
-      → class_tries k x.events (all_placed x cs (replicate (length x.events) no_branches)) ≡ tries_of (body_of cs) (of_class (system_of_net x) k)
-  tries-are cs all k =
-      ap (class_tries k x.events) (lists-are cs (length x.events))
-      ∙ tries-from cs all k 0 x.events (λ j. ap (slice_get x.events) (omega arith)) (omega arith)
-      ∙ ap (λ len. tries_of (body_of cs) (filter (is_of (system_of_net x) k) (range_with_len 0 len))) (sym (map-length event_in x.events))
+  -- the statements of a class are those of the frame
+  pub bodies-are : (parts : List Part) (k : Class)
+      → class_bodies k x.events (map (λ (q : Part). q.body) parts) ≡ tries_of (λ e. (part_of parts e).body) (of_class (system_of_net x) k)
+  bodies-are parts k =
+      bodies-from (λ e. (part_of parts e).body) k 0 x.events (map (λ (q : Part). q.body) parts) (λ j. ap (slice_get x.events) (omega arith))
+      (λ j. part-at parts j ∙ ap (λ i. (part_of parts i).body) (omega arith))
+      ∙ ap (λ len. tries_of (λ e. (part_of parts e).body) (filter (is_of (system_of_net x) k) (range_with_len 0 len))) (sym (map-length event_in x.events))

@@ -1,5 +1,5 @@
 -- The program of a net has a spelling, where the choices need tests alone and the enumerations of the net are small.
-use Rattle.std.proofs.Common.{◌≡◌, ℕ, zero, suc, ◌+◌, ◌≤◌, ℤ, pos, negsuc, true, ◌&&◌, List, [], ◌∷◌, ◌++◌, map, length, max, Some, refl, sym, ap, subst, arith, le-leb}
+use Rattle.std.proofs.Common.{◌≡◌, ℕ, zero, suc, ◌+◌, ◌≤◌, ℤ, pos, negsuc, true, ◌&&◌, List, [], ◌∷◌, ◌++◌, map, length, max, Some, refl, sym, subst, arith, le-leb}
 use Rattle.std.specs.Prelude.{◌-ℤ◌, int_le, nat_eq, nat_le, nat_lt, option_to_list, slice_get, sum}
 use Rattle.std.specs.List.{AllByRecursion, list_all}
 use Rattle.std.proofs.lemmas.Bool.Decides.{nat_tests}
@@ -27,13 +27,14 @@ use Rattle.plc_face.specs.declared.letter.Letter.TheVariants as letter
 use Rattle.plc_face.specs.Face.{Face, algs_of, alg_face, literal_of, places_of as face_places}
 use Rattle.plc_face.specs.Frame.{latches_of, part_of}
 use Rattle.plc_gen.specs.Faces.{alg_face_of, face_of_net, st_type, stored_face}
-use Rattle.plc_gen.specs.Events.{Written, choices_of, event_text, own_of, written_for}
-use Rattle.plc_gen.specs.Emitted.{all_shown_by, all_written, blocks_of, counter_face, mark_face, outputs_of, parts_of, program_of, temporaries, variables_of}
+use Rattle.plc_gen.specs.Events.{Written, choices_of, event_text, written_for}
+use Rattle.plc_gen.specs.Emitted.{all_shown_by, all_written, blocks_of, outputs_of, parts_of, program_of, temporaries, variables_of}
 use Rattle.plc_gen.specs.Makes.{needs_tests_alone}
 use Rattle.plc_gen.specs.Small.{are_small, is_small}
 use Rattle.plc_gen.proofs.Choosing.{all-filter, all-of}
 use Rattle.plc_gen.proofs.Checking.{all-mapped}
-use Rattle.plc_gen.proofs.Emits.{flat-none, own-none, stms_of-append}
+use Rattle.plc_gen.proofs.Emits.{own-temporaries}
+use Rattle.plc_gen.proofs.Framing.{stms_of-append}
 use Rattle.plc_gen.proofs.Facts.{all-simple, ends-within, first-inside, none-of, standing}
 use Rattle.plc_gen.proofs.Making.{Simple}
 use Rattle.plc_gen.proofs.Moving.{faces}
@@ -133,12 +134,6 @@ module _ (n : Net) where
       record { fits = and-left _ _ (and-left _ _ (and-left _ _ (and-left _ _ h))); depth = omega (arith, top) }
 
 -- ---- the program
-
--- the mark and the counter alone
-pub own-temporaries : (n : Net) (cs : List NetChoice) → AllByRecursion (Simple n) cs → temporaries n cs ≡ mark_face ∷ counter_face ∷ []
-own-temporaries n cs simple =
-    ap (λ xs. mark_face ∷ counter_face ∷ xs)
-    (flat-none own_of (all_written n cs) (all-mapped [] (λ (ws : List Written). own_of ws ≡ []) (written_for n cs) (own-none n cs simple) 0 (length n.events)))
 
 module _ (n : Net) (cs : List NetChoice) (U C : ℕ) (net : is_net n ≡ true) (guarded : IsGuarded n cs) (alone : needs_tests_alone n cs ≡ true) (u : U ≤ greatest) (c : C ≤ greatest) (vars : are_small n.vars ≡ true) (inputs : are_small n.inputs ≡ true) where
   abbrev face : Face

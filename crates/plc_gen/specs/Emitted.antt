@@ -40,6 +40,9 @@ mark_face = record { path = codes "fired"; ty = ty.Bool; first = pos 0 }
 abbrev pub counter_face : VariableFace
 counter_face = record { path = codes "rounds"; ty = ty.Lint; first = pos 0 }
 
+abbrev pub mark_and_counter : List VariableFace
+mark_and_counter = mark_face ∷ counter_face ∷ []
+
 -- the generator's own: the mark, the counter, and those of the events
 abbrev pub temporaries : Net → List NetChoice → List VariableFace
 temporaries n cs = mark_face ∷ counter_face ∷ flat_map own_of (all_written n cs)

@@ -3,6 +3,7 @@ pub mod Tests
 pub mod Events
 pub mod Emitted
 pub mod Makes
+pub mod Given
 pub mod Small
 pub mod Shapes
 pub mod Shown

@@ -1,5 +1,5 @@
 -- What the variables of a program are, as the code has them.
-use Rattle.std.specs.Prelude.{◌≡◌, ◌<◌, ◌^◌, List, [], ◌∷◌, ◌++◌, map, length}
+use Rattle.std.specs.Prelude.{◌≡◌, ◌<◌, ◌^◌, List, ◌++◌, map, length}
 use Rattle.cif_model.specs.Net.{Net}
 use Rattle.st_ast.specs.declared.tree.StVar.{StVar}
 use Rattle.st_ast.specs.declared.tree.StClass.TheVariants as class
@@ -7,14 +7,11 @@ use Rattle.plc_face.specs.declared.letter.Letter.TheVariants as letter
 use Rattle.plc_face.specs.Face.{VariableFace, declarations, places_of}
 use Rattle.plc_gen.specs.declared.faces.Faces.{Faces}
 use Rattle.plc_gen.specs.declared.faces.Shown.{Shown}
-use Rattle.plc_gen.specs.Emitted.{counter_face, mark_face}
+use Rattle.plc_gen.specs.Emitted.{mark_and_counter}
 use Rattle.plc_gen.specs.Faces.{face_of_net}
 
 abbrev pub face_tree : Shown → VariableFace
 face_tree x = record { path = x.path; ty = x.ty; first = x.first }
-
-abbrev pub mark_and_counter : List VariableFace
-mark_and_counter = mark_face ∷ counter_face ∷ []
 
 -- what the program shows of the net
 pub record AreFaces (n : Net) (f : Faces) : Type 0 where
@@ -25,16 +22,17 @@ pub record AreFaces (n : Net) (f : Faces) : Type 0 where
   pub few_variables : length f.variables < 2 ^ 32
   pub few_inputs : length f.inputs < 2 ^ 32
 
--- the variables of a program without algebraic variables and without variables of events
-abbrev pub declared_by : (places variables inputs : List VariableFace) → List StVar
-declared_by places variables inputs =
+-- the variables of a program without algebraic variables, with these of the events
+abbrev pub declared_by : (own : List StVar) (places variables inputs : List VariableFace) → List StVar
+declared_by own places variables inputs =
     declarations letter.L class.Plain places
     ++ declarations letter.V class.Plain variables
     ++ declarations letter.H class.Plain inputs
     ++ declarations letter.T class.Plain mark_and_counter
+    ++ own
     ++ declarations letter.I class.Input inputs
     ++ declarations letter.P class.Output places
     ++ declarations letter.Q class.Output variables
 
-abbrev pub declared_for : Faces → List StVar
-declared_for f = declared_by (map face_tree f.places) (map face_tree f.variables) (map face_tree f.inputs)
+abbrev pub declared_for : Faces → List StVar → List StVar
+declared_for f own = declared_by own (map face_tree f.places) (map face_tree f.variables) (map face_tree f.inputs)

@@ -1,6 +1,6 @@
 -- The statements of the events as code puts them together: the branches of all choices by their events, and then the events
 -- of a class.
-use Rattle.std.specs.Prelude.{ℕ, zero, suc, List, [], ◌∷◌, length, replicate, if◌then◌else◌}
+use Rattle.std.specs.Prelude.{ℕ, zero, suc, List, [], ◌∷◌, map, length, replicate, if◌then◌else◌}
 use Rattle.cif_system.specs.System.{Class, con, unc}
 use Rattle.cif_system.specs.Step.{same_class}
 use Rattle.cif_model.specs.Net as n
@@ -38,25 +38,30 @@ abbrev pub one_try : Branches → Stms
 one_try no_branches = no_stms
 one_try (branches c ss bs) = stms (choice (branches c ss bs) no_other) no_stms
 
-abbrev pub first_list : List Branches → Branches
-first_list [] = no_branches
-first_list (bs ∷ rest) = bs
+-- the first of the bodies, and an empty one where there is none
+abbrev pub first_body : List Stms → Stms
+first_body [] = no_stms
+first_body (b ∷ rest) = b
 
-abbrev pub other_lists : List Branches → List Branches
-other_lists [] = []
-other_lists (bs ∷ rest) = rest
+abbrev pub other_bodies : List Stms → List Stms
+other_bodies [] = []
+other_bodies (b ∷ rest) = rest
 
--- the tries of the events of a class, whose branches stand in the lists
-abbrev pub class_tries : Class → List n.NetEvent → List Branches → Stms
-class_tries k [] lists = no_stms
-class_tries k (e ∷ es) lists =
-    if same_class k e.class then append (one_try (first_list lists)) (class_tries k es (other_lists lists)) else class_tries k es (other_lists lists)
+-- the statements of the events of a class, from the bodies of all events
+abbrev pub class_bodies : Class → List n.NetEvent → List Stms → Stms
+class_bodies k [] bodies = no_stms
+class_bodies k (e ∷ es) bodies =
+    if same_class k e.class then append (first_body bodies) (class_bodies k es (other_bodies bodies)) else class_bodies k es (other_bodies bodies)
 
 -- the branches of all choices by their events
 abbrev pub branch_lists : n.Net → List NetChoice → List Branches
 branch_lists x cs = all_placed x cs (replicate (length x.events) no_branches)
 
--- the statements of a scan
-abbrev pub scan_text : n.Net → List NetChoice → ℕ → ℕ → Stms
-scan_text x cs U C =
-    append (append (append (latches_of (face_of_net x)) (loop_of U (class_tries unc x.events (branch_lists x cs)))) (loop_of C (class_tries con x.events (branch_lists x cs)))) (outputs_of (face_of_net x))
+-- the tries of all events
+abbrev pub all_tries : n.Net → List NetChoice → List Stms
+all_tries x cs = map one_try (branch_lists x cs)
+
+-- the statements of a scan, from the bodies of all events
+abbrev pub scan_text : n.Net → List Stms → ℕ → ℕ → Stms
+scan_text x bodies U C =
+    append (append (append (latches_of (face_of_net x)) (loop_of U (class_bodies unc x.events bodies))) (loop_of C (class_bodies con x.events bodies))) (outputs_of (face_of_net x))

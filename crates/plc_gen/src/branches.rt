@@ -6,7 +6,7 @@ ghost use Rattle.st_ast.specs.Tree.{no_branches};
 ghost use Rattle.st_ast.specs.View.{view_branch, view_branches, view_stmts};
 ghost use Rattle.plc_gen.specs.Tries.{placed, branch_of, all_placed};
 
-use crate::frame::marking;
+use crate::looping::marking;
 use crate::moves::all_moving;
 use crate::tests::written_test;
 use cif_base::{Boxed, Items, Memory};

@@ -5,7 +5,8 @@ ghost use Rattle.cif_net.specs.View.{net_tree, auto_tree, input_tree, var_tree};
 ghost use Rattle.plc_face.specs.Face.{place_face, places_of};
 ghost use Rattle.plc_gen.specs.Faces as f;
 ghost use Rattle.plc_gen.specs.Faces.{auto_face, face_of_net, stored_face};
-ghost use Rattle.plc_gen.specs.Shown.{face_tree, mark_and_counter, AreFaces};
+ghost use Rattle.plc_gen.specs.Shown.{face_tree, AreFaces};
+ghost use Rattle.plc_gen.specs.Emitted.{mark_and_counter};
 ghost use Rattle.plc_gen.specs.Small.{is_small, are_small};
 
 use cif_base::{Boxed, Items, Memory, Text, Ty};

@@ -4,8 +4,9 @@
 
 mod branches;
 mod faces;
-mod frame;
+mod given;
 mod laws;
+mod looping;
 mod moves;
 mod names;
 mod program;
@@ -15,6 +16,7 @@ mod tests;
 mod tries;
 mod variables;
 
+pub use given::{Part, frame};
 pub use laws::{
     choices_without_data_need_tests_alone, programs_have_a_spelling, programs_scan_exactly,
 };

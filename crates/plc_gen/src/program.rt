@@ -8,10 +8,12 @@ ghost use Rattle.plc_gen.specs.Emitted.{program_of};
 ghost use Rattle.plc_gen.specs.Makes.{Makes, needs_tests_alone};
 ghost use Rattle.plc_gen.specs.Small.{are_small};
 
+use crate::branches::branches_by_event;
 use crate::faces::shown_faces;
 use crate::scan::statements;
+use crate::tries::attempts;
 use crate::variables::variables;
-use cif_base::{Memory, Text};
+use cif_base::{Items, Memory, Text};
 use cif_net::{Choice, Net};
 use st_ast::Program;
 use std::alloc::Global;
@@ -40,8 +42,11 @@ pub fn emit(alloc: Global, net: &Net, choices: &[Choice], bounds: Bounds) -> Res
     ensures small_inputs { IfOk result (λ p. are_small (net_tree net.now).inputs ≡ true) }
 {
     let faces = shown_faces(alloc, net)?;
-    let body = statements(alloc, net, choices, &faces, bounds)?;
-    let vars = variables(alloc, &faces)?;
+    let lists = branches_by_event(alloc, net, choices)?;
+    let bodies = attempts(alloc, lists)?;
+    let body = statements(alloc, net, bodies, &faces, bounds)?;
+    let own = Items::new(alloc);
+    let vars = variables(alloc, &faces, own)?;
     let name = Text::from_slice(alloc, b"CifScan")?;
     Ok(Program { name, vars, body })
 }

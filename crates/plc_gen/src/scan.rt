@@ -2,7 +2,7 @@
 
 ghost use Rattle.std.specs.Prelude.{◌≡◌, map, IfOk};
 ghost use Rattle.st_ast.specs.View.{view_stmts};
-ghost use Rattle.cif_net.specs.View.{net_tree, choice_tree};
+ghost use Rattle.cif_net.specs.View.{net_tree};
 ghost use Rattle.plc_face.specs.Frame.{latches_of};
 ghost use Rattle.plc_gen.specs.Faces.{face_of_net};
 ghost use Rattle.plc_gen.specs.Emitted.{outputs_of};
@@ -10,13 +10,12 @@ ghost use Rattle.plc_gen.specs.Shown.{AreFaces};
 ghost use Rattle.plc_gen.specs.Tries.{scan_text};
 
 use crate::Bounds;
-use crate::branches::branches_by_event;
 use crate::faces::Faces;
-use crate::frame::rounds;
-use crate::tries::{Tries, class_tries};
+use crate::looping::rounds;
+use crate::tries::{Tries, class_bodies};
 use crate::variables::copies;
 use cif_base::{Items, Memory};
-use cif_net::{Choice, Net};
+use cif_net::Net;
 use plc_face::Letter;
 use st_ast::Stmt;
 use std::alloc::Global;
@@ -42,21 +41,20 @@ fn outputs(alloc: Global, net: &Net, faces: &Faces) -> Result<Items<Stmt>, Memor
 }
 
 /// The inputs are latched, then come the rounds of the uncontrollable events and those of the controllable ones, and then
-/// the outputs.
+/// the outputs. The bodies are those of all events.
 #[tactic(auto, using(crate::proofs::Building::view_append))]
 pub fn statements(
     alloc: Global,
     net: &Net,
-    choices: &[Choice],
+    bodies: Items<Items<Stmt>>,
     faces: &Faces,
     bounds: Bounds,
 ) -> Result<Items<Stmt>, Memory>
     requires { AreFaces (net_tree net.now) faces.now }
     ensures { IfOk result
-        (λ ss. view_stmts ss ≡ scan_text (net_tree net.now) (map choice_tree choices.now) bounds.unc bounds.con) }
+        (λ ss. view_stmts ss ≡ scan_text (net_tree net.now) (map view_stmts bodies) bounds.unc bounds.con) }
 {
-    let lists = branches_by_event(alloc, net, choices)?;
-    let Tries { unc, con } = class_tries(alloc, net, lists)?;
+    let Tries { unc, con } = class_bodies(alloc, net, bodies)?;
     let mut all = latches(alloc, net, faces)?;
     all.append(rounds(alloc, bounds.unc, unc)?)?;
     all.append(rounds(alloc, bounds.con, con)?)?;

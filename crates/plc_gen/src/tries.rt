@@ -39,34 +39,45 @@ fn attempt(alloc: Global, branches: Items<StBranch>) -> Result<Items<Stmt>, Memo
     Ok(all)
 }
 
-/// The last of the lists, and an empty one where there is none.
-fn last_list(alloc: Global, lists: &mut Items<Items<StBranch>>) -> Items<StBranch>
-    ensures list { view_branches result ≡ t.first_list (map view_branches (reversed lists.old)) }
-    ensures rest { map view_branches (reversed lists.new) ≡ t.other_lists (map view_branches (reversed lists.old)) }
+/// The tries of all events, from the branches of each.
+pub fn attempts(alloc: Global, lists: Items<Items<StBranch>>) -> Result<Items<Items<Stmt>>, Memory>
+    ensures { IfOk result (λ all. map view_stmts all ≡ map t.one_try (map view_branches lists)) }
 {
-    match lists.pop() {
-        Some(list) => list,
+    let mut all = Items::new(alloc);
+    for list in lists.into_vec() {
+        all.push(attempt(alloc, list)?)?;
+    }
+    Ok(all)
+}
+
+/// The last of the bodies, and an empty one where there is none.
+fn last_body(alloc: Global, bodies: &mut Items<Items<Stmt>>) -> Items<Stmt>
+    ensures body { view_stmts result ≡ t.first_body (map view_stmts (reversed bodies.old)) }
+    ensures rest { map view_stmts (reversed bodies.new) ≡ t.other_bodies (map view_stmts (reversed bodies.old)) }
+{
+    match bodies.pop() {
+        Some(body) => body,
         None => Items::new(alloc),
     }
 }
 
-/// The tries of the events of each of the two classes, from the branches of all events.
+/// The statements of the events of each of the two classes, from the bodies of all events.
 #[tactic(auto, using(crate::proofs::Building::statements))]
-pub fn class_tries(alloc: Global, net: &Net, lists: Items<Items<StBranch>>) -> Result<Tries, Memory>
+pub fn class_bodies(alloc: Global, net: &Net, bodies: Items<Items<Stmt>>) -> Result<Tries, Memory>
     ensures unc { IfOk result
-        (λ both. view_stmts both.unc ≡ t.class_tries s.unc (net_tree net.now).events (map view_branches lists)) }
+        (λ both. view_stmts both.unc ≡ t.class_bodies s.unc (net_tree net.now).events (map view_stmts bodies)) }
     ensures con { IfOk result
-        (λ both. view_stmts both.con ≡ t.class_tries s.con (net_tree net.now).events (map view_branches lists)) }
+        (λ both. view_stmts both.con ≡ t.class_bodies s.con (net_tree net.now).events (map view_stmts bodies)) }
 {
-    let mut lists = lists;
-    lists.reverse();
+    let mut bodies = bodies;
+    bodies.reverse();
     let mut unc = Items::new(alloc);
     let mut con = Items::new(alloc);
     for event in net.events.as_slice() {
-        let part = attempt(alloc, last_list(alloc, &mut lists))?;
+        let body = last_body(alloc, &mut bodies);
         match event.class {
-            Class::Unc => unc.append(part)?,
-            Class::Con => con.append(part)?,
+            Class::Unc => unc.append(body)?,
+            Class::Con => con.append(body)?,
             Class::Plain => {}
         }
     }

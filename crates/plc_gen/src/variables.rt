@@ -61,21 +61,22 @@ pub fn declarations(
     Ok(all)
 }
 
-/// The declarations of all variables, each letter's in a block.
-pub fn variables(alloc: Global, faces: &Faces) -> Result<Items<StVar>, Memory>
+/// The declarations of all variables, each letter's in a block. The events' own come after the mark and the counter.
+pub fn variables(alloc: Global, faces: &Faces, own: Items<StVar>) -> Result<Items<StVar>, Memory>
     requires places { length faces.now.places < 2 ^ 32 }
     requires variables { length faces.now.variables < 2 ^ 32 }
     requires inputs { length faces.now.inputs < 2 ^ 32 }
-    ensures { IfOk result (λ all. all ≡ declared_for faces.now) }
+    ensures { IfOk result (λ all. all ≡ declared_for faces.now own) }
 {
     let places = faces.places.as_slice();
     let variables = faces.variables.as_slice();
     let inputs = faces.inputs.as_slice();
-    let own = own_variables(alloc)?;
+    let marks = own_variables(alloc)?;
     let mut all = declarations(alloc, Letter::L, StClass::Plain, places)?;
     all.append(declarations(alloc, Letter::V, StClass::Plain, variables)?)?;
     all.append(declarations(alloc, Letter::H, StClass::Plain, inputs)?)?;
-    all.append(declarations(alloc, Letter::T, StClass::Plain, own.as_slice())?)?;
+    all.append(declarations(alloc, Letter::T, StClass::Plain, marks.as_slice())?)?;
+    all.append(own)?;
     all.append(declarations(alloc, Letter::I, StClass::Input, inputs)?)?;
     all.append(declarations(alloc, Letter::P, StClass::Output, places)?)?;
     all.append(declarations(alloc, Letter::Q, StClass::Output, variables)?)?;

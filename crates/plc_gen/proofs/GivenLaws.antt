@@ -1,0 +1,51 @@
+-- The program round given statements meets what the law of the frame asks.
+use Rattle.std.proofs.Common.{◌≡◌, ℕ, zero, suc, ◌+◌, ◌≤◌, true, ◌&&◌, List, [], ◌∷◌, ◌++◌, map, arith}
+use Rattle.std.specs.List.{AllByRecursion}
+use Rattle.cif_system.proofs.Picks.{and-left, and-right}
+use Rattle.cif_model.specs.Net.{Net}
+use Rattle.cif_model.specs.Facts.{is_net}
+use Rattle.st_ast.specs.Checks.{stms_faults, variables_faults}
+use Rattle.st_ast.specs.Scan.{turns_of_scan}
+use Rattle.st_ast.specs.Spelled.{are_declarations, are_stms, is_name}
+use Rattle.st_ast.specs.Tree.{Program}
+use Rattle.st_ast.specs.declared.tree.StVar.{StVar}
+use Rattle.st_ast.specs.declared.tree.StClass.TheVariants as class
+use Rattle.plc_face.specs.declared.letter.Letter.TheVariants as letter
+use Rattle.plc_face.specs.Frame.{IsOwnName, part_of}
+use Rattle.plc_gen.specs.Given.{EventPart, FrameFits, IsOwnVariable, asked, framed_program, own_variables}
+use Rattle.plc_gen.specs.Makes.{Makes}
+use Rattle.plc_gen.proofs.Declaring.{AllOf, append-none-left, checked-typed}
+use Rattle.plc_gen.proofs.Framing.{framed-makes}
+
+all-left : {A : Type 0} (P : A → Type 0) (xs ys : List A) → AllByRecursion P (xs ++ ys) → AllByRecursion P xs
+all-left P [] ys h = tt
+all-left P (x ∷ xs) ys h = (h.0, all-left P xs ys h.1)
+
+all-right : {A : Type 0} (P : A → Type 0) (xs ys : List A) → AllByRecursion P (xs ++ ys) → AllByRecursion P ys
+all-right P [] ys h = h
+all-right P (x ∷ xs) ys h = all-right P xs ys h.1
+
+-- variables of the letter T
+own-of : (vs : List StVar) → AllByRecursion IsOwnVariable vs → AllOf letter.T class.Plain vs
+own-of [] h = tt
+own-of (v ∷ vs) h = (record { number = h.0.number; path = h.0.path; name = h.0.name; class = h.0.is_plain }, own-of vs h.1)
+
+names-own : (vs : List StVar) → AllByRecursion IsOwnVariable vs → AllByRecursion IsOwnName (map (λ (v : StVar). v.name) vs)
+names-own [] h = tt
+names-own (v ∷ vs) h =
+    let top = h.0.to in
+    ((h.0.number, h.0.path, h.0.from, omega (arith, top), h.0.name), names-own vs h.1)
+
+part-own : (parts : List EventPart) → AllByRecursion IsOwnVariable (own_variables parts) → (e : ℕ) → AllByRecursion IsOwnName (part_of (map asked parts) e).own
+part-own [] h e = tt
+part-own (x ∷ parts) h zero = names-own x.own (all-left IsOwnVariable x.own (own_variables parts) h)
+part-own (x ∷ parts) h (suc e) = part-own parts (all-right IsOwnVariable x.own (own_variables parts) h) e
+
+-- statements that fit make a program with exact scans
+pub given-makes : (n : Net) (parts : List EventPart) (U C : ℕ) → is_net n ≡ true → FrameFits n U C parts → U + C ≤ turns_of_scan → Makes n U C (framed_program n parts U C)
+given-makes n parts U C net fits turns =
+    let p : Program = framed_program n parts U C in
+    framed-makes n (own_variables parts) (map asked parts) U C net fits.no_invariants fits.no_algs (own-of (own_variables parts) fits.own) turns fits.checked
+    (checked-typed [] 0 p.vars (append-none-left (variables_faults [] 0 p.vars) (stms_faults p.vars 0 p.body) fits.checked)
+    (and-left (are_declarations p.vars) (are_stms 400 p.body) (and-right (is_name p.name) (are_declarations p.vars && are_stms 400 p.body) fits.spelled)))
+    (part-own parts fits.own) fits.events

@@ -1,0 +1,69 @@
+//! The program round statements that a caller gives for the events.
+
+ghost use Rattle.std.specs.Prelude.{◌≡◌, ◌≤◌, map, IfOk};
+ghost use Rattle.cif_net.specs.View.{net_tree};
+ghost use Rattle.st_ast.specs.View.{view, view_stmts};
+ghost use Rattle.plc_gen.specs.Given.{EventPart, FrameFits, body_of, framed_program, own_variables, part_tree};
+ghost use Rattle.plc_gen.specs.Makes.{Makes};
+
+use crate::Bounds;
+use crate::faces::shown_faces;
+use crate::scan::statements;
+use crate::variables::variables;
+use cif_base::{Items, Memory, Text};
+use cif_net::Net;
+use st_ast::{Program, StVar, Stmt};
+use std::alloc::Global;
+
+/// What a caller gives for an event: the variables of its own, and its statements.
+#[derive(Debug, Drop)]
+pub struct Part {
+    pub own: Items<StVar>,
+    pub body: Items<Stmt>,
+}
+
+/// The variables of all events, and the statements of each.
+#[derive(Debug, Drop)]
+struct Split {
+    own: Items<StVar>,
+    bodies: Items<Items<Stmt>>,
+}
+
+/// The variables of all parts, and the statements of each.
+fn taken_apart(alloc: Global, parts: Items<Part>) -> Result<Split, Memory>
+    ensures own { IfOk result (λ s. s.own ≡ own_variables (map part_tree parts)) }
+    ensures bodies { IfOk result (λ s. map view_stmts s.bodies ≡ map body_of (map part_tree parts)) }
+{
+    let mut own = Items::new(alloc);
+    let mut bodies = Items::new(alloc);
+    for part in parts.into_vec() {
+        let Part { own: more, body } = part;
+        own.append(more)?;
+        bodies.push(body)?;
+    }
+    Ok(Split { own, bodies })
+}
+
+/// The program that has the frame of `emit` round these parts, one for each event: in each loop the statements of the events
+/// of its class stand in the order of their numbers, and the variables of the events are declared after the mark that
+/// something fired (`T0_fired`) and the counter of rounds (`T1_rounds`). The time is linear in what is written.
+pub fn frame(
+    alloc: Global,
+    net: &Net,
+    bounds: Bounds,
+    parts: Items<Part>,
+) -> Result<Program, Memory>
+    requires fits { FrameFits (net_tree net.now) bounds.unc bounds.con (map part_tree parts) }
+    requires unc { bounds.unc ≤ 10000 }
+    requires con { bounds.con ≤ 10000 }
+    ensures text { IfOk result
+        (λ p. view p ≡ framed_program (net_tree net.now) (map part_tree parts) bounds.unc bounds.con) }
+    ensures makes { IfOk result (λ p. Makes (net_tree net.now) bounds.unc bounds.con (view p)) }
+{
+    let faces = shown_faces(alloc, net)?;
+    let Split { own, bodies } = taken_apart(alloc, parts)?;
+    let body = statements(alloc, net, bodies, &faces, bounds)?;
+    let vars = variables(alloc, &faces, own)?;
+    let name = Text::from_slice(alloc, b"CifScan")?;
+    Ok(Program { name, vars, body })
+}
