@@ -19,10 +19,10 @@ use Rattle.st_ast.specs.declared.tree.StClass.TheVariants as class
 use Rattle.st_ast.specs.declared.tree.StTy.TheVariants as ty
 use Rattle.plc_face.specs.declared.letter.Letter.TheVariants as letter
 use Rattle.plc_face.specs.Face.{Face, VariableFace, IsDeclared, alg_face, algs_of, declaration}
-use Rattle.plc_face.specs.Frame.{IsOwnName, fired, part_or_none}
+use Rattle.plc_face.specs.Frame.{HasClass, IsOwnName, TriesEvent, fired, part_of, part_or_none}
 use Rattle.plc_gen.specs.Faces.{alg_face_of, face_of_net}
 use Rattle.plc_gen.specs.Events.{Written, choices_of, event_text, own_name, own_of, written_for}
-use Rattle.plc_gen.specs.Emitted.{Block, mark_and_counter, all_written, blocks_of, counter_face, mark_face, parts_from, parts_of, program_of, temporaries, variables_of}
+use Rattle.plc_gen.specs.Emitted.{Block, mark_and_counter, all_written, blocks_of, counter_face, mark_face, parts_from, parts_of, program_of, temporaries}
 use Rattle.plc_gen.specs.Makes.{Makes, needs_tests_alone}
 use Rattle.plc_gen.proofs.Choosing.{all-filter}
 use Rattle.plc_gen.proofs.Making.{Ready, Simple}
@@ -46,9 +46,11 @@ own-names j [] h e = tt
 own-names j (ws ∷ wss) h zero = subst (λ (xs : List VariableFace). AllByRecursion IsOwnName (map own_name (enumerate_from j xs))) (sym h.0) tt
 own-names j (ws ∷ wss) h (suc e) = own-names (j + length (own_of ws)) wss h.1 e
 
+pub all-own-none : (n : Net) (cs : List NetChoice) → AllByRecursion (Simple n) cs → AllByRecursion (λ (ws : List Written). own_of ws ≡ []) (all_written n cs)
+all-own-none n cs simple = all-mapped [] (λ (ws : List Written). own_of ws ≡ []) (written_for n cs) (own-none n cs simple) 0 (length n.events)
+
 own-flat : (n : Net) (cs : List NetChoice) → AllByRecursion (Simple n) cs → flat_map own_of (all_written n cs) ≡ []
-own-flat n cs simple =
-    flat-none own_of (all_written n cs) (all-mapped [] (λ (ws : List Written). own_of ws ≡ []) (written_for n cs) (own-none n cs simple) 0 (length n.events))
+own-flat n cs simple = flat-none own_of (all_written n cs) (all-own-none n cs simple)
 
 -- the mark and the counter alone
 pub own-temporaries : (n : Net) (cs : List NetChoice) → AllByRecursion (Simple n) cs → temporaries n cs ≡ mark_and_counter
@@ -83,7 +85,7 @@ module _ (n : Net) (cs : List NetChoice) (U C : ℕ) (net : is_net n ≡ true) (
   no_invariants = none-of n.invariants (and-left _ _ (and-left _ _ alone))
 
   none_own : AllByRecursion (λ (ws : List Written). own_of ws ≡ []) (all_written n cs)
-  none_own = all-mapped (variables_of blocks) (λ (ws : List Written). own_of ws ≡ []) (written_for n cs) (own-none n cs simple) 0 (length n.events)
+  none_own = all-own-none n cs simple
 
   temporaries-are : temporaries n cs ≡ mark_face ∷ counter_face ∷ []
   temporaries-are = own-temporaries n cs simple
@@ -153,7 +155,7 @@ module _ (n : Net) (cs : List NetChoice) (U C : ℕ) (net : is_net n ≡ true) (
       (λ e done. event-checked p.vars n (place-declared n own (parts_of n cs) U C net no_invariants no_algs own-named) mark done (choices_of cs e)
       (all-filter (Simple n) (λ (c : NetChoice). nat_eq c.event e) cs simple)) 0 (length n.events)))
 
-  checked : check_faults p ≡ []
+  pub checked : check_faults p ≡ []
   checked = ap (λ fs. fs ++ stms_faults p.vars 0 p.body) (variables-checked blocks are-blocks) ∙ all-checked p.vars 0 p.body body
 
   -- ---- the frame
@@ -161,7 +163,10 @@ module _ (n : Net) (cs : List NetChoice) (U C : ℕ) (net : is_net n ≡ true) (
   ready : Ready n p
   ready = record { mark = mark; few = facts.few; within = ends-within n facts; inside = ends-inside n facts; none = no_invariants }
 
+  pub events-tried : (e : ℕ) → HasClass sys e → TriesEvent face sys p (part_of (parts_of n cs) e) e
+  events-tried = tried n cs p ready guarded.each simple (map-length event_in n.events)
+
   pub makes : Makes n U C p
   makes =
       framed-makes n own (parts_of n cs) U C net no_invariants no_algs own-named turns checked (starts-typed blocks are-blocks)
-      (own-names 2 (all_written n cs) none_own) (tried n cs p ready guarded.each simple (map-length event_in n.events))
+      (own-names 2 (all_written n cs) none_own) events-tried

@@ -9,6 +9,7 @@ ghost use Rattle.st_ast.specs.Scan.{turns_of_scan};
 ghost use Rattle.st_ast.specs.Spelled.{is_spelled};
 ghost use Rattle.st_ast.specs.Tokens.{greatest};
 ghost use Rattle.plc_gen.specs.Emitted.{program_of};
+ghost use Rattle.plc_gen.specs.Given.{FrameFits, emitted_parts};
 ghost use Rattle.plc_gen.specs.Makes.{Makes, is_dataless, needs_tests_alone};
 ghost use Rattle.plc_gen.specs.Small.{are_small};
 
@@ -24,6 +25,13 @@ pub fn programs_have_a_spelling()
     ensures { (n : Net) (cs : List NetChoice) (U C : ℕ) → is_net n ≡ true → IsGuarded n cs →
         needs_tests_alone n cs ≡ true → U ≤ greatest → C ≤ greatest →
         are_small n.vars ≡ true → are_small n.inputs ≡ true → is_spelled (program_of n cs U C) ≡ true }
+{}
+
+/// The bodies that are emitted for such choices can be given to `frame`, without variables of their own.
+pub fn emitted_parts_fit()
+    ensures { (n : Net) (cs : List NetChoice) (U C : ℕ) → is_net n ≡ true → IsGuarded n cs →
+        needs_tests_alone n cs ≡ true → U + C ≤ turns_of_scan → U ≤ greatest → C ≤ greatest →
+        are_small n.vars ≡ true → are_small n.inputs ≡ true → FrameFits n U C (emitted_parts n cs) }
 {}
 
 /// The choices of a net without data need tests of locations alone.

@@ -18,6 +18,7 @@ mod variables;
 
 pub use given::{Part, frame};
 pub use laws::{
-    choices_without_data_need_tests_alone, programs_have_a_spelling, programs_scan_exactly,
+    choices_without_data_need_tests_alone, emitted_parts_fit, programs_have_a_spelling,
+    programs_scan_exactly,
 };
 pub use program::{Bounds, emit};
