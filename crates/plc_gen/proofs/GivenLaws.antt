@@ -1,5 +1,5 @@
 -- The program round given statements meets what the law of the frame asks.
-use Rattle.std.proofs.Common.{◌≡◌, ℕ, zero, suc, ◌+◌, ◌≤◌, true, ◌&&◌, List, [], ◌∷◌, ◌++◌, map, flat_map, length, refl, sym, ap, subst, ◌∙◌, arith}
+use Rattle.std.proofs.Common.{◌≡◌, ℕ, zero, suc, ◌+◌, ◌≤◌, true, ◌&&◌, List, [], ◌∷◌, map, flat_map, length, refl, sym, ap, subst, ◌∙◌, arith}
 use Rattle.std.specs.List.{AllByRecursion, enumerate_from, range_with_len}
 use Rattle.grammar.specs.Pieces.{Text}
 use Rattle.cif_system.proofs.Picks.{and-left, and-right}
@@ -8,6 +8,7 @@ use Rattle.cif_model.specs.Net.{Net}
 use Rattle.cif_model.specs.Listing.{NetChoice}
 use Rattle.cif_model.specs.Meaning.{system_of_net}
 use Rattle.cif_model.specs.Table.{IsGuarded}
+use Rattle.cif_model.proofs.ValueLaws.{all-parts}
 use Rattle.cif_model.specs.Facts.{is_net}
 use Rattle.st_ast.specs.Checks.{check_faults, stms_faults, variables_faults}
 use Rattle.st_ast.specs.Scan.{turns_of_scan}
@@ -32,14 +33,6 @@ use Rattle.plc_gen.proofs.Framing.{framed-makes}
 use Rattle.plc_gen.proofs.Making.{Simple, range-length}
 use Rattle.plc_gen.proofs.Whole.{program-spelled}
 
-all-left : {A : Type 0} (P : A → Type 0) (xs ys : List A) → AllByRecursion P (xs ++ ys) → AllByRecursion P xs
-all-left P [] ys h = tt
-all-left P (x ∷ xs) ys h = (h.0, all-left P xs ys h.1)
-
-all-right : {A : Type 0} (P : A → Type 0) (xs ys : List A) → AllByRecursion P (xs ++ ys) → AllByRecursion P ys
-all-right P [] ys h = h
-all-right P (x ∷ xs) ys h = all-right P xs ys h.1
-
 -- variables of the letter T
 own-of : (vs : List StVar) → AllByRecursion IsOwnVariable vs → AllOf letter.T class.Plain vs
 own-of [] h = tt
@@ -53,8 +46,8 @@ names-own (v ∷ vs) h =
 
 part-own : (parts : List EventPart) → AllByRecursion IsOwnVariable (own_variables parts) → (e : ℕ) → AllByRecursion IsOwnName (part_of (map asked parts) e).own
 part-own [] h e = tt
-part-own (x ∷ parts) h zero = names-own x.own (all-left IsOwnVariable x.own (own_variables parts) h)
-part-own (x ∷ parts) h (suc e) = part-own parts (all-right IsOwnVariable x.own (own_variables parts) h) e
+part-own (x ∷ parts) h zero = names-own x.own (all-parts IsOwnVariable x.own (own_variables parts) h).0
+part-own (x ∷ parts) h (suc e) = part-own parts (all-parts IsOwnVariable x.own (own_variables parts) h).1 e
 
 -- statements that fit make a program with exact scans
 pub given-makes : (n : Net) (parts : List EventPart) (U C : ℕ) → is_net n ≡ true → FrameFits n U C parts → U + C ≤ turns_of_scan → Makes n U C (framed_program n parts U C)
