@@ -1,0 +1,4 @@
+pub mod Meanings
+pub mod Checked
+pub mod Faults
+pub mod Counted

@@ -1,0 +1,14 @@
+//! The interval, the size and the depth of the expressions of a net, and the rules on divisors that may be 0, on values wider
+//! than 64 bits and on sizes (CIF 3 language reference, "Expressions").
+#![tactic(auto)]
+
+mod error;
+mod intervals;
+mod measures;
+mod operators;
+mod ranges;
+
+pub use error::WidthErr;
+pub use intervals::interval;
+pub use measures::{MOST_DEPTH, MOST_NODES, Measure, expr_measure};
+pub use ranges::Ranges;
