@@ -189,7 +189,7 @@ pub narrow-told : (g : Ranges) (e : NetExpr) (r : Result Bounds WidthErr) → r 
 narrow-told g e (Ok a) h = (subst (Says g (parts e) (Is (range_of g e))) (sym h) (checked-says g e)).1.1
 narrow-told g e (Err x) h = tt
 
-has-fault : (g : Ranges) (e : NetExpr) (x : WidthErr) → FaultIn g (parts e) x → HasFault g e x
+pub has-fault : (g : Ranges) (e : NetExpr) (x : WidthErr) → FaultIn g (parts e) x → HasFault g e x
 has-fault g e (ZeroDivisor at) f = (f.2.0, flat_map-member own_divisors f.0 (parts e) f.2.0 f.1 f.2.1, f.2.2, f.2.3)
 has-fault g e (TooWide at) f = (f.0, f.1, f.2.0, f.2.1)
 

@@ -26,7 +26,7 @@ pub fn interval(ranges: &Ranges, expr: &NetExpr) -> Result<Iv, WidthErr>
 }
 
 #[cycle(intervals)]
-fn interval_of(expr: &NetExpr, ranges: &Ranges) -> Result<Iv, WidthErr>
+pub(crate) fn interval_of(expr: &NetExpr, ranges: &Ranges) -> Result<Iv, WidthErr>
     ensures { result ≡ checked (ranges_of ranges.now) (view expr.now) }
 {
     form_interval(&expr.form, expr.at, ranges)

@@ -2,13 +2,19 @@
 //! than 64 bits and on sizes (CIF 3 language reference, "Expressions").
 #![tactic(auto)]
 
+mod checking;
+mod declared;
 mod error;
 mod intervals;
 mod measures;
 mod operators;
 mod ranges;
+mod widths;
 
-pub use error::WidthErr;
+pub use checking::check_intervals;
+pub use declared::{Declared, declared_ranges};
+pub use error::{IntervalErr, WidthErr};
 pub use intervals::interval;
 pub use measures::{MOST_DEPTH, MOST_NODES, Measure, expr_measure};
 pub use ranges::Ranges;
+pub use widths::check_widths;
