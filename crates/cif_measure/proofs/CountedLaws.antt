@@ -10,7 +10,7 @@ use Rattle.cif_measure.specs.Counted.{beside_stopped, above_stopped, counted, fo
 
 -- ---- measures side by side
 
-same-measure : {a b c d : ℕ} → a ≡ b → c ≡ d → let x : Measure = record { size = a; depth = c } in x ≡ record { size = b; depth = d }
+pub same-measure : {a b c d : ℕ} → a ≡ b → c ≡ d → let x : Measure = record { size = a; depth = c } in x ≡ record { size = b; depth = d }
 same-measure p q = ap-two (λ s d. record { size = s; depth = d }) p q
 
 same-count : {a b c d : ℕ} → a ≡ b → c ≡ d → let x : counts.Measure = record { size = a; depth = c } in x ≡ record { size = b; depth = d }

@@ -5,3 +5,4 @@ pub mod TypeLaws
 pub mod WidthLaws
 pub mod IntervalLaws
 pub mod Received
+pub mod SizeLaws

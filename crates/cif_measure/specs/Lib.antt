@@ -5,3 +5,4 @@ pub mod Counted
 pub mod TypeBounds
 pub mod Widths
 pub mod Rules
+pub mod Sizes

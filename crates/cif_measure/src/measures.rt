@@ -89,7 +89,7 @@ fn measure_at(algs: &[Measure], number: u32) -> Measure
 }
 
 #[cycle(measures)]
-fn measure_of(expr: &NetExpr, algs: &[Measure]) -> Measure
+pub(crate) fn measure_of(expr: &NetExpr, algs: &[Measure]) -> Measure
     ensures { result ≡ counted (stopped_table algs.now) (view expr.now) }
 {
     form_measure(&expr.form, algs)
