@@ -1,6 +1,6 @@
 -- The interval that is told part by part is that of the expression, in which then no divisor may be 0 and each part is in 64
 -- bits; and where none is told, one of both rules is broken.
-use Rattle.std.proofs.Common.{◌≡◌, ℕ, pos, Bool, true, false, not, List, [], ◌∷◌, ◌++◌, Option, None, Result, Ok, Err, inl, inr, refl, sym, ◌∙◌, ap, subst, IfOk, IfErr, if◌then◌else◌, arith}
+use Rattle.std.proofs.Common.{◌≡◌, ℕ, pos, Bool, true, false, not, [], ◌∷◌, ◌++◌, None, Result, Ok, Err, inl, refl, sym, ◌∙◌, ap, subst, IfOk, IfErr, if◌then◌else◌, arith}
 use Rattle.std.specs.List.{list_all}
 use Rattle.std.proofs.lemmas.Int.{ints, clamps}
 use Rattle.cif_base.specs.Bounds.{Bounds, contains, neg_bounds, mul_bounds, div_bounds, rem_bounds, abs_bounds, min_bounds, max_bounds, join_bounds, within_64, divided_by}
@@ -9,9 +9,9 @@ use Rattle.cif_system.specs.System.{Range, in_range}
 use Rattle.cif_system.specs.Words.{Member}
 use Rattle.cif_system.proofs.Picks.{append-right, flat_map-member}
 use Rattle.cif_term.specs.Tree.{MulOp, times, divided, modulo, NetExpr, net_expr, NetForm, n_truth, n_number, n_loc, n_var, n_input, n_alg, n_received, n_minus, n_plus, n_not, n_abs, n_min, n_max, n_sum, n_product, n_compare, n_and, n_or, n_implies, n_iff, n_if, NetExprs, no_net_exprs, net_exprs, NetTerms, no_net_terms, net_terms, NetFactors, no_net_factors, net_factors, NetBranches, no_net_branches, net_branches}
-use Rattle.cif_model.specs.Interval.{point, truths, as_bounds, as_range, joined, neg_range, add_ranges, mul_ranges, abs_range, min_ranges, max_ranges, Ranges, range_of, form_range, sum_range, product_range, cases_range}
+use Rattle.cif_model.specs.Interval.{truths, as_bounds, as_range, joined, neg_range, add_ranges, mul_ranges, abs_range, min_ranges, max_ranges, Ranges, range_of, form_range, sum_range, product_range, cases_range}
 use Rattle.cif_model.specs.Exprs.{expr_at}
-use Rattle.cif_model.specs.Parts.{add_term, add_factor, parts, form_parts, list_parts, branch_parts, sum_parts, product_parts, factor_divisors, own_divisors, divisors, part_divides, divides, is_narrow_expr}
+use Rattle.cif_model.specs.Parts.{add_term, add_factor, parts, form_parts, list_parts, branch_parts, sum_parts, product_parts, factor_divisors, own_divisors, part_divides, divides, is_narrow_expr}
 use Rattle.cif_model.proofs.ValueLaws.{ap-two}
 use Rattle.cif_measure.specs.declared.error.WidthErr.{WidthErr}
 use Rattle.cif_measure.specs.declared.error.WidthErr.TheVariants.{ZeroDivisor, TooWide}

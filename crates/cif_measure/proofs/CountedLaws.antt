@@ -1,5 +1,5 @@
 -- Counts that stop on the way are those that stop at the end.
-use Rattle.std.proofs.Common.{◌≡◌, ℕ, ◌+◌, max, min, refl, sym, ◌∙◌, ap, arith}
+use Rattle.std.proofs.Common.{◌≡◌, ℕ, ◌+◌, max, refl, sym, ◌∙◌, ap, arith}
 use Rattle.cif_term.specs.Tree.{NetExpr, net_expr, NetForm, n_truth, n_number, n_loc, n_var, n_input, n_alg, n_received, n_minus, n_plus, n_not, n_abs, n_min, n_max, n_sum, n_product, n_compare, n_and, n_or, n_implies, n_iff, n_if, NetExprs, no_net_exprs, net_exprs, NetTerms, no_net_terms, net_terms, NetFactors, no_net_factors, net_factors, NetBranches, no_net_branches, net_branches}
 use Rattle.cif_model.specs.Counts.{no_form, beside, above, measure_by, form_measure, terms_measure, factors_measure, list_measure, branches_measure, stopped, most_nodes, most_depth}
 use Rattle.cif_model.specs.Counts as counts

@@ -1,5 +1,5 @@
 -- The rules on divisors and on 64 bits over the declared ranges of a net.
-use Rattle.std.proofs.Common.{◌≡◌, ℕ, pos, Bool, true, false, not, List, [], ◌∷◌, length, slice_get, refl, sym, ◌∙◌, ap, subst, Result, Ok, Err, IfOk, IfErr}
+use Rattle.std.proofs.Common.{◌≡◌, ℕ, pos, Bool, true, false, not, List, [], ◌∷◌, length, slice_get, inl, inr, refl, sym, ◌∙◌, ap, subst, Result, Ok, Err, IfErr}
 use Rattle.std.specs.List.{list_all}
 use Rattle.std.specs.Result.{IsErrAnd}
 use Rattle.cif_base.specs.Bounds.{Bounds}
@@ -7,14 +7,14 @@ use Rattle.cif_system.specs.System.{Range, in_range}
 use Rattle.cif_system.specs.Words.{Member}
 use Rattle.cif_system.proofs.Lists.{none-some}
 use Rattle.cif_system.proofs.Distinct.{member-flat_map}
-use Rattle.cif_term.specs.Tree.{NetExpr}
 use Rattle.cif_model.specs.Net.{Net}
 use Rattle.cif_model.specs.Unfolding.{at_or, unfolded}
-use Rattle.cif_model.specs.Interval.{point, truths, Ranges, range_of, with_algs, alg_range, alg_ranges, stored_range, declared_ranges}
+use Rattle.cif_model.specs.Interval.{point, Ranges, range_of, with_algs, alg_range, alg_ranges, stored_range, declared_ranges}
 use Rattle.cif_model.specs.Parts.{parts, own_divisors, part_divides, divides, is_narrow, is_narrow_expr}
-use Rattle.cif_model.specs.Rules.{Needs, IsAcyclic, Evaluated, evaluated, ZeroDivisor, TooWide}
+use Rattle.cif_model.specs.Rules.{Needs, IsAcyclic, Evaluated, evaluated, is_plain_expr}
+use Rattle.cif_model.specs.Reads.{names_no_alg}
 use Rattle.cif_model.proofs.CycleLaws.{acyclic-by_rank}
-use Rattle.cif_model.proofs.Passing.{and-left, not-true, all-member}
+use Rattle.cif_model.proofs.Passing.{not-true, all-member}
 use Rattle.cif_model.proofs.PlainLaws.{never}
 use Rattle.cif_measure.specs.declared.error.WidthErr.{WidthErr}
 use Rattle.cif_measure.specs.declared.error.WidthErr.TheVariants as width
@@ -23,6 +23,7 @@ use Rattle.cif_measure.specs.declared.error.IntervalErr.TheVariants.{Width}
 use Rattle.cif_measure.specs.Faults.{HasFault}
 use Rattle.cif_measure.specs.Meanings.{table_range}
 use Rattle.cif_measure.specs.Rules.{declared_divides, declared_is_narrow, NoZeroDivisor, NoneTooWide, due}
+use Rattle.cif_measure.proofs.Says.{and-both}
 use Rattle.cif_measure.specs.Widths.{with_received, evaluated_divides, evaluated_is_narrow, SomeFault}
 
 -- ---- ranges that are the declared ones
@@ -55,6 +56,17 @@ none-divides n h at (c, x, d, i, j, p, z) =
 pub none-wide : (n : Net) → list_all (declared_is_narrow n) (evaluated n) ≡ true → NoneTooWide n
 none-wide n h at (c, x, p, i, j, q, z) =
     opposed z (all-member (λ e. is_narrow (range_of (declared_ranges n x.received) e)) (parts x.value) p (all-member (declared_is_narrow n) (evaluated n) x h i) j)
+
+-- ---- all that a plain net asks of an expression
+
+all-from : {A : Type 0} (p : A → Bool) (xs : List A) → ((x : A) → Member x xs → p x ≡ true) → list_all p xs ≡ true
+all-from p [] h = refl
+all-from p (x ∷ xs) h = and-both _ _ (h x (inl refl)) (all-from p xs (λ y m. h y (inr m)))
+
+pub plain-all : (n : Net) → ((x : Evaluated) → Member x (evaluated n) → names_no_alg x.value ≡ true) → list_all (declared_divides n) (evaluated n) ≡ true → list_all (declared_is_narrow n) (evaluated n) ≡ true → list_all (is_plain_expr n) (evaluated n) ≡ true
+plain-all n free h k =
+    all-from (is_plain_expr n) (evaluated n)
+    (λ x m. and-both _ _ (and-both _ _ (free x m) (all-member (declared_divides n) (evaluated n) x h m)) (all-member (declared_is_narrow n) (evaluated n) x k m))
 
 -- ---- no algebraic variables
 

@@ -6,3 +6,4 @@ pub mod WidthLaws
 pub mod IntervalLaws
 pub mod Received
 pub mod SizeLaws
+pub mod NameLaws

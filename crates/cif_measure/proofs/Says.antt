@@ -1,6 +1,6 @@
 -- What an answer says of a list of parts: that each passes, or that one of them has the fault. One answer after another says
 -- so of both their parts.
-use Rattle.std.proofs.Common.{◌≡◌, ℕ, pos, Bool, true, false, ◌&&◌, List, [], ◌∷◌, ◌++◌, Option, Some, None, Result, Ok, Err, inl, inr, refl, sym, ◌∙◌, ap, if◌then◌else◌}
+use Rattle.std.proofs.Common.{◌≡◌, ℕ, pos, Bool, true, false, ◌&&◌, List, [], ◌∷◌, ◌++◌, Some, None, Result, Ok, Err, inl, refl, sym, ◌∙◌, ap, if◌then◌else◌}
 use Rattle.std.specs.List.{list_all}
 use Rattle.std.proofs.lemmas.List.Folds.{list_all-append}
 use Rattle.cif_base.specs.Bounds.{Bounds, within_64}

@@ -5,7 +5,7 @@ use Rattle.std.proofs.lemmas.Grind.{flat_map-append}
 use Rattle.std.proofs.lemmas.List.Sums.{sum_by-cons}
 use Rattle.cif_term.specs.Tree.{NetExpr, NetUpdate, net_set, net_choose, NetUpdates, no_net_updates, net_updates, NetUpdateBranches, no_net_update_branches, net_update_branches}
 use Rattle.cif_model.specs.Net.{NetEdge, NetAuto, AlgValue, one_value, by_loc, NetAlg, NetExclusion, NetInvariant, Net}
-use Rattle.cif_model.specs.Exprs.{updates_exprs, update_exprs, branches_exprs, edge_exprs, alg_exprs, all_edges, other_exprs, all_exprs}
+use Rattle.cif_model.specs.Exprs.{updates_exprs, update_exprs, branches_exprs, edge_exprs, alg_exprs, all_edges, all_exprs}
 use Rattle.cif_model.specs.Unfolding.{at_or, unfolded}
 use Rattle.cif_model.specs.Counts.{no_form, beside, all_beside, measure_by, alg_measure, alg_measures, size_of, depth, stopped, most_nodes, most_depth}
 use Rattle.cif_model.specs.Counts as counts
@@ -13,7 +13,7 @@ use Rattle.cif_model.proofs.ValueLaws.{ap-two}
 use Rattle.cif_measure.specs.declared.measures.Measure.{Measure}
 use Rattle.cif_measure.specs.Meanings.{as_measure, stopped_measure, table_measure, stopped_table}
 use Rattle.cif_measure.specs.Counted.{beside_stopped, counted}
-use Rattle.cif_measure.specs.Sizes.{sizes_by, AreMeasured, exprs_counted, updates_counted, update_counted, branches_counted, sent_counted, edge_counted, edges_counted, autos_counted, exclusions_counted, invariants_counted, alg_counted, algs_counted, net_counted, table_counted}
+use Rattle.cif_measure.specs.Sizes.{sizes_by, AreMeasured, exprs_counted, updates_counted, update_counted, branches_counted, sent_counted, edge_counted, edges_counted, autos_counted, exclusions_counted, invariants_counted, algs_counted, net_counted, table_counted}
 use Rattle.cif_measure.proofs.CountedLaws.{same-measure, beside-stopped, beside-none, none-beside, beside-assoc, counted-is}
 
 -- ---- the list of what is counted

@@ -1,5 +1,5 @@
 -- The ranges of types of a net are those that are declared.
-use Rattle.std.proofs.Common.{◌≡◌, ℕ, zero, suc, ℤ, pos, ◌-ℤ◌, Bool, true, List, [], ◌∷◌, map, Option, Some, None, slice_get, refl, ap, if◌then◌else◌, int_le, nat_lt, arith}
+use Rattle.std.proofs.Common.{◌≡◌, ℕ, zero, suc, pos, ◌-ℤ◌, true, List, [], ◌∷◌, map, Some, None, slice_get, refl, ap, if◌then◌else◌, int_le, nat_lt, arith}
 use Rattle.std.specs.List.{list_all}
 use Rattle.std.proofs.lemmas.Int.{ints}
 use Rattle.std.proofs.lemmas.Bool.Decides.{nat_tests}
@@ -7,7 +7,7 @@ use Rattle.cif_base.specs.Bounds as bounds
 use Rattle.cif_base.specs.declared.types.Ty.{Ty}
 use Rattle.cif_base.specs.declared.types.Ty.TheVariants as ty
 use Rattle.cif_system.proofs.Picks.{at-member}
-use Rattle.cif_model.specs.Net.{NetChan, no_net_chan, void_net_chan, net_chan_of, NetEvent, NetEdge, NetStored, Net}
+use Rattle.cif_model.specs.Net.{NetChan, no_net_chan, void_net_chan, net_chan_of, NetEdge, NetStored, Net}
 use Rattle.cif_model.specs.Meaning.{type_range}
 use Rattle.cif_model.specs.Interval.{as_range, stored_range}
 use Rattle.cif_model.specs.Facts.{is_type, event_stands, stored_stands, channel_of, is_net}

@@ -17,7 +17,7 @@ use Rattle.cif_model.proofs.ValueLaws.{ap-two}
 use Rattle.cif_measure.specs.declared.error.WidthErr.{WidthErr}
 use Rattle.cif_measure.specs.Checked.{◌>>=◌, checked}
 use Rattle.cif_measure.specs.TypeBounds.{received_bounds}
-use Rattle.cif_measure.specs.Widths.{with_received, evaluated_divides, evaluated_is_narrow, SomeFault, checked_exprs, checked_updates, checked_update, checked_branches, checked_sent, checked_edge, checked_edges, checked_autos, checked_exclusions, checked_invariants, checked_alg, checked_algs, checked_others, checked_net}
+use Rattle.cif_measure.specs.Widths.{with_received, evaluated_divides, evaluated_is_narrow, SomeFault, checked_exprs, checked_updates, checked_update, checked_branches, checked_sent, checked_edge, checked_edges, checked_autos, checked_exclusions, checked_invariants, checked_algs, checked_others, checked_net}
 use Rattle.cif_measure.proofs.Says.{and-both, Says, Is}
 use Rattle.cif_measure.proofs.CheckedLaws.{checked-says, has-fault}
 use Rattle.cif_measure.proofs.TypeLaws.{received-is}

@@ -1,9 +1,9 @@
 -- The ranges of types, of which each has at least one number.
-use Rattle.std.specs.Prelude.{ℤ, pos, ◌-ℤ◌, int_le, List, Option, Some, None, slice_get, if◌then◌else◌}
+use Rattle.std.specs.Prelude.{ℤ, pos, ◌-ℤ◌, int_le, List, Some, None, slice_get, if◌then◌else◌}
 use Rattle.cif_base.specs.Bounds.{Bounds, between}
 use Rattle.cif_base.specs.declared.types.Ty.{Ty}
 use Rattle.cif_base.specs.declared.types.Ty.TheVariants as ty
-use Rattle.cif_model.specs.Net.{NetChan, no_net_chan, void_net_chan, net_chan_of, NetEvent, NetEdge}
+use Rattle.cif_model.specs.Net.{NetChan, net_chan_of, NetEvent, NetEdge}
 use Rattle.cif_measure.specs.Checked.{truth_bounds}
 
 -- the numbers from lo to hi, and 0 alone where there is none

@@ -1,13 +1,12 @@
 -- Whether all expressions that a net evaluates have intervals of 64 bits, in their order.
-use Rattle.std.specs.Prelude.{◌≡◌, Bool, List, [], ◌∷◌, Option, Some, None, Result, Ok, Err}
-use Rattle.std.specs.List.{list_all}
+use Rattle.std.specs.Prelude.{Bool, List, [], ◌∷◌, Option, Some, None, Result, Ok}
 use Rattle.cif_system.specs.System.{Range}
 use Rattle.cif_system.specs.Words.{Member}
 use Rattle.cif_term.specs.Tree.{NetExpr, NetUpdate, net_set, net_choose, NetUpdates, no_net_updates, net_updates, NetUpdateBranches, no_net_update_branches, net_update_branches}
 use Rattle.cif_model.specs.Net.{NetEdge, NetAuto, NetEvent, one_value, by_loc, NetAlg, NetExclusion, NetInvariant, Net}
 use Rattle.cif_model.specs.Interval.{as_range, truths, Ranges}
 use Rattle.cif_model.specs.Parts.{divides, is_narrow_expr}
-use Rattle.cif_model.specs.Rules.{Evaluated, evaluated}
+use Rattle.cif_model.specs.Rules.{Evaluated}
 use Rattle.cif_measure.specs.declared.error.WidthErr.{WidthErr}
 use Rattle.cif_measure.specs.Checked.{◌>>=◌, checked}
 use Rattle.cif_measure.specs.TypeBounds.{received_bounds}

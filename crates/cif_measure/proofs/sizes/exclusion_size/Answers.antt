@@ -1,4 +1,4 @@
-use Rattle.std.proofs.Common.{[], ◌∷◌, ap, ◌∙◌}
+use Rattle.std.proofs.Common.{[], ◌∷◌, ◌∙◌}
 use Rattle.cif_term.specs.View.{view}
 use Rattle.cif_model.proofs.ValueLaws.{ap-two}
 use Rattle.cif_measure.specs.Counted.{beside_stopped}
