@@ -1,0 +1,11 @@
+-- Where the values of an edge stand.
+use Rattle.std.specs.Prelude.{ℕ, List, [], ◌∷◌, Some, None}
+use Rattle.cif_ast.specs.declared.names.Name.{Name}
+use Rattle.cif_source.specs.Source.{RoleTree, tree_at}
+use Rattle.cif_image.specs.Flat.{sent_tree}
+
+abbrev pub name_place : Name → ℕ
+name_place nm = nm.at
+
+abbrev pub sent_place : RoleTree → List ℕ
+sent_place r = elim (sent_tree r) [ None ↦ [] | Some e ↦ tree_at e ∷ [] ]
