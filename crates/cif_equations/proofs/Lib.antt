@@ -1,0 +1,5 @@
+pub mod MapLaws
+pub mod TallyLaws
+pub mod CountLaws
+pub mod ElementLaws
+pub mod FaultLaws

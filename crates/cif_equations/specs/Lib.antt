@@ -1,0 +1,4 @@
+pub mod Views
+pub mod Tallies
+pub mod Counts
+pub mod Faults
