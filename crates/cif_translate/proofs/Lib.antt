@@ -2,3 +2,4 @@ pub mod NameLaws
 pub mod PlaceLaws
 pub mod ListLaws
 pub mod UpdateLaws
+pub mod PartLaws

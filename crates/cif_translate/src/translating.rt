@@ -9,12 +9,23 @@ ghost use Rattle.cif_image.specs.Translation.{net_of, net_list, net_guard, conju
 ghost use Rattle.cif_image.specs.Flat.{sent_tree};
 ghost use Rattle.cif_translate.specs.Looking.{AreNamesOf, source_for, component_at};
 
-use crate::expressions::{conjoined, node, translated};
+use crate::expressions::Maker;
 use crate::looking::Looking;
 use cif_ast::{Expr, Role};
 use cif_base::{Boxed, Memory};
 use cif_term::{NetExpr, NetForm};
 use std::alloc::Global;
+
+fn maker<'a>(alloc: Global, looking: &Looking<'a>, body: u32) -> Maker<'a>
+    ensures looking { result.looking ≡ looking.now }
+    ensures body { result.body ≡ body }
+{
+    Maker {
+        alloc,
+        looking: *looking,
+        body,
+    }
+}
 
 /// An expression of a body.
 pub fn expression(
@@ -27,7 +38,7 @@ pub fn expression(
     requires body { body < length (bodies (source_for looking.now)) }
     ensures { IfOk result (λ x. net.view x ≡ net_of (component_at looking.now body) (view expr.now)) }
 {
-    translated(alloc, looking, body, expr)
+    maker(alloc, looking, body).expr(expr)
 }
 
 /// Conditions of a body as one, with the place of the first.
@@ -41,7 +52,7 @@ pub fn condition(
     requires body { body < length (bodies (source_for looking.now)) }
     ensures { IfOk result (λ x. net.view x ≡ conjunction (net_list (component_at looking.now body) (list_of_trees (view_exprs conds.now)))) }
 {
-    conjoined(alloc, looking, body, conds)
+    maker(alloc, looking, body).condition(conds)
 }
 
 /// The guard of an edge of a body. Without guards it is `true`, at the place that is given.
@@ -57,7 +68,7 @@ pub fn guard(
     ensures { IfOk result (λ x. net.view x ≡ net_guard (component_at looking.now body) at (map view guards.now)) }
 {
     match guards {
-        [] => node(alloc, NetForm::Bool(true), at),
+        [] => maker(alloc, looking, body).node(NetForm::Bool(true), at),
         [_, ..] => condition(alloc, looking, body, guards),
     }
 }
