@@ -1,0 +1,9 @@
+pub mod Elements
+pub mod MarkLaws
+pub mod ListLaws
+pub mod NumberLaws
+pub mod UseLaws
+pub mod PathLaws
+pub mod NameLaws
+pub mod BodyLaws
+pub mod FaultLaws
