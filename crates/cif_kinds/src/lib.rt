@@ -1,0 +1,13 @@
+//! The kinds of expressions of a CIF source, and whether each operand has the kind that is asked of it (CIF 3 language
+//! reference, "Types", "Expressions").
+#![tactic(auto)]
+
+mod error;
+mod kind;
+mod reading;
+mod table;
+
+pub use error::KindErr;
+pub use kind::Kind;
+pub use reading::Reading;
+pub use table::KindTable;
