@@ -1,15 +1,17 @@
 -- What is told of an expression answers all that is asked of its operands.
 use Rattle.std.proofs.Common.{◌≡◌, ℕ, Bool, true, false, List, [], ◌∷◌, ◌++◌, Option, Some, None, refl, sym, ap, subst, ◌∙◌, append_assoc}
-use Rattle.std.specs.Prelude.{unwrap_or, if◌then◌else◌}
+use Rattle.std.specs.Prelude.{unwrap_or, option_map, Result, Ok, Err, IfOk, if◌then◌else◌}
 use Rattle.cif_ast.specs.Tree.{Tree, node, Shape, truth, number, named, received, paren, negative, positive, negation, absolute, least, greatest, sum, product, comparison, all_of, any_of, implication, equivalence, choice, Trees, no_trees, trees, Terms, no_terms, terms, Factors, no_factors, factors, Branches, no_branches, branches}
 use Rattle.cif_ast.specs.declared.expressions.CmpOp.{CmpOp}
 use Rattle.cif_ast.specs.declared.expressions.CmpOp.TheVariants as cmp
 use Rattle.cif_source.specs.Source.{tree_at}
 use Rattle.cif_source.specs.Components.{Component}
-use Rattle.cif_rules.specs.Kinds.{Kind, bool_kind, int_kind, same_kind, kind_of, first_kind, Demand, demand, comparison_demands, operands, shape_operands, term_operands, factor_operands, truth_operands, branch_operands, other_demand}
-use Rattle.cif_kinds.specs.Met.{is_met}
-use Rattle.cif_kinds.specs.Faults.{unless, or_later, then_asked, right_kind, left_fault, first_of, fault, shape_fault, term_fault, factor_fault, truth_fault, branch_fault}
-use Rattle.cif_kinds.proofs.MetLaws.{Answers, nothing, one, next, asked, moved, two, stopped, regrouped, later-end, later-assoc}
+use Rattle.cif_rules.specs.Kinds.{Kind, bool_kind, int_kind, same_kind, kind_of, shape_kind, first_kind, Demand, demand, comparison_demands, operands, shape_operands, term_operands, factor_operands, truth_operands, branch_operands, other_demand}
+use Rattle.cif_rules.specs.Demands.{demanded}
+use Rattle.cif_kinds.specs.declared.error.KindErr.{KindErr}
+use Rattle.cif_kinds.specs.Met.{Checks}
+use Rattle.cif_kinds.specs.Faults.{unless, or_later, then_asked, right_kind, left_fault, first_of, fault, shape_fault, term_fault, factor_fault, truth_fault, branch_fault, Tells}
+use Rattle.cif_kinds.proofs.MetLaws.{Answers, nothing, one, next, asked, moved, two, stopped, regrouped, later-end, later-assoc, checks}
 
 -- ---- the first branch
 
@@ -21,6 +23,12 @@ first-stays c r k (branches cs e bs) = first-stays c r k bs
 pub first_is : (c : Component) (r k : Kind) (bs : Branches) → first_kind c r k bs ≡ unwrap_or (first_of c r None bs) k
 first_is c r k no_branches = refl
 first_is c r k (branches cs e bs) = sym (ap (λ o. unwrap_or o k) (first-stays c r (kind_of c r e) bs))
+
+-- the kind of an `if` whose last branch is asked for it
+pub if_kind : {K E : Type 0} (c : Component) (r : Kind) (F : K → Kind) (bs : Branches) (e : Tree) (first : Option K) (x : Result K E) → option_map F first ≡ first_of c r None bs
+    → IfOk x (λ k. F k ≡ unwrap_or (option_map F first) (kind_of c r e)) → IfOk x (λ k. F k ≡ shape_kind c r (choice bs e))
+if_kind c r F bs e first (Ok k) h g = g ∙ ap (λ o. unwrap_or o (kind_of c r e)) h ∙ sym (first_is c r (kind_of c r e) bs)
+if_kind c r F bs e first (Err x) h g = tt
 
 module _ (c : Component) (r : Kind) where
   operands-two : (k : Kind) (a b : Tree) → Answers c (fault c r a) (operands c r a) → Answers c (fault c r b) (operands c r b)
@@ -143,3 +151,9 @@ mutual
   further-answers c r k e x no_branches = last-answers c r k e x
   further-answers c r k e x (branches cs b bs) =
       branch-answers c r k cs b e bs (then_asked c r (unwrap_or (first_of c r (Some k) bs) (kind_of c r e)) e (fault c r e)) (truth-answers c r cs) (tree-answers c r b) (further-answers c r k e x bs)
+
+pub operands_checked : {A : Type 0} (c : Component) (r : Kind) (e : Tree) (x : Result A KindErr) → Tells x (fault c r e) → Checks c (operands c r e) x
+operands_checked c r e x h = checks c (fault c r e) (operands c r e) x (tree-answers c r e) h
+
+pub demanded_checked : {A : Type 0} (c : Component) (r k : Kind) (e : Tree) (x : Result A KindErr) → Tells x (then_asked c r k e (fault c r e)) → Checks c (demanded c r k e) x
+demanded_checked c r k e x h = checks c (then_asked c r k e (fault c r e)) (demanded c r k e) x (operand-one c r k e (tree-answers c r e)) h

@@ -7,10 +7,13 @@ use Rattle.cif_source.specs.Components.{Component, Entry, scope_of}
 use Rattle.cif_source.specs.Lookup.{reached}
 use Rattle.cif_source.specs.Objects.{bodies}
 use Rattle.cif_rules.specs.Kinds as rules
+use Rattle.cif_rules.specs.Demands as demands
 use Rattle.cif_scope.specs.Tables.{Beside}
 use Rattle.cif_scope.specs.declared.scopes.Found.{Found}
 use Rattle.cif_kinds.specs.declared.kind.Kind.{Kind}
 use Rattle.cif_kinds.specs.declared.kind.Kind.TheVariants as kind
+use Rattle.cif_kinds.specs.declared.kind.Channel.{Channel}
+use Rattle.cif_kinds.specs.declared.kind.Channel.TheVariants as channel
 use Rattle.cif_kinds.specs.declared.table.KindTable.{KindTable}
 
 abbrev pub kind_in : Option (List Text) → rules.Kind
@@ -23,6 +26,11 @@ kind_for lists kind.Bool = rules.bool_kind
 kind_for lists kind.Int = rules.int_kind
 kind_for lists (kind.Enum n) = kind_in (slice_get lists n)
 kind_for lists kind.None = rules.no_kind
+
+abbrev pub channel_for : List (List Text) → Channel → demands.ChannelKind
+channel_for lists channel.No = demands.not_channel
+channel_for lists channel.Void = demands.void_channel
+channel_for lists (channel.Of k) = demands.channel_for (kind_for lists k)
 
 -- two kinds are one, where there are n lists of literals
 abbrev pub is_same_among : ℕ → Kind → Kind → Bool
@@ -39,8 +47,16 @@ IsKindOf lists c e k = kind_for lists k ≡ rules.kind_at (reached (c, e.1))
 abbrev pub AreOwnKinds : List (List Text) → Component → List Kind → Type 0
 AreOwnKinds lists c ks = Beside (IsKindOf lists c) (scope_of c) ks
 
+-- it stands for what is sent along an entry of the scope of c
+abbrev pub IsChannelOf : List (List Text) → Component → Ident × Entry → Channel → Type 0
+IsChannelOf lists c e h = channel_for lists h ≡ demands.channel_at (reached (c, e.1))
+
+abbrev pub AreOwnChannels : List (List Text) → Component → List Channel → Type 0
+AreOwnChannels lists c hs = Beside (IsChannelOf lists c) (scope_of c) hs
+
 pub record AreKindsIn (t : Source) (tb : KindTable) : Type 0 where
   pub kinds : Beside (AreOwnKinds tb.lists) (bodies t) tb.kinds
+  pub channels : Beside (AreOwnChannels tb.lists) (bodies t) tb.channels
   pub distinct : AreDistinct tb.lists
 
 -- ---- what is found

@@ -2,12 +2,14 @@
 //! reference, "Types", "Expressions").
 #![tactic(auto)]
 
+mod checking;
 mod error;
+mod expressions;
 mod kind;
 mod reading;
 mod table;
 
 pub use error::KindErr;
-pub use kind::Kind;
+pub use kind::{Channel, Kind};
 pub use reading::Reading;
 pub use table::KindTable;

@@ -5,15 +5,16 @@ ghost use Rattle.cif_system.specs.Words.{AreDistinct};
 ghost use Rattle.cif_rules.specs.Kinds.{same_kind};
 ghost use Rattle.cif_kinds.specs.Tables as tables;
 
-use crate::kind::Kind;
+use crate::kind::{Channel, Kind};
 use cif_base::{Items, Text};
 use cif_scope::Found;
 
 /// The kinds of what a source declares: for each body and each name that it declares there the kind of what stands there, and
-/// the lists of literals by their numbers, of which no two are equal.
+/// what is sent along it where it is an event; and the lists of literals by their numbers, of which no two are equal.
 #[derive(Debug, Drop)]
 pub struct KindTable {
     pub kinds: Items<Items<Kind>>,
+    pub channels: Items<Items<Channel>>,
     pub lists: Items<Items<Text>>,
 }
 
