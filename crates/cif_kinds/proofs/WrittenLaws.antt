@@ -4,11 +4,12 @@ use Rattle.std.specs.Prelude.{option_map, flat_map}
 use Rattle.cif_system.proofs.Lists.{some-same, none-some}
 use Rattle.cif_ast.specs.declared.names.Ident.{Ident}
 use Rattle.cif_ast.specs.declared.names.Name.{Name}
-use Rattle.cif_source.specs.Source.{Text, TypeTree, bool_type, int_type, range_type, named_type, type_decl, enum_decl, event_decl, const_decl, alg_decl, input_decl, disc_decl, equation_decl, invariant_decl, marked_decl, ParamTree, event_param, alg_param, location_param, InstanceTree, SourceBody, Source}
+use Rattle.cif_source.specs.Source.{Text, ChannelTree, no_type, void_type, value_type, TypeTree, bool_type, int_type, range_type, named_type, type_decl, enum_decl, event_decl, const_decl, alg_decl, input_decl, disc_decl, equation_decl, invariant_decl, marked_decl, ParamTree, event_param, alg_param, location_param, InstanceTree, SourceBody, Source}
 use Rattle.cif_source.specs.Components.{Component, whole, part, blank, copy, as_written, specification_of, body_entries, Entry, declared, literal, location, inner, definition, instance, parameter, entry_named}
 use Rattle.cif_source.specs.Lookup.{ScopeEntry, Reached, reached, missing, blocked, at_entry, in_scope, in_body, go_on, outward, inside, opened_at, opened, in_opened, passed, definition_found, found}
 use Rattle.cif_source.specs.Objects.{bodies, decls_of}
 use Rattle.cif_rules.specs.Kinds.{Kind, no_kind, type_kind_at, type_kind_by, type_kind_within, type_kind, kind_at}
+use Rattle.cif_rules.specs.Demands.{channel_for, channel_kind, channel_at}
 use Rattle.cif_scope.proofs.BodyLaws.{root-written}
 use Rattle.cif_scope.proofs.WrittenLaws.{written, outward-written, definition-written}
 
@@ -213,3 +214,28 @@ kind-written c (location k) = refl
 kind-written c (inner n b) = refl
 kind-written c (definition n ps b) = refl
 kind-written c (instance i) = refl
+
+channels-written : (c : Component) (h : ChannelTree) → channel_kind c h ≡ channel_kind (as_written c) h
+channels-written c no_type = refl
+channels-written c void_type = refl
+channels-written c (value_type ty) = ap channel_for (type-written c ty)
+
+pub channel-written : (c : Component) (e : Entry) → channel_at (reached (c, e)) ≡ channel_at (reached (as_written c, e))
+channel-written c (declared (event_decl k h n)) = channels-written c h
+channel-written c (declared (const_decl ty n e)) = refl
+channel-written c (declared (alg_decl ty n e)) = refl
+channel-written c (declared (input_decl ty n)) = refl
+channel-written c (declared (disc_decl ty n e)) = refl
+channel-written c (declared (type_decl n ty)) = refl
+channel-written c (declared (enum_decl n ls)) = refl
+channel-written c (declared (equation_decl q)) = refl
+channel-written c (declared (invariant_decl i)) = refl
+channel-written c (declared (marked_decl p)) = refl
+channel-written c (parameter k (event_param j h n)) = channels-written c h
+channel-written c (parameter k (alg_param ty n)) = refl
+channel-written c (parameter k (location_param n)) = refl
+channel-written c (literal k ls) = refl
+channel-written c (location k) = refl
+channel-written c (inner n b) = refl
+channel-written c (definition n ps b) = refl
+channel-written c (instance i) = refl

@@ -59,12 +59,32 @@ pub record AreKindsIn (t : Source) (tb : KindTable) : Type 0 where
   pub channels : Beside (AreOwnChannels tb.lists) (bodies t) tb.channels
   pub distinct : AreDistinct tb.lists
 
--- ---- what is found
+-- ---- slots
 
 abbrev pub slot_kind : Option (List Kind) → ℕ → Kind
 slot_kind None s = kind.None
 slot_kind (Some ks) s = unwrap_or (slice_get ks s) kind.None
 
+-- the kind in a slot of body k
+abbrev pub kind_at_slot : KindTable → ℕ → ℕ → Kind
+kind_at_slot tb k s = slot_kind (slice_get tb.kinds k) s
+
+abbrev pub slot_channel : Option (List Channel) → ℕ → Channel
+slot_channel None s = channel.No
+slot_channel (Some hs) s = unwrap_or (slice_get hs s) channel.No
+
+abbrev pub channel_at_slot : KindTable → ℕ → ℕ → Channel
+channel_at_slot tb k s = slot_channel (slice_get tb.channels k) s
+
 abbrev pub kind_found : KindTable → Option Found → Kind
 kind_found tb None = kind.None
-kind_found tb (Some f) = slot_kind (slice_get tb.kinds f.body) f.slot
+kind_found tb (Some f) = kind_at_slot tb f.body f.slot
+
+abbrev pub channel_found : KindTable → Option Found → Channel
+channel_found tb None = channel.No
+channel_found tb (Some f) = channel_at_slot tb f.body f.slot
+
+-- the kind of what body k declares in the slot that was found
+abbrev pub kind_owned : KindTable → ℕ → Option ℕ → Kind
+kind_owned tb k None = kind.None
+kind_owned tb k (Some s) = kind_at_slot tb k s

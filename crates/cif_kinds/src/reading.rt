@@ -1,14 +1,15 @@
 //! The kinds of names in a body.
 
 ghost use Rattle.std.specs.Prelude.{◌≡◌, IfOk};
-ghost use Rattle.cif_source.specs.Lookup.{found};
+ghost use Rattle.cif_source.specs.Lookup.{found, in_scope};
 ghost use Rattle.cif_rules.specs.Kinds.{kind_at};
-ghost use Rattle.cif_kinds.specs.Tables.{kind_for};
+ghost use Rattle.cif_rules.specs.Demands.{event_channel};
+ghost use Rattle.cif_kinds.specs.Tables.{kind_for, channel_for};
 ghost use Rattle.cif_kinds.specs.Readings as reading;
 
-use crate::kind::Kind;
+use crate::kind::{Channel, Kind};
 use crate::table::KindTable;
-use cif_ast::{Name, Spec};
+use cif_ast::{Ident, Name, Spec};
 use cif_base::Memory;
 use cif_scope::Scopes;
 use std::alloc::Global;
@@ -31,6 +32,26 @@ impl<'a> Reading<'a> {
         ensures { IfOk result (λ k. kind_for (reading.lists_in self.now) k ≡ kind_at (found (reading.component_in self.now) name.now)) }
     {
         let found = self.scopes.find(alloc, self.body, name)?;
-        Ok(self.table.found(found))
+        Ok(self.table.kind_found(found))
+    }
+
+    /// What is sent along the event that a name in the body finds.
+    pub fn channel_of_name(&self, alloc: Global, name: &Name) -> Result<Channel, Memory>
+        requires { reading.IsReading self.now }
+        ensures { IfOk result (λ h. channel_for (reading.lists_in self.now) h
+            ≡ event_channel (reading.component_in self.now) name.now) }
+    {
+        let found = self.scopes.find(alloc, self.body, name)?;
+        Ok(self.table.channel_found(found))
+    }
+
+    /// The kind of what the body itself declares under a name.
+    pub fn kind_of_own(&self, name: &Ident) -> Kind
+        requires { reading.IsReading self.now }
+        ensures { kind_for (reading.lists_in self.now) result
+            ≡ kind_at (in_scope (reading.component_in self.now) name.now.text) }
+    {
+        let slot = self.scopes.own(self.body, &name.text);
+        self.table.kind_owned(self.body, slot)
     }
 }

@@ -18,12 +18,22 @@ pub struct KindTable {
     pub lists: Items<Items<Text>>,
 }
 
-fn kind_in_slot(slots: &Items<Kind>, slot: u32) -> Kind
+/// The kind in a slot, and none past the end.
+fn slot_kind(slots: &Items<Kind>, slot: u32) -> Kind
     ensures { result ≡ tables.slot_kind (Some slots.now) slot }
 {
     match slots.get(slot as usize) {
         Some(kind) => *kind,
         None => Kind::None,
+    }
+}
+
+fn slot_channel(slots: &Items<Channel>, slot: u32) -> Channel
+    ensures { result ≡ tables.slot_channel (Some slots.now) slot }
+{
+    match slots.get(slot as usize) {
+        Some(channel) => *channel,
+        None => Channel::No,
     }
 }
 
@@ -52,15 +62,52 @@ impl KindTable {
         is_same_among(self.lists.len(), one, other)
     }
 
+    /// The kind in a slot of a body. Where there is no such slot, there is none.
+    pub fn kind(&self, body: u32, slot: u32) -> Kind
+        ensures { result ≡ tables.kind_at_slot self.now body slot }
+    {
+        match self.kinds.get(body as usize) {
+            Some(slots) => slot_kind(slots, slot),
+            None => Kind::None,
+        }
+    }
+
+    /// What is sent along what stands in a slot of a body. Where there is no such slot, there is no channel.
+    pub fn channel(&self, body: u32, slot: u32) -> Channel
+        ensures { result ≡ tables.channel_at_slot self.now body slot }
+    {
+        match self.channels.get(body as usize) {
+            Some(slots) => slot_channel(slots, slot),
+            None => Channel::No,
+        }
+    }
+
     /// The kind of what was found. Where nothing was, there is none.
-    pub fn found(&self, found: Option<Found>) -> Kind
+    pub fn kind_found(&self, found: Option<Found>) -> Kind
         ensures { result ≡ tables.kind_found self.now found }
     {
         match found {
-            Some(found) => match self.kinds.get(found.body as usize) {
-                Some(slots) => kind_in_slot(slots, found.slot),
-                None => Kind::None,
-            },
+            Some(found) => self.kind(found.body, found.slot),
+            None => Kind::None,
+        }
+    }
+
+    /// What is sent along what was found. Where nothing was, there is no channel.
+    pub fn channel_found(&self, found: Option<Found>) -> Channel
+        ensures { result ≡ tables.channel_found self.now found }
+    {
+        match found {
+            Some(found) => self.channel(found.body, found.slot),
+            None => Channel::No,
+        }
+    }
+
+    /// The kind in the slot of a body that was found. Where none was, there is none.
+    pub fn kind_owned(&self, body: u32, slot: Option<u32>) -> Kind
+        ensures { result ≡ tables.kind_owned self.now body slot }
+    {
+        match slot {
+            Some(slot) => self.kind(body, slot),
             None => Kind::None,
         }
     }

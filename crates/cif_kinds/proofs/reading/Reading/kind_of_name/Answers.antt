@@ -9,5 +9,5 @@ find-requires c = body_scope c.args.self.now c.requires
 
 pub returns : goal.returns
 returns c =
-    ap (kind_for (lists_in c.args.self.now)) c.found.ensures
+    ap (kind_for (lists_in c.args.self.now)) c.kind_found.ensures
     ∙ name_kind c.args.self.now c.args.name.now c.in_ok-found.found c.requires (λ t d h is. c.in_ok-found.ensures t d h is)
