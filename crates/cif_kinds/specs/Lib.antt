@@ -2,3 +2,4 @@ pub mod Tables
 pub mod Readings
 pub mod Met
 pub mod Faults
+pub mod Values

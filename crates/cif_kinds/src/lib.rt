@@ -3,6 +3,7 @@
 #![tactic(auto)]
 
 mod checking;
+mod declarations;
 mod error;
 mod expressions;
 mod kind;
