@@ -16,6 +16,7 @@ use Rattle.cif_scope.specs.Scopes.{AreNumbered, Finds}
 use Rattle.cif_scope.specs.declared.scopes.Found.{Found}
 use Rattle.cif_scope.proofs.BodyLaws.{scope-written}
 use Rattle.cif_scope.proofs.Places.{beside-at, beside-length}
+use Rattle.cif_kinds.specs.declared.kind.Kind.{Kind}
 use Rattle.cif_kinds.specs.declared.kind.Kind.TheVariants as kind
 use Rattle.cif_kinds.specs.declared.kind.Channel.TheVariants as channel
 use Rattle.cif_kinds.specs.declared.reading.Reading.{Reading}
@@ -89,3 +90,7 @@ own_kind r x s h e =
     ap (λ o. kind_for (lists_in r) (kind_owned r.table.now r.body o)) e
     ∙ owned-kind (source_for r) r.table.now h.kinds r.body (component_in r) (entry_named x (scope_of (component_in r))) (slot_at r.scopes.now.table r.body x) (body-is r h)
     (slot-is (source_for r) r.scopes.now.table h.scopes.table h.scopes.indexed r.body (component_in r) x (body-is r h))
+
+-- the same body, where `?` has another kind
+pub receives : (r : Reading) (k : Kind) → IsReading r → IsReading (record r { received = k })
+receives r k h = record { scopes = h.scopes; kinds = h.kinds; body = h.body }

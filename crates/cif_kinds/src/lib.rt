@@ -4,6 +4,7 @@
 
 mod checking;
 mod declarations;
+mod edges;
 mod error;
 mod expressions;
 mod kind;
