@@ -35,7 +35,7 @@ module _ (c : Component) (r : Kind) where
       → Answers c (or_later (then_asked c r k a (fault c r a)) (then_asked c r k b (fault c r b))) (demand r k a ∷ demand r k b ∷ operands c r a ++ operands c r b)
   operands-two k a b x y = two c (fault c r a) (fault c r b) (demand r k a) (demand r k b) (operands c r a) (operands c r b) x y
 
-  operand-one : (k : Kind) (e : Tree) → Answers c (fault c r e) (operands c r e) → Answers c (then_asked c r k e (fault c r e)) (demand r k e ∷ operands c r e)
+  pub operand-one : (k : Kind) (e : Tree) → Answers c (fault c r e) (operands c r e) → Answers c (then_asked c r k e (fault c r e)) (demand r k e ∷ operands c r e)
   operand-one k e x = asked c (fault c r e) (demand r k e) (operands c r e) x
 
   equal-operands : (a b : Tree) → Answers c (fault c r a) (operands c r a) → Answers c (fault c r b) (operands c r b)

@@ -3,3 +3,7 @@ pub mod WrittenLaws
 pub mod NameLaws
 pub mod MetLaws
 pub mod FaultLaws
+pub mod EntryLaws
+pub mod ValueLaws
+pub mod ArgumentLaws
+pub mod BodyLaws

@@ -37,7 +37,7 @@ pub body_scope : (r : Reading) → IsReading r → r.body < length r.scopes.now.
 body_scope r h = omega (arith, h.body, beside-length (IsScope (source_for r)) (bodies (source_for r)) r.scopes.now.table.scopes h.scopes.table)
 
 module _ (t : Source) (tb : KindTable) (are : AreKindsIn t tb) where
-  slot-kind : (k s : ℕ) (d : Component) (n : Ident) (e : Entry) → IsBody t k d → slice_get (scope_of d) s ≡ Some (n, e) → kind_for tb.lists (kind_at_slot tb k s) ≡ kind_at (reached (d, e))
+  pub slot-kind : (k s : ℕ) (d : Component) (n : Ident) (e : Entry) → IsBody t k d → slice_get (scope_of d) s ≡ Some (n, e) → kind_for tb.lists (kind_at_slot tb k s) ≡ kind_at (reached (d, e))
   slot-kind k s d n e own at =
       let row = beside-at (AreOwnKinds tb.lists) (bodies t) tb.kinds k d are.kinds own in
       let one = beside-at (IsKindOf tb.lists d) (scope_of d) row.0 s (n, e) row.2 at in

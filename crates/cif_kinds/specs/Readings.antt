@@ -1,9 +1,10 @@
 -- The body whose expressions are read.
-use Rattle.std.specs.Prelude.{ℕ, ◌<◌, List, length, Option, Some, None, slice_get}
+use Rattle.std.specs.Prelude.{◌≡◌, ℕ, ◌<◌, List, length, Option, Some, None, slice_get}
 use Rattle.cif_source.specs.Source.{Text, Source, source_of}
-use Rattle.cif_source.specs.Components.{Component, whole}
+use Rattle.cif_source.specs.Components.{Component, whole, params_of, body_of}
 use Rattle.cif_source.specs.Objects.{bodies}
 use Rattle.cif_scope.specs.Scopes.{AreNumbered}
+use Rattle.cif_scope.specs.Written.{WrittenBody}
 use Rattle.cif_rules.specs.Kinds.{Kind}
 use Rattle.cif_kinds.specs.Tables.{kind_for, AreKindsIn}
 use Rattle.cif_kinds.specs.declared.reading.Reading.{Reading}
@@ -32,3 +33,8 @@ pub record IsReading (r : Reading) : Type 0 where
   pub scopes : AreNumbered (source_for r) r.scopes.now
   pub kinds : AreKindsIn (source_for r) r.table.now
   pub body : r.body < length (bodies (source_for r))
+
+-- the parameters and the body that are written there
+pub record IsWrittenIn (r : Reading) (w : WrittenBody) : Type 0 where
+  pub params : w.params ≡ params_of (component_in r)
+  pub body : w.body ≡ body_of (component_in r)

@@ -12,6 +12,7 @@ use Rattle.cif_scope.specs.declared.scope.What.TheVariants as what
 use Rattle.cif_scope.specs.declared.scope.ParamSort.TheVariants as param
 use Rattle.cif_scope.specs.declared.scopes.Scopes.{Scopes}
 use Rattle.cif_scope.specs.Looks.{what_at, definition_at}
+use Rattle.cif_scope.specs.Drafts.{next_instance}
 use Rattle.cif_scope.specs.Written.{WrittenBody}
 use Rattle.cif_kinds.specs.declared.table.KindTable.{KindTable}
 use Rattle.cif_kinds.specs.Tables.{kind_for, kind_at_slot}
@@ -151,23 +152,29 @@ module _ (s : Scopes) (tb : KindTable) where
   instance_told c r None i = None
   instance_told c r (Some j) i = arguments_told c r j 0 i.args
 
-  -- the instances among these items of body b, numbered from k on
+  -- an item of body b, where k is the number of its next instance
+  abbrev pub item_instance_told : Component → Kind → (b k : ℕ) → SourceItem → Option ℕ
+  item_instance_told c r b k (decl_item d) = None
+  item_instance_told c r b k (component_item n x) = None
+  item_instance_told c r b k (definition_item n ps x) = None
+  item_instance_told c r b k (instance_item i) = instance_told c r (definition_at s.definitions b k) i
+
   abbrev pub instances_told : Component → Kind → (b k : ℕ) → Source → Option ℕ
   instances_told c r b k no_source = None
-  instances_told c r b k (source (decl_item d) is) = instances_told c r b k is
-  instances_told c r b k (source (component_item n x) is) = instances_told c r b k is
-  instances_told c r b k (source (definition_item n ps x) is) = instances_told c r b k is
-  instances_told c r b k (source (instance_item i) is) = or_later (instance_told c r (definition_at s.definitions b k) i) (instances_told c r b (k + 1) is)
+  instances_told c r b k (source i is) = or_later (item_instance_told c r b k i) (instances_told c r b (next_instance k i) is)
 
 -- ---- bodies
+
+abbrev pub item_told : (DeclTree → Option ℕ) → SourceItem → Option ℕ
+item_told f (decl_item d) = f d
+item_told f (component_item n x) = None
+item_told f (definition_item n ps x) = None
+item_told f (instance_item i) = None
 
 -- the declarations among these items
 abbrev pub decls_told : (DeclTree → Option ℕ) → Source → Option ℕ
 decls_told f no_source = None
-decls_told f (source (decl_item d) is) = or_later (f d) (decls_told f is)
-decls_told f (source (component_item n x) is) = decls_told f is
-decls_told f (source (definition_item n ps x) is) = decls_told f is
-decls_told f (source (instance_item i) is) = decls_told f is
+decls_told f (source i is) = or_later (item_told f i) (decls_told f is)
 
 abbrev pub group_told : Scopes → KindTable → Component → Kind → ℕ → Source → Option ℕ
 group_told s tb c r b is = or_later (decls_told (decl_type_told c r) is) (or_later (decls_told (decl_told c r) is) (instances_told s tb c r b 0 is))

@@ -2,6 +2,8 @@
 //! reference, "Types", "Expressions").
 #![tactic(auto)]
 
+mod arguments;
+mod bodies;
 mod checking;
 mod declarations;
 mod edges;
