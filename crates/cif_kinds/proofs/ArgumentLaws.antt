@@ -1,15 +1,15 @@
 -- What is told of the arguments of instances answers what they are asked.
-use Rattle.std.proofs.Common.{◌≡◌, ℕ, zero, suc, ◌+◌, ◌<◌, ◌≤◌, Bool, true, false, inl, inr, List, [], ◌∷◌, ◌++◌, length, map, Option, Some, None, refl, sym, ap, subst, ◌∙◌, arith}
+use Rattle.std.proofs.Common.{◌≡◌, ℕ, zero, suc, ◌+◌, ◌≤◌, Bool, true, false, inl, inr, List, [], ◌∷◌, ◌++◌, length, map, Option, Some, None, refl, sym, ap, subst, ◌∙◌, arith}
 use Rattle.std.specs.Prelude.{flat_map, filter_map, zip, slice_get, option_map, not}
 use Rattle.std.specs.List.{enumerate_from, list_all}
 use Rattle.std.proofs.lemmas.Grind.{flat_map-append}
 use Rattle.cif_system.specs.Words.{Member}
-use Rattle.cif_system.proofs.Lists.{some-same, none-some, false-true}
+use Rattle.cif_system.proofs.Lists.{none-some, false-true}
 use Rattle.cif_system.proofs.Picks.{and-left, and-right, enumerate_from-at, at-member}
 use Rattle.cif_ast.specs.Tree.{Tree}
 use Rattle.cif_ast.specs.declared.names.Ident.{Ident}
-use Rattle.cif_source.specs.Source.{ParamTree, event_param, alg_param, location_param, InstanceTree, SourceItem, decl_item, component_item, definition_item, instance_item, SourceBody, Source, no_source, source, list_of_items}
-use Rattle.cif_source.specs.Components.{Component, blank, scope_of, body_entries, param_entries, param_name, Entry, Entries, declared, literal, location, inner, definition, instance, parameter}
+use Rattle.cif_source.specs.Source.{ParamTree, event_param, alg_param, location_param, InstanceTree, decl_item, component_item, definition_item, instance_item, SourceBody, Source, no_source, source, list_of_items}
+use Rattle.cif_source.specs.Components.{Component, blank, scope_of, body_entries, param_entries, param_name, Entry, declared, literal, location, inner, definition, instance, parameter}
 use Rattle.cif_source.specs.Lookup.{Reached, reached, missing, blocked, definition_found}
 use Rattle.cif_source.specs.Objects.{bodies}
 use Rattle.cif_source.specs.Scoping.{as_instance, instances_of}
@@ -28,8 +28,8 @@ use Rattle.cif_scope.proofs.BodyLaws.{row-of}
 use Rattle.cif_scope.proofs.LookLaws.{get-map, what-is}
 use Rattle.cif_kinds.specs.declared.table.KindTable.{KindTable}
 use Rattle.cif_kinds.specs.Tables.{kind_for, AreKindsIn, kind_at_slot}
-use Rattle.cif_kinds.specs.Faults.{or_later, fault}
-use Rattle.cif_kinds.specs.Values.{value_told, argument_told, arguments_told, instance_told, item_instance_told, instances_told}
+use Rattle.cif_kinds.specs.Faults.{or_later}
+use Rattle.cif_kinds.specs.Values.{argument_told, arguments_told, instance_told, instances_told}
 use Rattle.cif_kinds.proofs.MetLaws.{Answers, nothing, next}
 use Rattle.cif_kinds.proofs.FaultLaws.{tree-answers}
 use Rattle.cif_kinds.proofs.ValueLaws.{value-answers}

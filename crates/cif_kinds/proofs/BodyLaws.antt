@@ -1,14 +1,14 @@
 -- What is told of a body answers all that its expressions are asked.
-use Rattle.std.proofs.Common.{◌≡◌, ℕ, inl, List, [], ◌∷◌, ◌++◌, Option, Some, None, refl, sym, ap, subst, ◌∙◌, append-nil}
+use Rattle.std.proofs.Common.{◌≡◌, ℕ, inl, List, ◌++◌, Option, refl, sym, ap, subst, ◌∙◌, append-nil}
 use Rattle.std.specs.Prelude.{Result, flat_map, filter_map}
 use Rattle.cif_system.specs.Words.{Member}
 use Rattle.cif_ast.specs.declared.names.Ident.{Ident}
-use Rattle.cif_source.specs.Source.{TypeTree, DeclTree, type_decl, enum_decl, event_decl, const_decl, alg_decl, input_decl, disc_decl, equation_decl, invariant_decl, marked_decl, ParamTree, SourceItem, decl_item, component_item, definition_item, instance_item, SourceBody, group_body, automaton_body, AutomatonTree, Source, no_source, source, list_of_items}
+use Rattle.cif_source.specs.Source.{DeclTree, type_decl, enum_decl, event_decl, const_decl, alg_decl, input_decl, disc_decl, equation_decl, invariant_decl, marked_decl, ParamTree, decl_item, component_item, definition_item, instance_item, SourceBody, group_body, automaton_body, Source, no_source, source, list_of_items}
 use Rattle.cif_source.specs.Components.{Component, params_of, body_of, decl_entries, declared}
 use Rattle.cif_source.specs.Lookup.{reached, at_entry, in_scope, definition_found}
 use Rattle.cif_source.specs.Objects.{item_decls, items_in, decls_in, decls_of, locs_in}
 use Rattle.cif_source.specs.Scoping.{as_instance}
-use Rattle.cif_rules.specs.Kinds.{Kind, no_kind, int_kind, kind_at, Demand}
+use Rattle.cif_rules.specs.Kinds.{Kind, no_kind, kind_at, Demand}
 use Rattle.cif_rules.specs.Constants.{param_types, decl_types}
 use Rattle.cif_rules.specs.Demands.{demands, decl_demands, location_demands, argument_demands, arguments_at}
 use Rattle.cif_scope.specs.Written.{WrittenBody}
@@ -22,8 +22,8 @@ use Rattle.cif_kinds.specs.Tables.{AreKindsIn}
 use Rattle.cif_kinds.specs.Readings.{source_for, IsReading, IsWrittenIn, component_in, received_in}
 use Rattle.cif_kinds.specs.Met.{Checks}
 use Rattle.cif_kinds.specs.Faults.{or_later, Tells}
-use Rattle.cif_kinds.specs.Values.{first_told, type_told, param_told, decl_type_told, decl_told, location_told, instances_told, item_told, decls_told, group_told, automaton_told, inside_told, body_told}
-use Rattle.cif_kinds.proofs.MetLaws.{Answers, nothing, next, checks, later-assoc}
+use Rattle.cif_kinds.specs.Values.{first_told, type_told, param_told, decl_type_told, decl_told, location_told, instances_told, decls_told, group_told, automaton_told, inside_told, body_told}
+use Rattle.cif_kinds.proofs.MetLaws.{Answers, checks, later-assoc}
 use Rattle.cif_kinds.proofs.NameLaws.{body-is}
 use Rattle.cif_kinds.proofs.EntryLaws.{declared-found}
 use Rattle.cif_kinds.proofs.ValueLaws.{firsts, first-append, first-flat, bounds_asked, types-answer, param-types, decl-types, HasOwnKind, decl-answers, location-answers, three}

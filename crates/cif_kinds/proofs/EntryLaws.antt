@@ -1,6 +1,6 @@
 -- What a body declares is found under its name in the body's own scope.
-use Rattle.std.proofs.Common.{◌≡◌, ℕ, Bool, true, false, cond, ◌⊎◌, inl, inr, List, [], ◌∷◌, ◌++◌, map, find, Option, Some, None, refl, sym, ap, subst, ◌∙◌}
-use Rattle.std.specs.Prelude.{flat_map, filter_map, option_map, slice_get}
+use Rattle.std.proofs.Common.{◌≡◌, ℕ, true, false, cond, inl, inr, List, [], ◌∷◌, map, find, Some, refl, sym, ap, subst, ◌∙◌}
+use Rattle.std.specs.Prelude.{flat_map, filter_map, option_map}
 use Rattle.std.specs.List.{enumerate_from}
 use Rattle.std.specs.Cmp.Lexicographic.{nat_list_eq_equiv}
 use Rattle.cif_ast.specs.declared.names.Ident.{Ident}
@@ -10,9 +10,7 @@ use Rattle.cif_system.proofs.Picks.{append-left, append-right, map-member, flat_
 use Rattle.cif_source.specs.Source.{Text, DeclTree, SourceItem, decl_item, component_item, definition_item, instance_item, SourceBody, group_body, automaton_body, list_of_items, Source}
 use Rattle.cif_source.specs.Components.{Component, body_of, params_of, scope_of, body_entries, param_entries, item_entries, decl_entries, location_entry, Entry, Entries, entry_named, same_text}
 use Rattle.cif_source.specs.Objects.{item_decls, decls_in, decls_of}
-use Rattle.cif_source.proofs.ComponentLaws.{append-cases}
-use Rattle.cif_scope.specs.Tables.{IsBody, IsName, IsTable}
-use Rattle.cif_scope.specs.Looks.{text_of, texts_of}
+use Rattle.cif_scope.specs.Tables.{IsBody, IsTable}
 use Rattle.cif_scope.specs.Scopes.{IsIndexed}
 use Rattle.cif_scope.specs.declared.table.Table.{Table}
 use Rattle.cif_scope.proofs.BodyLaws.{row-of}

@@ -1,15 +1,15 @@
 -- An answer to a list of demands, put together from answers to its parts.
-use Rattle.std.proofs.Common.{◌≡◌, ℕ, zero, suc, ◌<◌, Bool, true, false, ◌&&◌, ◌⊎◌, inl, inr, List, [], ◌∷◌, ◌++◌, length, Option, Some, None, refl, sym, ap, subst, ◌∙◌, append_assoc, arith}
-use Rattle.std.specs.Prelude.{slice_index_or, Result, Ok, Err}
+use Rattle.std.proofs.Common.{◌≡◌, ℕ, suc, Bool, true, false, ◌&&◌, ◌⊎◌, inl, inr, List, [], ◌∷◌, ◌++◌, Option, Some, None, refl, sym, ap, subst, ◌∙◌, arith}
+use Rattle.std.specs.Prelude.{Result, Ok, Err}
 use Rattle.std.specs.List.{Any, list_all}
 use Rattle.cif_system.specs.Words.{Member}
-use Rattle.cif_system.proofs.Lists.{some-same, none-some, false-true}
+use Rattle.cif_system.proofs.Lists.{some-same, none-some}
 use Rattle.cif_system.proofs.Picks.{and-left, and-right, append-left, append-right}
 use Rattle.cif_source.specs.Source.{tree_at}
 use Rattle.cif_source.specs.Components.{Component}
 use Rattle.cif_source.proofs.ComponentLaws.{append-cases}
 use Rattle.cif_rules.specs.Kinds.{Demand}
-use Rattle.cif_kinds.specs.Met.{is_met, AreMet, BreaksAt, Checks}
+use Rattle.cif_kinds.specs.Met.{is_met, AreMet, Checks}
 use Rattle.cif_kinds.specs.Faults.{unless, or_later, Tells}
 use Rattle.cif_kinds.specs.declared.error.KindErr.{KindErr}
 use Rattle.cif_kinds.specs.declared.error.KindErr.TheVariants.{Mismatch, Memory}

@@ -1,12 +1,12 @@
 -- Lists of literals that are numbered apart: two kinds are one where their numbers are.
-use Rattle.std.proofs.Common.{◌≡◌, ℕ, zero, suc, ◌<◌, ◌≤◌, Bool, true, false, ◌&&◌, ◌⊎◌, inl, inr, List, [], ◌∷◌, length, Option, Some, None, refl, sym, ap, subst, ◌∙◌, arith}
+use Rattle.std.proofs.Common.{◌≡◌, ℕ, zero, suc, ◌<◌, ◌≤◌, Bool, true, false, ◌&&◌, inl, inr, List, [], ◌∷◌, length, Option, Some, None, refl, sym, ap, subst, ◌∙◌, arith}
 use Rattle.std.specs.Prelude.{slice_get, nat_eq, nat_lt}
 use Rattle.std.specs.Cmp.Lexicographic as words
 use Rattle.std.specs.Cmp.Lexicographic.{nat_list_eq_equiv}
 use Rattle.std.proofs.lemmas.Bool.Decides.{nat_tests}
 use Rattle.std.proofs.lemmas.Option.{slice_get_cases}
 use Rattle.cif_system.specs.Words.{Member, AreDistinct}
-use Rattle.cif_system.proofs.Lists.{some-same, none-some, false-true, slice_get-below}
+use Rattle.cif_system.proofs.Lists.{some-same, none-some, false-true}
 use Rattle.cif_system.proofs.Picks.{and-left, and-right, at-member}
 use Rattle.cif_source.specs.Source.{Text}
 use Rattle.cif_source.specs.Components.{same_text, same_path}

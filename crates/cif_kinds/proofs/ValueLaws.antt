@@ -1,19 +1,18 @@
 -- What is told of types, declarations, edges and locations answers what they are asked.
-use Rattle.std.proofs.Common.{◌≡◌, ℕ, Bool, true, false, ◌⊎◌, inl, inr, List, [], ◌∷◌, ◌++◌, map, Option, Some, None, refl, sym, ap, subst, ◌∙◌, append_assoc, append-nil}
+use Rattle.std.proofs.Common.{◌≡◌, ℕ, Bool, true, false, inl, inr, List, [], ◌∷◌, ◌++◌, Option, Some, None, refl, sym, ap, subst, ◌∙◌, append-nil}
 use Rattle.std.specs.Prelude.{flat_map, unwrap_or, if◌then◌else◌}
 use Rattle.std.specs.Option.{option_to_list}
 use Rattle.cif_system.specs.Words.{Member}
 use Rattle.cif_ast.specs.Tree.{Tree, Trees, no_trees, trees, UpdateTree, assignment, selection, UpdateTrees, no_updates, updates, UpdateBranches, no_update_branches, update_branches}
-use Rattle.cif_ast.specs.declared.names.Ident.{Ident}
-use Rattle.cif_source.specs.Source.{TypeTree, bool_type, int_type, range_type, named_type, ChannelTree, no_type, void_type, value_type, RoleTree, syncs, sends, receives, UseTree, EdgeTree, EquationTree, LocationTree, DeclTree, type_decl, enum_decl, event_decl, const_decl, alg_decl, input_decl, disc_decl, equation_decl, invariant_decl, marked_decl, ParamTree, event_param, alg_param, location_param, list_of_trees}
+use Rattle.cif_source.specs.Source.{TypeTree, bool_type, int_type, range_type, named_type, no_type, void_type, value_type, RoleTree, syncs, sends, receives, UseTree, EdgeTree, LocationTree, DeclTree, type_decl, enum_decl, event_decl, const_decl, alg_decl, input_decl, disc_decl, equation_decl, invariant_decl, marked_decl, ParamTree, event_param, alg_param, location_param, list_of_trees}
 use Rattle.cif_source.specs.Components.{Component}
 use Rattle.cif_source.specs.Lookup.{in_scope, found}
-use Rattle.cif_rules.specs.Kinds.{Kind, bool_kind, int_kind, no_kind, enum_kind, same_kind, kind_at, type_kind, Demand, demand, operands}
+use Rattle.cif_rules.specs.Kinds.{Kind, bool_kind, int_kind, no_kind, enum_kind, same_kind, kind_at, type_kind, Demand}
 use Rattle.cif_rules.specs.Constants.{param_types, decl_types, Bounds, bounds_in}
 use Rattle.cif_rules.specs.Demands.{demanded, asked_for, ChannelKind, not_channel, void_channel, channel_for, event_channel, sent_demands, use_demands, received_by, one_kind, edge_received, updates_demands, update_demands, branches_demands, edge_demands, equation_demands, location_demands, predicate_of, optional_demands, decl_demands}
-use Rattle.cif_kinds.specs.Faults.{or_later, fault, truth_fault}
-use Rattle.cif_kinds.specs.Values.{first_told, value_told, optional_told, own_told, type_told, channel_told, param_told, decl_type_told, decl_told, sent_told, optional_sent_told, use_told, joined, received_from, updates_told, update_told, update_branches_told, edge_told, equation_told, location_told}
-use Rattle.cif_kinds.proofs.SameLaws.{names-self, names-told}
+use Rattle.cif_kinds.specs.Faults.{or_later, truth_fault}
+use Rattle.cif_kinds.specs.Values.{first_told, value_told, optional_told, type_told, param_told, decl_type_told, decl_told, sent_told, optional_sent_told, use_told, received_from, updates_told, update_told, update_branches_told, edge_told, equation_told, location_told}
+use Rattle.cif_kinds.proofs.SameLaws.{names-told}
 use Rattle.cif_kinds.proofs.MetLaws.{Answers, nothing, next, regrouped, later-end, later-assoc}
 use Rattle.cif_kinds.proofs.FaultLaws.{operand-one, tree-answers}
 

@@ -1,12 +1,12 @@
 -- The kinds of what a component declares are those of what its body as written declares.
-use Rattle.std.proofs.Common.{◌≡◌, ℕ, zero, suc, Bool, true, false, List, [], ◌∷◌, length, Option, Some, None, refl, sym, ap, subst, ◌∙◌}
+use Rattle.std.proofs.Common.{◌≡◌, ℕ, zero, suc, Bool, true, false, List, [], ◌∷◌, length, Option, Some, None, refl, sym, ap, ◌∙◌}
 use Rattle.std.specs.Prelude.{option_map, flat_map}
 use Rattle.cif_system.proofs.Lists.{some-same, none-some}
 use Rattle.cif_ast.specs.declared.names.Ident.{Ident}
 use Rattle.cif_ast.specs.declared.names.Name.{Name}
-use Rattle.cif_source.specs.Source.{Text, ChannelTree, no_type, void_type, value_type, TypeTree, bool_type, int_type, range_type, named_type, type_decl, enum_decl, event_decl, const_decl, alg_decl, input_decl, disc_decl, equation_decl, invariant_decl, marked_decl, ParamTree, event_param, alg_param, location_param, InstanceTree, SourceBody, Source}
+use Rattle.cif_source.specs.Source.{Text, ChannelTree, no_type, void_type, value_type, TypeTree, bool_type, int_type, range_type, named_type, type_decl, enum_decl, event_decl, const_decl, alg_decl, input_decl, disc_decl, equation_decl, invariant_decl, marked_decl, ParamTree, event_param, alg_param, location_param, InstanceTree, SourceBody}
 use Rattle.cif_source.specs.Components.{Component, whole, part, blank, copy, as_written, specification_of, body_entries, Entry, declared, literal, location, inner, definition, instance, parameter, entry_named}
-use Rattle.cif_source.specs.Lookup.{ScopeEntry, Reached, reached, missing, blocked, at_entry, in_scope, in_body, go_on, outward, inside, opened_at, opened, in_opened, passed, definition_found, found}
+use Rattle.cif_source.specs.Lookup.{ScopeEntry, Reached, reached, missing, blocked, at_entry, in_scope, in_body, go_on, outward, inside, opened_at, opened, in_opened, definition_found, found}
 use Rattle.cif_source.specs.Objects.{bodies, decls_of}
 use Rattle.cif_rules.specs.Kinds.{Kind, no_kind, type_kind_at, type_kind_by, type_kind_within, type_kind, kind_at}
 use Rattle.cif_rules.specs.Demands.{channel_for, channel_kind, channel_at}

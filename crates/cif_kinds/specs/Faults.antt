@@ -1,5 +1,5 @@
 -- The first place at which an expression breaks what is asked of its operands, each operand read before it is asked.
-use Rattle.std.specs.Prelude.{◌≡◌, ℕ, Bool, true, false, List, Option, Some, None, unwrap_or, Result, Ok, Err}
+use Rattle.std.specs.Prelude.{◌≡◌, ℕ, Bool, true, false, Option, Some, None, unwrap_or, Result, Ok, Err}
 use Rattle.cif_ast.specs.Tree.{Tree, node, Shape, truth, number, named, received, paren, negative, positive, negation, absolute, least, greatest, sum, product, comparison, all_of, any_of, implication, equivalence, choice, Trees, no_trees, trees, Terms, no_terms, terms, Factors, no_factors, factors, Branches, no_branches, branches}
 use Rattle.cif_ast.specs.declared.expressions.CmpOp.{CmpOp}
 use Rattle.cif_ast.specs.declared.expressions.CmpOp.TheVariants as cmp

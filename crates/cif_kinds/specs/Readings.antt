@@ -1,5 +1,5 @@
 -- The body whose expressions are read.
-use Rattle.std.specs.Prelude.{◌≡◌, ℕ, ◌<◌, List, length, Option, Some, None, slice_get}
+use Rattle.std.specs.Prelude.{◌≡◌, ◌<◌, List, length, Option, Some, None, slice_get}
 use Rattle.cif_source.specs.Source.{Text, Source, source_of}
 use Rattle.cif_source.specs.Components.{Component, whole, params_of, body_of}
 use Rattle.cif_source.specs.Objects.{bodies}
