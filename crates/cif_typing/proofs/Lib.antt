@@ -1,0 +1,5 @@
+pub mod ListLaws
+pub mod SlotLaws
+pub mod NameLaws
+pub mod KindLaws
+pub mod TableLaws
