@@ -55,13 +55,13 @@ set-length [] k x = refl
 set-length (y ∷ xs) zero x = refl
 set-length (y ∷ xs) (suc k) x = ap suc (set-length xs k x)
 
-synonym-enumeration : (k : ℕ) (ty : TypeTree) (ls : List Ident) → synonym k ty ≡ enumeration ls → ⊥
+pub synonym-enumeration : (k : ℕ) (ty : TypeTree) (ls : List Ident) → synonym k ty ≡ enumeration ls → ⊥
 synonym-enumeration k ty ls h = cc
 
-same-body : (k j : ℕ) (ty u : TypeTree) → synonym k ty ≡ synonym j u → k ≡ j
+pub same-body : (k j : ℕ) (ty u : TypeTree) → synonym k ty ≡ synonym j u → k ≡ j
 same-body k j ty u h = cc
 
-same-type : (k j : ℕ) (ty u : TypeTree) → synonym k ty ≡ synonym j u → ty ≡ u
+pub same-type : (k j : ℕ) (ty u : TypeTree) → synonym k ty ≡ synonym j u → ty ≡ u
 same-type k j ty u h = cc
 
 module _ (t : Source) (s : Scopes) (are : AreNumbered t s) (slots : List (List Slot)) (types : List NamedType) where

@@ -7,7 +7,7 @@ use Rattle.cif_system.proofs.Lists.{some-same, none-some, slice_get-below}
 use Rattle.cif_ast.specs.declared.names.Name.{Name}
 use Rattle.cif_source.specs.Source.{TypeTree, bool_type, int_type, range_type, named_type, type_decl, enum_decl, event_decl, const_decl, alg_decl, input_decl, disc_decl, equation_decl, invariant_decl, marked_decl, event_param, alg_param, location_param, Source}
 use Rattle.cif_source.specs.Components.{Component, as_written, scope_of, Entry, declared, literal, location, inner, definition, instance, parameter}
-use Rattle.cif_source.specs.Lookup.{Reached, reached, missing, blocked, found}
+use Rattle.cif_source.specs.Lookup.{ScopeEntry, Reached, reached, missing, blocked, found}
 use Rattle.cif_source.specs.Objects.{bodies}
 use Rattle.cif_order.specs.Graph.{Needs, AreInside}
 use Rattle.cif_scope.specs.declared.looked.Looked.{Looked}
@@ -44,7 +44,7 @@ map-count f (x ∷ xs) = ap suc (map-count f xs)
 
 -- ---- types in slots
 
-abbrev tree_type : SlotTree → Option ℕ
+abbrev pub tree_type : SlotTree → Option ℕ
 tree_type (type_slot m) = Some m
 tree_type (literal_slot m) = None
 tree_type (value_slot ty) = None
@@ -102,6 +102,13 @@ entry-type t all k d (instance i) s o own h g = h ∙ ap tree_type g
 entry-type t all k d (parameter j (event_param c i n)) s o own h g = h ∙ ap tree_type g
 entry-type t all k d (parameter j (alg_param ty n)) s o own h g = h ∙ ap tree_type g
 entry-type t all k d (parameter j (location_param n)) s o own h g = h ∙ ap tree_type g
+
+pub type-slot : (s : SlotTree) (l : ℕ) → tree_type s ≡ Some l → s ≡ type_slot l
+type-slot (type_slot m) l h = ap type_slot (some-same m l h)
+type-slot (literal_slot m) l h = absurd (none-some l h)
+type-slot (value_slot ty) l h = absurd (none-some l h)
+type-slot location_slot l h = absurd (none-some l h)
+type-slot other_slot l h = absurd (none-some l h)
 
 -- a type in a slot is one of the types
 typed : (all : List NamedTree) (k : ℕ) (e : Entry) (s : SlotTree) (l : ℕ) → IsSlot all k e s → tree_type s ≡ Some l → l < length all
@@ -208,32 +215,48 @@ module _ (t : Source) (s : Scopes) (are : AreNumbered t s) (slots : List (List S
         subst (λ r. IsTypeOf t all r (type_named s slots k nm)) (sym (found-alike d (as_written d) nm alike))
         (looked-type (found (as_written d) nm) (look s.table s.definitions true k nm) (found-is t s.table are.table are.indexed s.definitions are.definitions (as_written d) k nm own))
 
-    -- ---- the needs are types
+    -- ---- where types stand
 
-    slot-below : (k i l : ℕ) → type_at slots (At k i) ≡ Some l → l < length all
-    slot-below k i l h = in_rows (slice_get slots k) refl h
+    -- type l stands in slot i of body k
+    pub record StandsAt (l k i : ℕ) (x : ScopeEntry) : Type 0 where
+      pub body : IsBody t k x.0
+      pub entry : IsEntry x.0 x.1 i
+      pub slot : IsSlot all k x.1 (type_slot l)
+
+    slot-stands : (k i l : ℕ) → type_at slots (At k i) ≡ Some l → (x : ScopeEntry) × StandsAt l k i x
+    slot-stands k i l h = in_rows (slice_get slots k) refl h
       where
-        in_row : (row : List Slot) → slice_get slots k ≡ Some row → (o : Option Slot) → slice_get row i ≡ o → type_in o ≡ Some l → l < length all
+        in_row : (row : List Slot) → slice_get slots k ≡ Some row → (o : Option Slot) → slice_get row i ≡ o → type_in o ≡ Some l → (x : ScopeEntry) × StandsAt l k i x
         in_row row e None f h = absurd (none-some l h)
         in_row row e (Some x) f h =
             let w = row-back all 0 k (bodies t) rows (map slot_tree row) slotted (get-map (map slot_tree) slots k row e) in
-            let back = beside-back (IsSlotOf all (0 + k)) (scope_of w.0) (map slot_tree row) i (slot_tree x) w.1 (get-map slot_tree row i x f) in
-            typed all (0 + k) back.0.1 (slot_tree x) l back.2 (sym (tree-type x) ∙ h)
+            let zero_first : 0 + k ≡ k = omega arith in
+            let back = beside-back (IsSlotOf all (0 + k)) (scope_of w.0) (map slot_tree row) i (slot_tree x) w.2 (get-map slot_tree row i x f) in
+            let named : slot_tree x ≡ type_slot l = type-slot (slot_tree x) l (sym (tree-type x) ∙ h) in (
+              (w.0, back.0.1),
+              record {
+                body = w.1;
+                entry = (back.0.0, back.1);
+                slot = subst (λ j. IsSlot all j back.0.1 (type_slot l)) zero_first (subst (λ y. IsSlot all (0 + k) back.0.1 y) named back.2);
+              },
+            )
 
-        in_rows : (o : Option (List Slot)) → slice_get slots k ≡ o → type_among o i ≡ Some l → l < length all
+        in_rows : (o : Option (List Slot)) → slice_get slots k ≡ o → type_among o i ≡ Some l → (x : ScopeEntry) × StandsAt l k i x
         in_rows None e h = absurd (none-some l h)
         in_rows (Some row) e h = in_row row e (slice_get row i) refl h
 
-    looked-below : (at : Looked) (l : ℕ) → type_at slots at ≡ Some l → l < length all
-    looked-below (At k i) l h = slot-below k i l h
-    looked-below Missing l h = absurd (none-some l h)
-    looked-below Blocked l h = absurd (none-some l h)
+    pub type-stands : (at : Looked) (l : ℕ) → type_at slots at ≡ Some l → (k : ℕ) × (i : ℕ) × (x : ScopeEntry) × (at ≡ At k i) × StandsAt l k i x
+    type-stands (At k i) l h = let w = slot-stands k i l h in (k, i, w.0, refl, w.1)
+    type-stands Missing l h = absurd (none-some l h)
+    type-stands Blocked l h = absurd (none-some l h)
 
-    pub in-type-below : (j l : ℕ) (ty : TypeTree) → type_in_type s slots j ty ≡ Some l → l < length all
+    -- ---- the needs are types
+
+    in-type-below : (j l : ℕ) (ty : TypeTree) → type_in_type s slots j ty ≡ Some l → l < length all
     in-type-below j l bool_type h = absurd (none-some l h)
     in-type-below j l int_type h = absurd (none-some l h)
     in-type-below j l (range_type lower upper) h = absurd (none-some l h)
-    in-type-below j l (named_type nm) h = looked-below (look s.table s.definitions true j nm) l h
+    in-type-below j l (named_type nm) h = let w = type-stands (look s.table s.definitions true j nm) l h in typed all w.0 w.2.1 (type_slot l) l w.4.slot refl
 
     pub needs-inside : AreInside graph
     needs-inside m l h =

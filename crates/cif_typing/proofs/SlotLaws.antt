@@ -209,13 +209,13 @@ row-at all k (suc j) (d ∷ cs) (row ∷ rows) c h g =
 
 -- the body of a row of slots
 pub row-back : (all : List NamedTree) (k j : ℕ) (cs : List Component) (rows : List (List SlotTree)) (row : List SlotTree) → AreRows all k cs rows → slice_get rows j ≡ Some row
-    → (c : Component) × Beside (IsSlotOf all (k + j)) (scope_of c) row
+    → (c : Component) × (slice_get cs j ≡ Some c) × Beside (IsSlotOf all (k + j)) (scope_of c) row
 row-back all k j cs [] row h g = absurd (none-some row g)
 row-back all k j [] (r ∷ rows) row h g = absurd h
 row-back all k zero (d ∷ cs) (r ∷ rows) row h g =
     let e : k ≡ k + 0 = omega arith in
-    (d, subst (λ i. Beside (IsSlotOf all i) (scope_of d) row) e (subst (λ (x : List SlotTree). Beside (IsSlotOf all k) (scope_of d) x) (some-same r row g) h.0))
+    (d, refl, subst (λ i. Beside (IsSlotOf all i) (scope_of d) row) e (subst (λ (x : List SlotTree). Beside (IsSlotOf all k) (scope_of d) x) (some-same r row g) h.0))
 row-back all k (suc j) (d ∷ cs) (r ∷ rows) row h g =
     let w = row-back all (k + 1) j cs rows row h.1 g in
     let e : (k + 1) + j ≡ k + suc j = omega arith in
-    (w.0, subst (λ i. Beside (IsSlotOf all i) (scope_of w.0) row) e w.1)
+    (w.0, w.1, subst (λ i. Beside (IsSlotOf all i) (scope_of w.0) row) e w.2)

@@ -5,13 +5,15 @@ use Rattle.cif_source.specs.Source.{Text, TypeTree, type_decl, enum_decl, event_
 use Rattle.cif_source.specs.Components.{Component, as_written, specification_of, scope_of, Entry, Entries, declared, literal, location, inner, definition, instance, parameter}
 use Rattle.cif_source.specs.Lookup.{reached}
 use Rattle.cif_source.specs.Objects.{bodies, decls_of}
+use Rattle.cif_source.specs.Scoping.{DefinitionCycleDue}
 use Rattle.cif_rules.specs.Kinds.{kind_at, type_kind, type_kind_within}
-use Rattle.cif_order.specs.Graph.{AreInside, IsOrder}
+use Rattle.cif_order.specs.Graph.{IsCyclic, AreInside, IsOrder}
 use Rattle.cif_order.proofs.OrderLaws.{order-rank}
 use Rattle.cif_scope.specs.declared.scopes.Scopes.{Scopes}
 use Rattle.cif_scope.specs.Tables.{IsBody, Beside}
 use Rattle.cif_scope.specs.Scopes.{AreNumbered}
-use Rattle.cif_scope.specs.Written.{written_bodies}
+use Rattle.cif_scope.specs.declared.written.Written.{Written}
+use Rattle.cif_scope.specs.Written.{body_of_written, written_bodies}
 use Rattle.cif_scope.proofs.BodyLaws.{body-written, body-root}
 use Rattle.cif_scope.proofs.Places.{beside-length, Sits, sits-head, sits-tail, sits-whole}
 use Rattle.cif_scope.proofs.DefinitionLaws.{bodies-written}
@@ -27,7 +29,17 @@ use Rattle.cif_typing.specs.Types.{type_graph, kind_among, kind_of_type, settled
 use Rattle.cif_typing.proofs.ListLaws.{IsListed, lists-distinct, kinds-listed}
 use Rattle.cif_typing.proofs.SlotLaws.{IsSlot, IsSlotOf, AreRows, types-below, rows-are}
 use Rattle.cif_typing.proofs.NameLaws.{all, rows, needs-inside}
+use Rattle.cif_typing.proofs.CycleLaws.{needs-acyclic}
 use Rattle.cif_typing.proofs.KindLaws.{AreSettled, kinds-settled, enumeration-kind, whole-kind}
+
+-- ---- what the code read
+
+module _ (t : Source) (ws us : List Written) (same : us ≡ ws) (are : map body_of_written ws ≡ written_bodies t) where
+  pub types-read : (others types : List NamedType) → map named_tree others ≡ all_types 0 (map body_of_written us) → types ≡ others → map named_tree types ≡ all_types 0 (written_bodies t)
+  types-read others types h e = ap (map named_tree) e ∙ h ∙ ap (λ vs. all_types 0 (map body_of_written vs)) same ∙ ap (all_types 0) are
+
+  pub slots-read : (others slots : List (List Slot)) → map (map slot_tree) others ≡ all_slots 0 (map body_of_written us) → slots ≡ others → map (map slot_tree) slots ≡ all_slots 0 (written_bodies t)
+  slots-read others slots h e = ap (map (map slot_tree)) e ∙ h ∙ ap (λ vs. all_slots 0 (map body_of_written vs)) same ∙ ap (all_slots 0) are
 
 -- ---- from the bodies
 
@@ -46,6 +58,9 @@ module _ (t : Source) (s : Scopes) (are : AreNumbered t s) (slots : List (List S
 
   pub graph-inside : AreInside (type_graph s slots types)
   graph-inside = needs-inside t s are slots types rows-slotted
+
+  pub graph-acyclic : ((at : ℕ) → DefinitionCycleDue t at → ⊥) → (m : ℕ) → IsCyclic (type_graph s slots types) m → ⊥
+  graph-acyclic none = needs-acyclic t s are slots types rows-slotted none
 
   module _ (order : List ℕ) (is : IsOrder (type_graph s slots types) order) where
     abbrev lists : List (List Text)

@@ -1,7 +1,7 @@
 //! The kinds of the types that have names, each after the one that it names.
 
-ghost use Rattle.std.specs.Prelude.{◌≡◌, IfOk};
-ghost use Rattle.cif_order.specs.Graph.{AreInside, IsOrder};
+ghost use Rattle.std.specs.Prelude.{◌≡◌, ℕ, IfOk};
+ghost use Rattle.cif_order.specs.Graph.{AreInside, IsCyclic, IsOrder};
 ghost use Rattle.cif_typing.specs.Types as typing;
 
 use crate::layout::NamedType;
@@ -12,15 +12,17 @@ use cif_order::{OrderErr, order};
 use cif_scope::number;
 use std::alloc::Global;
 
-/// An order of the types, which there is where none reaches itself.
+/// An order of types of which none needs itself.
 pub fn type_order(alloc: Global, needs: &[Items<u32>]) -> Result<Items<u32>, Memory>
-    requires { AreInside needs.now }
+    requires inside { AreInside needs.now }
+    requires acyclic { (named : ℕ) → IsCyclic needs.now named → ⊥ }
     ensures { IfOk result (λ all. IsOrder needs.now all) }
 {
     number(needs.len())?;
     match order(alloc, needs) {
         Ok(all) => Ok(all),
-        Err(OrderErr::Cycle { .. } | OrderErr::Memory) => Err(Memory),
+        Err(OrderErr::Cycle { .. }) => unreachable!(),
+        Err(OrderErr::Memory) => Err(Memory),
     }
 }
 
