@@ -1,0 +1,4 @@
+pub mod Checked
+pub mod Computed
+pub mod Named
+pub mod Outcomes
