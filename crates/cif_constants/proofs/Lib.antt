@@ -1,2 +1,4 @@
 pub mod CheckedLaws
 pub mod FaultLaws
+pub mod Firsts
+pub mod ConstancyLaws
