@@ -2,3 +2,11 @@ pub mod CheckedLaws
 pub mod FaultLaws
 pub mod Firsts
 pub mod ConstancyLaws
+pub mod Congruence
+pub mod NodeLaws
+pub mod ReachedLaws
+pub mod Meanings
+pub mod RankLaws
+pub mod FillLaws
+pub mod DueLaws
+pub mod BoundsLaws

@@ -1,6 +1,10 @@
 pub mod Checked
 pub mod Computed
+pub mod Numbers
 pub mod Named
 pub mod Outcomes
+pub mod Nodes
 pub mod Collected
 pub mod Constancy
+pub mod Constants
+pub mod Bounds

@@ -1,12 +1,11 @@
 //! The values of expressions, every operand evaluated.
 
-ghost use Rattle.std.specs.Prelude.{◌≡◌, true, false, None, pos};
+ghost use Rattle.std.specs.Prelude.{◌≡◌, true, false, None};
 ghost use Rattle.cif_ast.specs.View.{view, view_form, view_exprs, view_terms, view_factors, view_branches};
+ghost use Rattle.cif_source.specs.Source.{tree_at};
 ghost use Rattle.cif_constants.specs.Computed.{or_first, computed, shape_computed, terms_computed, factors_computed, all_computed, any_computed, branches_computed};
-ghost use Rattle.cif_source.specs.Value.{value_with};
-ghost use Rattle.cif_rules.specs.InstanceRules.{is_faulty};
 ghost use Rattle.cif_constants.specs.Named.{name_value};
-ghost use Rattle.cif_constants.specs.Outcomes.{unless_faulty};
+ghost use Rattle.cif_constants.specs.Outcomes.{evaluated};
 
 use crate::names::NameValues;
 use crate::operators::{
@@ -151,8 +150,14 @@ fn branches_computed(branches: &[Branch], names: &NameValues<'_>) -> Option<Opti
 /// The value of an expression, or `None` where some value in it leaves 64 bits or some divisor is 0, every operand evaluated.
 #[tactic(auto, using(crate::proofs::FaultLaws::computed_is))]
 pub fn evaluate(expr: &Expr, names: &NameValues<'_>) -> Option<i64>
-    ensures { let value = value_with (name_value names.now) (pos 0) in
-        result ≡ unless_faulty (is_faulty value (view expr.now)) (value (view expr.now)) }
+    ensures { result ≡ evaluated (name_value names.now) (view expr.now) }
 {
     computed(expr, names)
+}
+
+/// Where an expression begins.
+pub fn place(expr: &Expr) -> u32
+    ensures { result ≡ tree_at (view expr.now) }
+{
+    expr.at
 }

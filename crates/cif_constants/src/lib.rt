@@ -2,15 +2,22 @@
 //! "Types").
 #![tactic(auto)]
 
+mod bounds;
 mod checking;
 mod collecting;
 mod constancy;
 mod error;
 mod evaluating;
+mod filling;
 mod names;
+mod nodes;
+mod numbering;
 mod operators;
+mod values;
 
+pub use bounds::check_bounds;
 pub use checking::check_constancy;
-pub use error::ConstancyErr;
+pub use error::{ConstErr, ConstancyErr};
 pub use evaluating::evaluate;
 pub use names::NameValues;
+pub use values::{Constants, constant_values};

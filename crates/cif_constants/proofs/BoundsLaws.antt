@@ -1,0 +1,261 @@
+-- The first constant expression or bound that breaks the rule is told, and where none is, none breaks it.
+use Rattle.std.proofs.Common.{◌≡◌, ℕ, zero, suc, ◌+◌, ℤ, Bool, true, false, not, ◌⊎◌, inl, inr, List, [], ◌∷◌, ◌++◌, map, flat_map, refl, sym, ap, subst, ◌∙◌, Option, Some, None}
+use Rattle.std.specs.Prelude.{slice_get, IsTrue, int_lt}
+use Rattle.std.specs.List.{Any}
+use Rattle.std.specs.Option.{option_or}
+use Rattle.cif_system.specs.Words.{Member}
+use Rattle.cif_system.specs.System.{in_range}
+use Rattle.cif_system.proofs.Lists.{some-same, none-some, false-true}
+use Rattle.cif_system.proofs.Picks.{at-member, append-left, append-right, map-member, flat_map-member}
+use Rattle.cif_system.proofs.Distinct.{member-append, member-map, member-flat_map}
+use Rattle.cif_ast.specs.Tree.{Tree}
+use Rattle.cif_source.specs.Source.{TypeTree, bool_type, int_type, range_type, named_type, Source, tree_at}
+use Rattle.cif_source.specs.Components.{Component, body_of, params_of}
+use Rattle.cif_source.specs.Objects.{components_of, bodies, decls_in, decls_of}
+use Rattle.cif_source.specs.Value.{constant}
+use Rattle.cif_source.specs.Types.{signed_range}
+use Rattle.cif_rules.specs.Constants.{param_types, decl_types, types_of, Bounds, bounds_in, bounds_of, bound_values, decl_constants, typed_constants, constants_of}
+use Rattle.cif_rules.specs.InstanceRules.{is_faulty, FaultyConstant, LeavesRange, LongBound, EmptyRange, ConstantRangeDue}
+use Rattle.cif_scope.specs.declared.scopes.Scopes.{Scopes}
+use Rattle.cif_scope.specs.Tables.{IsBody, Beside}
+use Rattle.cif_scope.specs.Scopes.{AreNumbered}
+use Rattle.cif_scope.specs.Written.{WrittenBody, written_bodies}
+use Rattle.cif_scope.proofs.Places.{Sits, sits-head, sits-tail, sits-whole}
+use Rattle.cif_scope.proofs.DefinitionLaws.{IsWritten, bodies-written}
+use Rattle.cif_scope.proofs.IndexLaws.{any-of, of-any}
+use Rattle.cif_cycles.proofs.Graphs.{member-at}
+use Rattle.cif_constants.specs.Collected.{types_in, values_in}
+use Rattle.cif_constants.specs.Named.{table_value}
+use Rattle.cif_constants.specs.Outcomes.{unless_faulty, evaluated, outcome}
+use Rattle.cif_constants.specs.Bounds.{fits_32, crossed, bounds_fault, type_fault, types_fault, missing_value, values_fault, body_fault, faults_from}
+use Rattle.cif_constants.specs.Constants.{IsFlat, HasValues, BoundsDue}
+use Rattle.cif_constants.proofs.Firsts.{or-told, or-none}
+use Rattle.cif_constants.proofs.DueLaws.{value-is}
+
+any-member : {A : Type 0} (P : A → Type 0) (xs : List A) (x : A) → Member x xs → P x → Any P xs
+any-member P xs x m p = let w = member-at xs x m in any-of P xs w.0 x w.1 p
+
+member-any : {A : Type 0} (P : A → Type 0) (xs : List A) → Any P xs → (x : A) × Member x xs × P x
+member-any P xs a = let w = of-any P xs a in (w.1, at-member xs w.0 w.1 w.2, w.3)
+
+-- ---- two bounds
+
+crossed-none : (a b c : Bool) (p q : ℕ) → crossed a b c p q ≡ None → (a ≡ true) × (b ≡ true) × (c ≡ false)
+crossed-none false b c p q h = absurd (none-some p (sym h))
+crossed-none true false c p q h = absurd (none-some q (sym h))
+crossed-none true true false p q h = (refl, refl, refl)
+crossed-none true true true p q h = absurd (none-some p (sym h))
+
+crossed-told : (a b c : Bool) (p q at : ℕ) → crossed a b c p q ≡ Some at → ((p ≡ at) × (a ≡ false)) ⊎ ((q ≡ at) × (b ≡ false)) ⊎ ((p ≡ at) × (c ≡ true))
+crossed-told false b c p q at h = inl (some-same p at h, refl)
+crossed-told true false c p q at h = inr (inl (some-same q at h, refl))
+crossed-told true true false p q at h = absurd (none-some at h)
+crossed-told true true true p q at h = inr (inr (some-same p at h, refl))
+
+bounds-none : (l u : Tree) (f g : Bool) (x y : ℤ) → bounds_fault l u (unless_faulty f x) (unless_faulty g y) ≡ None → (f ≡ false) × (g ≡ false) × (fits_32 x ≡ true) × (fits_32 y ≡ true) × (int_lt y x ≡ false)
+bounds-none l u true g x y h = absurd (none-some (tree_at l) (sym h))
+bounds-none l u false true x y h = absurd (none-some (tree_at u) (sym h))
+bounds-none l u false false x y h = let w = crossed-none (fits_32 x) (fits_32 y) (int_lt y x) (tree_at l) (tree_at u) h in (refl, refl, w.0, w.1, w.2)
+
+abbrev AreWrong : (l u : Tree) (f g : Bool) (x y : ℤ) (at : ℕ) → Type 0
+AreWrong l u f g x y at = ((tree_at l ≡ at) × (f ≡ true)) ⊎ ((tree_at u ≡ at) × (g ≡ true)) ⊎ ((tree_at l ≡ at) × (fits_32 x ≡ false)) ⊎ ((tree_at u ≡ at) × (fits_32 y ≡ false)) ⊎ ((tree_at l ≡ at) × (int_lt y x ≡ true))
+
+bounds-told : (l u : Tree) (f g : Bool) (x y : ℤ) (at : ℕ) → bounds_fault l u (unless_faulty f x) (unless_faulty g y) ≡ Some at → AreWrong l u f g x y at
+bounds-told l u true g x y at h = inl (some-same (tree_at l) at h, refl)
+bounds-told l u false true x y at h = inr (inl (some-same (tree_at u) at h, refl))
+bounds-told l u false false x y at h = elim (crossed-told (fits_32 x) (fits_32 y) (int_lt y x) (tree_at l) (tree_at u) at h) [
+  | inl w ↦ inr (inr (inl w))
+  | inr w ↦ elim w [ inl v ↦ inr (inr (inr (inl v))) | inr v ↦ inr (inr (inr (inr v))) ]
+]
+
+missing-none : (e : Tree) (f : Bool) (x : ℤ) → missing_value e (unless_faulty f x) ≡ None → f ≡ false
+missing-none e true x h = absurd (none-some (tree_at e) (sym h))
+missing-none e false x h = refl
+
+missing-told : (e : Tree) (f : Bool) (x : ℤ) (at : ℕ) → missing_value e (unless_faulty f x) ≡ Some at → (tree_at e ≡ at) × (f ≡ true)
+missing-told e true x at h = (some-same (tree_at e) at h, refl)
+missing-told e false x at h = absurd (none-some at h)
+
+-- ---- a component
+
+module _ (c : Component) where
+  abbrev bad : Tree → Bool
+  bad e = is_faulty (constant c) e
+
+  abbrev WrongBounds : ℕ → Bounds → Type 0
+  WrongBounds at b = AreWrong b.0 b.1 (bad b.0) (bad b.1) (constant c b.0) (constant c b.1) at
+
+  abbrev SoundBounds : Bounds → Type 0
+  SoundBounds b = (bad b.0 ≡ false) × (bad b.1 ≡ false) × (fits_32 (constant c b.0) ≡ true) × (fits_32 (constant c b.1) ≡ true) × (int_lt (constant c b.1) (constant c b.0) ≡ false)
+
+  abbrev all_bounds : List TypeTree → List Bounds
+  all_bounds ts = flat_map bounds_in ts
+
+  types-told : (ts : List TypeTree) (at : ℕ) → types_fault (outcome c) ts ≡ Some at → (b : Bounds) × Member b (all_bounds ts) × WrongBounds at b
+  types-told [] at h = absurd (none-some at h)
+  types-told (bool_type ∷ ts) at h = types-told ts at h
+  types-told (int_type ∷ ts) at h = types-told ts at h
+  types-told (named_type nm ∷ ts) at h = types-told ts at h
+  types-told (range_type l u ∷ ts) at h = elim (or-told (bounds_fault l u (outcome c l) (outcome c u)) (types_fault (outcome c) ts) at h) [
+    | inl g ↦ ((l, u), inl refl, bounds-told l u (bad l) (bad u) (constant c l) (constant c u) at g)
+    | inr g ↦ let w = types-told ts at g in (w.0, inr w.1, w.2)
+  ]
+
+  types-none : (ts : List TypeTree) → types_fault (outcome c) ts ≡ None → (b : Bounds) → Member b (all_bounds ts) → SoundBounds b
+  types-none [] h b m = absurd m
+  types-none (bool_type ∷ ts) h b m = types-none ts h b m
+  types-none (int_type ∷ ts) h b m = types-none ts h b m
+  types-none (named_type nm ∷ ts) h b m = types-none ts h b m
+  types-none (range_type l u ∷ ts) h b m =
+      let w = or-none (bounds_fault l u (outcome c l) (outcome c u)) (types_fault (outcome c) ts) h in
+      elim m [
+        | inl e ↦ subst (λ (x : Bounds). SoundBounds x) (sym e) (bounds-none l u (bad l) (bad u) (constant c l) (constant c u) w.0)
+        | inr g ↦ types-none ts w.1 b g
+      ]
+
+  values-told : (vs : List (TypeTree × Tree)) (at : ℕ) → values_fault (outcome c) vs ≡ Some at → (v : TypeTree × Tree) × Member v vs × (tree_at v.1 ≡ at) × (bad v.1 ≡ true)
+  values-told [] at h = absurd (none-some at h)
+  values-told (v ∷ vs) at h = elim (or-told (missing_value v.1 (outcome c v.1)) (values_fault (outcome c) vs) at h) [
+    | inl g ↦ let w = missing-told v.1 (bad v.1) (constant c v.1) at g in (v, inl refl, w.0, w.1)
+    | inr g ↦ let w = values-told vs at g in (w.0, inr w.1, w.2, w.3)
+  ]
+
+  values-none : (vs : List (TypeTree × Tree)) → values_fault (outcome c) vs ≡ None → (v : TypeTree × Tree) → Member v vs → bad v.1 ≡ false
+  values-none [] h v m = absurd m
+  values-none (x ∷ vs) h v m =
+      let w = or-none (missing_value x.1 (outcome c x.1)) (values_fault (outcome c) vs) h in
+      elim m [
+        | inl e ↦ subst (λ (y : TypeTree × Tree). bad y.1 ≡ false) (sym e) (missing-none x.1 (bad x.1) (constant c x.1) w.0)
+        | inr g ↦ values-none vs w.1 v g
+      ]
+
+  -- ---- what is told is due
+
+  abbrev Broken : ℕ → Type 0
+  Broken at = FaultyConstant c at ⊎ LongBound c at ⊎ EmptyRange c at
+
+  abbrev both_ends : Bounds → List Tree
+  both_ends b = b.0 ∷ b.1 ∷ []
+
+  lower-in : (b : Bounds) → Member b (bounds_of c) → Member b.0 (bound_values c)
+  lower-in b m = flat_map-member both_ends b (bounds_of c) b.0 m (inl refl)
+
+  upper-in : (b : Bounds) → Member b (bounds_of c) → Member b.1 (bound_values c)
+  upper-in b m = flat_map-member both_ends b (bounds_of c) b.1 m (inr (inl refl))
+
+  faulty-bound : (e : Tree) (at : ℕ) → Member e (bound_values c) → (tree_at e ≡ at) × (bad e ≡ true) → Broken at
+  faulty-bound e at m h = inl (any-member (λ x. (tree_at x ≡ at) × IsTrue (bad x)) (constants_of c) e (append-left e (bound_values c) (map (λ (v : TypeTree × Tree). v.1) (typed_constants c)) m) h)
+
+  long-bound : (e : Tree) (at : ℕ) → Member e (bound_values c) → (tree_at e ≡ at) × (fits_32 (constant c e) ≡ false) → Broken at
+  long-bound e at m h = inr (inl (any-member (λ x. (tree_at x ≡ at) × (in_range (signed_range 32) (constant c x) ≡ false)) (bound_values c) e m h))
+
+  bounds-broken : (b : Bounds) (at : ℕ) → Member b (bounds_of c) → WrongBounds at b → Broken at
+  bounds-broken b at m h = elim h [
+    | inl w ↦ faulty-bound b.0 at (lower-in b m) w
+    | inr r ↦ elim r [
+      | inl w ↦ faulty-bound b.1 at (upper-in b m) w
+      | inr q ↦ elim q [
+        | inl w ↦ long-bound b.0 at (lower-in b m) w
+        | inr p ↦ elim p [
+          | inl w ↦ long-bound b.1 at (upper-in b m) w
+          | inr w ↦ inr (inr (any-member (λ (x : Bounds). (tree_at x.0 ≡ at) × IsTrue (int_lt (constant c x.1) (constant c x.0))) (bounds_of c) b m w))
+        ]
+      ]
+    ]
+  ]
+
+  value-broken : (v : TypeTree × Tree) (at : ℕ) → Member v (typed_constants c) → (tree_at v.1 ≡ at) → (bad v.1 ≡ true) → Broken at
+  value-broken v at m e h =
+      inl (any-member (λ x. (tree_at x ≡ at) × IsTrue (bad x)) (constants_of c) v.1 (append-right v.1 (bound_values c) (map (λ (x : TypeTree × Tree). x.1) (typed_constants c)) (map-member (λ (x : TypeTree × Tree). x.1) v (typed_constants c) m)) (e, h))
+
+  abbrev own_fault : Option ℕ
+  own_fault = option_or (types_fault (outcome c) (types_of c)) (values_fault (outcome c) (typed_constants c))
+
+  pub own-told : (at : ℕ) → own_fault ≡ Some at → Broken at
+  own-told at h = elim (or-told (types_fault (outcome c) (types_of c)) (values_fault (outcome c) (typed_constants c)) at h) [
+    | inl g ↦ let w = types-told (types_of c) at g in bounds-broken w.0 at w.1 w.2
+    | inr g ↦ let w = values-told (typed_constants c) at g in value-broken w.0 at w.1 w.2 w.3
+  ]
+
+  pub own-none : own_fault ≡ None → (at : ℕ) → Broken at → ⊥
+  own-none h at broken =
+      let w = or-none (types_fault (outcome c) (types_of c)) (values_fault (outcome c) (typed_constants c)) h in
+      elim broken [
+        | inl f ↦
+            let x = member-any (λ e. (tree_at e ≡ at) × IsTrue (bad e)) (constants_of c) f in
+            elim (member-append x.0 (bound_values c) (map (λ (v : TypeTree × Tree). v.1) (typed_constants c)) x.1) [
+              | inl m ↦
+                  let b = member-flat_map both_ends x.0 (bounds_of c) m in
+                  let sound = types-none (types_of c) w.0 b.0 b.1 in
+                  elim b.2 [
+                    | inl e ↦ false-true (ap bad e ∙ sound.0) x.2.1
+                    | inr r ↦ elim r [ inl e ↦ false-true (ap bad e ∙ sound.1) x.2.1 | inr e ↦ absurd e ]
+                  ]
+              | inr m ↦ let v = member-map (λ (y : TypeTree × Tree). y.1) x.0 (typed_constants c) m in false-true (ap bad v.2 ∙ values-none (typed_constants c) w.1 v.0 v.1) x.2.1
+            ]
+        | inr g ↦ elim g [
+          | inl l ↦
+              let x = member-any (λ e. (tree_at e ≡ at) × (in_range (signed_range 32) (constant c e) ≡ false)) (bound_values c) l in
+              let b = member-flat_map both_ends x.0 (bounds_of c) x.1 in
+              let sound = types-none (types_of c) w.0 b.0 b.1 in
+              elim b.2 [
+                | inl e ↦ false-true x.2.1 (ap (λ y. fits_32 (constant c y)) e ∙ sound.2)
+                | inr r ↦ elim r [ inl e ↦ false-true x.2.1 (ap (λ y. fits_32 (constant c y)) e ∙ sound.3) | inr e ↦ absurd e ]
+              ]
+          | inr m ↦
+              let x = member-any (λ (b : Bounds). (tree_at b.0 ≡ at) × IsTrue (int_lt (constant c b.1) (constant c b.0))) (bounds_of c) m in
+              let sound = types-none (types_of c) w.0 x.0 x.1 in
+              false-true sound.4 x.2.1
+        ]
+      ]
+
+-- ---- all bodies
+
+abbrev faults : List Component → Option ℕ
+faults [] = None
+faults (c ∷ cs) = option_or (own_fault c) (faults cs)
+
+told-in : (cs : List Component) (at : ℕ) → faults cs ≡ Some at → (c : Component) × Member c cs × Broken c at
+told-in [] at h = absurd (none-some at h)
+told-in (c ∷ cs) at h = elim (or-told (own_fault c) (faults cs) at h) [
+  | inl g ↦ (c, inl refl, own-told c at g)
+  | inr g ↦ let w = told-in cs at g in (w.0, inr w.1, w.2)
+]
+
+none-in : (cs : List Component) → faults cs ≡ None → (c : Component) → Member c cs → own_fault c ≡ None
+none-in [] h c m = absurd m
+none-in (d ∷ cs) h c m =
+    let w = or-none (own_fault d) (faults cs) h in
+    elim m [ inl e ↦ subst (λ x. own_fault x ≡ None) (sym e) w.0 | inr g ↦ none-in cs w.1 c g ]
+
+module _ (t : Source) (s : Scopes) (ns : List (List ℕ)) (vs : List ℤ) (values : HasValues t s ns vs) where
+  body-is : (k : ℕ) (c : Component) (w : WrittenBody) → IsBody t k c → IsWritten c w → body_fault s ns vs k w ≡ own_fault c
+  body-is k c w own h =
+      (λ i. let value : Tree → Option ℤ = λ e. value-is t s ns vs k c e values own i in option_or (types_fault value (types_in w)) (values_fault value (values_in w)))
+      ∙ ap (λ ps. option_or (types_fault (outcome c) (flat_map param_types ps ++ flat_map decl_types (decls_in w.body))) (values_fault (outcome c) (flat_map decl_constants (decls_in w.body)))) (sym h.0)
+      ∙ ap (λ b. option_or (types_fault (outcome c) (flat_map param_types (params_of c) ++ flat_map decl_types (decls_in b))) (values_fault (outcome c) (flat_map decl_constants (decls_in b)))) (sym h.1)
+
+  bodies-are : (cs : List Component) (ws : List WrittenBody) (k : ℕ) → Beside IsWritten cs ws → Sits (bodies t) k cs → faults_from s ns vs k ws ≡ faults cs
+  bodies-are [] [] k h g = refl
+  bodies-are [] (w ∷ ws) k h g = absurd h
+  bodies-are (c ∷ cs) [] k h g = absurd h
+  bodies-are (c ∷ cs) (w ∷ ws) k h g =
+      ap (λ o. option_or o (faults_from s ns vs (k + 1) ws)) (body-is k c w (sits-head (bodies t) k c cs g) h.0)
+      ∙ ap (option_or (own_fault c)) (bodies-are cs ws (k + 1) h.1 (sits-tail (bodies t) k c cs g))
+
+  all-are : faults_from s ns vs 0 (written_bodies t) ≡ faults (bodies t)
+  all-are = bodies-are (bodies t) (written_bodies t) 0 (bodies-written t) (sits-whole (bodies t))
+
+  pub bounds-refused : (o : Option ℕ) (at : ℕ) → IsFlat t → o ≡ faults_from s ns vs 0 (written_bodies t) → o ≡ Some at → ConstantRangeDue t at
+  bounds-refused o at flat e h =
+      let w = told-in (bodies t) at (sym all-are ∙ sym e ∙ h) in
+      subst (λ cs. Any (λ d. FaultyConstant d at ⊎ LeavesRange d at ⊎ LongBound d at ⊎ EmptyRange d at) cs) (sym flat.components)
+      (any-member (λ d. FaultyConstant d at ⊎ LeavesRange d at ⊎ LongBound d at ⊎ EmptyRange d at) (bodies t) w.0 w.1 (widened w.0 at w.2))
+    where
+      widened : (c : Component) (at : ℕ) → Broken c at → FaultyConstant c at ⊎ LeavesRange c at ⊎ LongBound c at ⊎ EmptyRange c at
+      widened c at b = elim b [ inl f ↦ inl f | inr r ↦ inr (inr r) ]
+
+  pub none-broken : (o : Option ℕ) → IsFlat t → o ≡ faults_from s ns vs 0 (written_bodies t) → o ≡ None → (at : ℕ) → BoundsDue t at → ⊥
+  none-broken o flat e h at due =
+      let w = member-any (λ c. FaultyConstant c at ⊎ LongBound c at ⊎ EmptyRange c at) (bodies t) (subst (λ cs. Any (λ c. FaultyConstant c at ⊎ LongBound c at ⊎ EmptyRange c at) cs) flat.components due) in
+      own-none w.0 (none-in (bodies t) (sym all-are ∙ sym e ∙ h) w.0 w.1) at w.2

@@ -1,0 +1,260 @@
+-- The values that constants get one after the other are their values.
+use Rattle.std.proofs.Common.{◌≡◌, ◌≢◌, ℕ, zero, suc, ◌+◌, ◌<◌, ◌≤◌, ℤ, pos, Bool, true, false, List, [], ◌∷◌, ◌++◌, append_assoc, length, map, refl, sym, ap, subst, ◌∙◌, arith, Option, Some, None, inl, inr, ◌⊎◌, flat_map, append-nil}
+use Rattle.std.specs.Prelude.{slice_get, slice_set, Result, Ok, Err, replicate}
+use Rattle.cif_system.specs.Words.{Member, AreDistinct, Before}
+use Rattle.cif_system.proofs.Lists.{some-same, none-some, slice_get-below, map-length}
+use Rattle.cif_system.proofs.Picks.{at-member, append-left, append-right}
+use Rattle.cif_system.proofs.Distinct.{member-append, member-flat_map}
+use Rattle.cif_ast.specs.declared.names.Ident.{Ident}
+use Rattle.cif_ast.specs.declared.names.Name.{Name}
+use Rattle.cif_ast.specs.Tree.{Tree, node, named}
+use Rattle.cif_source.specs.Source.{DeclTree, type_decl, enum_decl, event_decl, const_decl, alg_decl, input_decl, disc_decl, equation_decl, invariant_decl, marked_decl, TypeTree, Source, tree_at}
+use Rattle.cif_source.specs.Components.{Component, specification_of, declared}
+use Rattle.cif_source.specs.Lookup.{found}
+use Rattle.cif_source.specs.Objects.{bodies, decls_in, decls_of, of_sort, is_const}
+use Rattle.cif_source.specs.Uses.{names_in}
+use Rattle.cif_source.specs.Value.{value_with, constant_object, constant_within, constant}
+use Rattle.cif_rules.specs.InstanceRules.{is_faulty}
+use Rattle.cif_order.specs.Graph.{Needs, IsOrder, IsRank}
+use Rattle.cif_order.proofs.Lists.{written-same, written-other, same-or-other, before-push, distinct-front}
+use Rattle.cif_scope.specs.declared.scopes.Scopes.{Scopes}
+use Rattle.cif_scope.specs.Tables.{IsBody, Beside}
+use Rattle.cif_scope.specs.Scopes.{AreNumbered}
+use Rattle.cif_scope.specs.Written.{WrittenBody, written_bodies}
+use Rattle.cif_scope.proofs.Places.{Sits, sits-head, sits-tail, sits-whole}
+use Rattle.cif_scope.proofs.BodyLaws.{body-root}
+use Rattle.cif_scope.proofs.DefinitionLaws.{IsWritten, bodies-written}
+use Rattle.cif_constants.specs.Computed.{computed}
+use Rattle.cif_constants.specs.Outcomes.{unless_faulty, evaluated, outcome}
+use Rattle.cif_constants.specs.Named.{or_zero, value_at, table_value}
+use Rattle.cif_constants.specs.Nodes.{Node, decl_nodes, nodes_from, node_needs, node_value, filled_by, filled_at, filled_on, filled}
+use Rattle.cif_constants.specs.Constants.{IsFlat, HasValues}
+use Rattle.cif_constants.proofs.Meanings.{defined_within, name_within, constant_name}
+use Rattle.cif_constants.proofs.FaultLaws.{computed_is}
+use Rattle.cif_constants.proofs.Congruence.{same-computed}
+use Rattle.cif_constants.proofs.NodeLaws.{nodes}
+use Rattle.cif_constants.proofs.ReachedLaws.{numbers, looks, agrees, followed, IsNode, IsFoundNode, found-value}
+use Rattle.cif_constants.proofs.RankLaws.{within-value, constants-count, graph, value-need, stable-below}
+
+-- where names have the same values, so do expressions
+pub evaluated-same : (f g : Name → ℤ) (e : Tree) → ((nm : Name) → Member nm (names_in e) → f nm ≡ g nm) → evaluated f e ≡ evaluated g e
+evaluated-same f g e h = sym (computed_is f e) ∙ same-computed f g e h ∙ computed_is g e
+
+abbrev pub count_for : Component → ℕ
+count_for c = length (of_sort is_const (specification_of c))
+
+outcome-evaluated : (c : Component) (e : Tree) → outcome c e ≡ evaluated (constant_name c) e
+outcome-evaluated c e = λ i. unless_faulty (is_faulty (λ x. within-value (count_for c) c x i) e) (within-value (count_for c) c e i)
+
+-- the value of a name is that of the constant expression which it is
+pub name-constant : (c : Component) (nm : Name) → constant c (node (named nm) nm.at) ≡ constant_name c nm
+name-constant c nm = within-value (count_for c) c (node (named nm) nm.at)
+
+pub constant-evaluated : (c : Component) (e : Tree) → evaluated (constant_name c) e ≡ outcome c e
+constant-evaluated c e = sym (outcome-evaluated c e)
+
+-- ---- constants are declared in bodies
+
+-- a constant of a body with this value
+pub record IsConstant (t : Source) (x : Node) : Type 0 where
+  pub component : Component
+  pub own : IsBody t x.body component
+  pub ty : TypeTree
+  pub name : Ident
+  pub is : x.decl ≡ const_decl ty name x.value
+  pub declares : Member (const_decl ty name x.value) (decls_of component)
+
+-- the constant whose value stands there is faulty
+pub record IsFaultyAt (t : Source) (at : ℕ) : Type 0 where
+  pub body : ℕ
+  pub component : Component
+  pub own : IsBody t body component
+  pub ty : TypeTree
+  pub name : Ident
+  pub value : Tree
+  pub declares : Member (const_decl ty name value) (decls_of component)
+  pub stands : tree_at value ≡ at
+  pub faulty : is_faulty (constant component) value ≡ true
+
+abbrev IsDeclNode : ℕ → DeclTree → Node → Type 0
+IsDeclNode k d x = (ty : TypeTree) × (n : Ident) × (e : Tree) × (d ≡ const_decl ty n e) × (x ≡ record { body = k; decl = const_decl ty n e; value = e })
+
+decl-node : (k : ℕ) (d : DeclTree) (x : Node) → Member x (decl_nodes k d) → IsDeclNode k d x
+decl-node k (const_decl ty n e) x m = elim m [ inl h ↦ (ty, n, e, refl, h) | inr h ↦ absurd h ]
+decl-node k (type_decl n ty) x m = absurd m
+decl-node k (enum_decl n ls) x m = absurd m
+decl-node k (event_decl c h n) x m = absurd m
+decl-node k (alg_decl ty n e) x m = absurd m
+decl-node k (input_decl ty n) x m = absurd m
+decl-node k (disc_decl ty n e) x m = absurd m
+decl-node k (equation_decl q) x m = absurd m
+decl-node k (invariant_decl i) x m = absurd m
+decl-node k (marked_decl p) x m = absurd m
+
+pub nodes-sound : (t : Source) (cs : List Component) (ws : List WrittenBody) (k : ℕ) (x : Node) → Beside IsWritten cs ws → Sits (bodies t) k cs → Member x (nodes_from k ws) → IsConstant t x
+nodes-sound t [] [] k x h g m = absurd m
+nodes-sound t [] (w ∷ ws) k x h g m = absurd h
+nodes-sound t (c ∷ cs) [] k x h g m = absurd h
+nodes-sound t (c ∷ cs) (w ∷ ws) k x h g m = elim (member-append x (flat_map (decl_nodes k) (decls_in w.body)) (nodes_from (k + 1) ws) m) [
+  | inl i ↦
+      let d = member-flat_map (decl_nodes k) x (decls_in w.body) i in
+      let n = decl-node k d.0 x d.2 in
+      let body : x.body ≡ k = ap (λ (y : Node). y.body) n.4 in
+      let value : x.value ≡ n.2 = ap (λ (y : Node). y.value) n.4 in
+      let decl : x.decl ≡ const_decl n.0 n.1 n.2 = ap (λ (y : Node). y.decl) n.4 in
+      let inside : Member (const_decl n.0 n.1 n.2) (decls_of c) = subst (λ b. Member (const_decl n.0 n.1 n.2) (decls_in b)) (sym h.0.1) (subst (λ y. Member y (decls_in w.body)) n.3 d.1) in
+      record {
+        component = c;
+        own = subst (λ i. IsBody t i c) (sym body) (sits-head (bodies t) k c cs g);
+        ty = n.0;
+        name = n.1;
+        is = decl ∙ ap (const_decl n.0 n.1) (sym value);
+        declares = subst (λ v. Member (const_decl n.0 n.1 v) (decls_of c)) (sym value) inside;
+      }
+  | inr i ↦ nodes-sound t cs ws (k + 1) x h.1 (sits-tail (bodies t) k c cs g) i
+]
+
+-- ---- orders
+
+before-later : (l m : ℕ) (xs : List ℕ) → Before l m xs → Member m xs
+before-later l m [] b = absurd b
+before-later l m (x ∷ xs) b = elim b [ inl h ↦ inr h.1 | inr h ↦ inr (before-later l m xs h) ]
+
+before-front : (l m : ℕ) (front ms : List ℕ) → AreDistinct (front ++ m ∷ ms) → Before l m (front ++ m ∷ ms) → Member l front
+before-front l m [] ms d b = elim b [ inl h ↦ absurd (d.0 h.1) | inr h ↦ absurd (d.0 (before-later l m ms h)) ]
+before-front l m (z ∷ zs) ms d b = elim b [ inl h ↦ inl h.0 | inr h ↦ inr (before-front l m zs ms d.1 h) ]
+
+front-other : (l m : ℕ) (front ms : List ℕ) → AreDistinct (front ++ m ∷ ms) → Member l front → l ≢ m
+front-other l m [] ms d g e = absurd g
+front-other l m (z ∷ zs) ms d g e = elim g [
+  | inl h ↦ d.0 (subst (λ i. Member i (zs ++ m ∷ ms)) (sym e ∙ h) (append-right m zs (m ∷ ms) (inl refl)))
+  | inr h ↦ front-other l m zs ms d.1 h e
+]
+
+set-length : {A : Type 0} (xs : List A) (k : ℕ) (x : A) → length (slice_set xs k x) ≡ length xs
+set-length [] k x = refl
+set-length (y ∷ xs) zero x = refl
+set-length (y ∷ xs) (suc k) x = ap suc (set-length xs k x)
+
+bool-cases : (b : Bool) → (b ≡ true) ⊎ (b ≡ false)
+bool-cases true = inl refl
+bool-cases false = inr refl
+
+-- ---- one after the other
+
+module _ (t : Source) (s : Scopes) (are : AreNumbered t s) (flat : IsFlat t) (order : List ℕ) (is : IsOrder (graph t s are flat) order) (rank : ℕ → ℕ) (ranked : IsRank (graph t s are flat) rank) where
+  abbrev pub all_nodes : List Node
+  all_nodes = nodes t s are
+
+  abbrev pub its_numbers : List (List ℕ)
+  its_numbers = numbers t s are flat
+
+  abbrev pub count : ℕ
+  count = length (of_sort is_const t)
+
+  graph-long : length (graph t s are flat) ≡ count
+  graph-long = map-length (node_needs s its_numbers) all_nodes ∙ sym (constants-count t flat)
+
+  -- constant m has its value
+  abbrev pub IsDone : List ℤ → ℕ → Type 0
+  IsDone vs m = (k : ℕ) (d : Component) (ty : TypeTree) (n : Ident) (e : Tree) → IsNode t s are flat m k d ty n e → value_at vs m ≡ constant_within count d e
+
+  node-below : (m k : ℕ) (d : Component) (ty : TypeTree) (n : Ident) (e : Tree) → IsNode t s are flat m k d ty n e → rank m < count
+  node-below m k d ty n e h =
+      let below : m < length all_nodes = slice_get-below all_nodes m (record { body = k; decl = const_decl ty n e; value = e }) h.1 in
+      let long : length (graph t s are flat) ≡ length all_nodes = map-length (node_needs s its_numbers) all_nodes in
+      let inside : m < length (graph t s are flat) = omega (arith, below, long) in
+      omega (arith, ranked.within m inside, graph-long)
+
+  pub name-done : (vs : List ℤ) (k : ℕ) (c : Component) → IsBody t k c → (nm : Name) → ((m k2 : ℕ) (d : Component) (ty : TypeTree) (n : Ident) (e : Tree) → IsFoundNode t s are flat (looks t s are flat k nm) m d ty n e → IsDone vs m)
+      → table_value s its_numbers vs k nm ≡ constant_name c nm
+  name-done vs k c own nm done =
+      found-value t s are flat (defined_within count) vs (found c nm) (looks t s are flat k nm) (agrees t s are flat k c own nm)
+      (λ m d ty n e at node. done m node.0 d ty n e node node.0 d ty n e node.2 ∙ stable-below t s are flat rank ranked count m node.0 d ty n e node.2 (node-below m node.0 d ty n e node.2))
+      ∙ sym (followed t s are flat (defined_within count) k c own nm)
+      ∙ ap (λ u. name_within (length (of_sort is_const u)) c nm) (sym (body-root t s.table.scopes are.table c k own))
+
+  node-outcome : (vs : List ℤ) (m k : ℕ) (d : Component) (ty : TypeTree) (n : Ident) (e : Tree) → IsNode t s are flat m k d ty n e → ((l : ℕ) → Needs (graph t s are flat) m l → IsDone vs l)
+      → evaluated (table_value s its_numbers vs k) e ≡ outcome d e
+  node-outcome vs m k d ty n e h done =
+      evaluated-same (table_value s its_numbers vs k) (constant_name d) e
+      (λ nm member. name-done vs k d h.0 nm (λ l i c x y z node. done l (value-need t s are flat m k l d ty n e nm h member node.1)))
+      ∙ constant-evaluated d e
+
+  constant-count : (k : ℕ) (d : Component) (e : Tree) → IsBody t k d → constant_within count d e ≡ constant d e
+  constant-count k d e own = ap (λ u. constant_within (length (of_sort is_const u)) d e) (sym (body-root t s.table.scopes are.table d k own))
+
+  abbrev pub Answer : Result (List ℤ) ℕ → Type 0
+  Answer (Ok out) = (m : ℕ) → m < length all_nodes → IsDone out m
+  Answer (Err at) = IsFaultyAt t at
+
+  abbrev pub AreDone : List ℤ → List ℕ → Type 0
+  AreDone vs ms = (m : ℕ) → Member m ms → IsDone vs m
+
+  done-more : (vs : List ℤ) (front : List ℕ) (m : ℕ) → AreDone vs front → IsDone vs m → AreDone vs (front ++ m ∷ [])
+  done-more vs front m h g l member = elim (member-append l front (m ∷ []) member) [
+    | inl i ↦ h l i
+    | inr i ↦ elim i [ inl e ↦ subst (λ j. IsDone vs j) (sym e) g | inr f ↦ absurd f ]
+  ]
+
+  set-done : (vs : List ℤ) (front ms : List ℕ) (m k : ℕ) (d : Component) (ty : TypeTree) (n : Ident) (e : Tree) → order ≡ front ++ m ∷ ms → length vs ≡ length all_nodes → AreDone vs front → IsNode t s are flat m k d ty n e
+      → AreDone (slice_set vs m (constant d e)) (front ++ m ∷ [])
+  set-done vs front ms m k d ty n e o long done h =
+      done-more (slice_set vs m (constant d e)) front m
+      (λ l member i c x y z g. ap or_zero (written-other vs m l (constant d e) (front-other l m front ms (subst (λ (ns : List ℕ). AreDistinct ns) o is.once) member)) ∙ done l member i c x y z g)
+      (λ i c x y z g.
+      let below : m < length vs = omega (arith, long, slice_get-below all_nodes m (record { body = k; decl = const_decl ty n e; value = e }) h.1) in
+      let same : record { body = k; decl = const_decl ty n e; value = e } ≡ record { body = i; decl = const_decl x y z; value = z } = some-same (record { body = k; decl = const_decl ty n e; value = e }) (record { body = i; decl = const_decl x y z; value = z }) (sym h.1 ∙ g.1) in
+      let body : k ≡ i = ap (λ (u : Node). u.body) same in
+      let value : e ≡ z = ap (λ (u : Node). u.value) same in
+      let place : d ≡ c = some-same d c (sym h.0 ∙ ap (slice_get (bodies t)) body ∙ g.0) in
+      ap or_zero (written-same vs m (constant d e) below) ∙ ap (constant d) value ∙ ap (λ u. constant u z) place ∙ sym (constant-count i c z g.0))
+
+  abbrev node_by : ℕ → Option Node
+  node_by m = slice_get all_nodes m
+
+  abbrev all_filled : List ℤ → List ℕ → Result (List ℤ) ℕ
+  all_filled vs ms = filled s its_numbers node_by vs ms
+
+  -- what follows, where the constants so far are done
+  abbrev Goes : List ℕ → List ℕ → Type 0
+  Goes front ms = (us : List ℤ) → length us ≡ length all_nodes → AreDone us front → Answer (all_filled us ms)
+
+  node-answer : (m : ℕ) (ms front : List ℕ) (vs : List ℤ) (x : Node) (c : IsConstant t x) → order ≡ front ++ m ∷ ms → length vs ≡ length all_nodes → AreDone vs front → Goes (front ++ m ∷ []) ms → slice_get all_nodes m ≡ Some x
+      → (p : Option ℤ) → p ≡ outcome c.component x.value → Answer (filled_on (filled_by x vs m p) (λ us. all_filled us ms))
+  node-answer m ms front vs x c o long done more h p e = elim (bool-cases (is_faulty (constant c.component) x.value)) [
+    | inl f ↦ subst (λ (q : Option ℤ). Answer (filled_on (filled_by x vs m q) (λ us. all_filled us ms))) (sym (e ∙ ap (λ b. unless_faulty b (constant c.component x.value)) f)) (record {
+      body = x.body;
+      component = c.component;
+      own = c.own;
+      ty = c.ty;
+      name = c.name;
+      value = x.value;
+      declares = c.declares;
+      stands = refl;
+      faulty = f;
+    })
+    | inr f ↦ subst (λ (q : Option ℤ). Answer (filled_on (filled_by x vs m q) (λ us. all_filled us ms))) (sym (e ∙ ap (λ b. unless_faulty b (constant c.component x.value)) f))
+        (more (slice_set vs m (constant c.component x.value)) (set-length vs m (constant c.component x.value) ∙ long)
+        (set-done vs front ms m x.body c.component c.ty c.name x.value o long done (c.own, h ∙ ap (λ d. Some (record { body = x.body; decl = d; value = x.value })) c.is)))
+  ]
+
+  step-at : (m : ℕ) (ms front : List ℕ) (vs : List ℤ) → order ≡ front ++ m ∷ ms → length vs ≡ length all_nodes → AreDone vs front → Goes (front ++ m ∷ []) ms
+      → (q : Option Node) → slice_get all_nodes m ≡ q → Answer (filled_on (filled_at s its_numbers vs m q) (λ us. all_filled us ms))
+  step-at m ms front vs o long done more None h = more vs long (done-more vs front m done (λ k d ty n e g. absurd (none-some (record { body = k; decl = const_decl ty n e; value = e }) (sym h ∙ g.1))))
+  step-at m ms front vs o long done more (Some x) h =
+      let c = nodes-sound t (bodies t) (written_bodies t) 0 x (bodies-written t) (sits-whole (bodies t)) (at-member all_nodes m x h) in
+      let at : IsNode t s are flat m x.body c.component c.ty c.name x.value = (c.own, h ∙ ap (λ d. Some (record { body = x.body; decl = d; value = x.value })) c.is) in
+      node-answer m ms front vs x c o long done more h (node_value s its_numbers vs x)
+      (node-outcome vs m x.body c.component c.ty c.name x.value at
+      (λ l need. done l (before-front l m front ms (subst (λ (ns : List ℕ). AreDistinct ns) o is.once) (subst (λ (ns : List ℕ). Before l m ns) o (is.after m l need)))))
+
+  pub fill-is : (rest front : List ℕ) (vs : List ℤ) → order ≡ front ++ rest → length vs ≡ length all_nodes → AreDone vs front → Answer (all_filled vs rest)
+  fill-is [] front vs o long done =
+      λ m below. done m (subst (λ (ns : List ℕ). Member m ns) (o ∙ append-nil front) (is.each m (let l : length (graph t s are flat) ≡ length all_nodes = map-length (node_needs s its_numbers) all_nodes in omega (arith, below, l))))
+  fill-is (m ∷ ms) front vs o long done = step-at m ms front vs o long done (λ us l d. fill-is ms (front ++ m ∷ []) us (o ∙ sym (append_assoc front (m ∷ []) ms)) l d) (slice_get all_nodes m) refl
+
+  pub has-values : (out : List ℤ) → ((m : ℕ) → m < length all_nodes → IsDone out m) → HasValues t s its_numbers out
+  has-values out done k c own nm =
+      name-done out k c own nm (λ m i d ty n e found. done m (slice_get-below all_nodes m (record { body = found.0; decl = const_decl ty n e; value = e }) found.2.1))
+      ∙ sym (name-constant c nm)

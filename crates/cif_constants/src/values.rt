@@ -1,0 +1,84 @@
+//! The values of the constants of a source.
+
+ghost use Rattle.std.specs.Prelude.{◌≡◌, ℤ, IfOk, IfErr, MatchResult, length};
+ghost use Rattle.cif_ast.specs.View.{view};
+ghost use Rattle.cif_source.specs.Source.{Source, source_of};
+ghost use Rattle.cif_source.specs.Components.{Component};
+ghost use Rattle.cif_order.specs.Graph.{AreInside, IsOrder};
+ghost use Rattle.cif_scope.specs.Scopes.{AreScopesOf};
+ghost use Rattle.cif_scope.specs.Tables.{IsBody};
+ghost use Rattle.cif_constants.specs.Constants.{IsFlat, HasValues, ConstDue};
+ghost use Rattle.cif_constants.specs.Outcomes.{outcome};
+
+use crate::error::ConstErr;
+use crate::evaluating::evaluate;
+use crate::filling::fill;
+use crate::names::NameValues;
+use crate::nodes::{constants, needs_of};
+use crate::numbering::constant_numbers;
+use cif_ast::{Expr, Spec};
+use cif_base::{Items, Memory};
+use cif_order::{OrderErr, order};
+use cif_scope::{Scopes, number};
+use std::alloc::Global;
+
+/// The values of the constants of a source, by their numbers, and the numbers of constants: one for each name of each body.
+#[derive(Drop)]
+pub struct Constants {
+    pub(crate) numbers: Items<Items<u32>>,
+    pub(crate) values: Items<i64>,
+}
+
+/// An order of these needs. A node that needs itself has none: there is none in a source whose types and constants don't reach
+/// themselves.
+fn ordered(alloc: Global, needs: &[Items<u32>]) -> Result<Items<u32>, Memory>
+    requires { AreInside needs.now }
+    ensures { IfOk result (λ all. IsOrder needs.now all) }
+{
+    number(needs.len())?;
+    match order(alloc, needs) {
+        Ok(all) => Ok(all),
+        Err(OrderErr::Cycle { .. } | OrderErr::Memory) => Err(Memory),
+    }
+}
+
+/// The values of the constants of a source without definitions (CIF 3 language reference, "Constants").
+pub fn constant_values(alloc: Global, spec: &Spec, scopes: &Scopes) -> Result<Constants, ConstErr>
+    requires scopes { AreScopesOf (source_of spec.now) scopes.now }
+    requires flat { IsFlat (source_of spec.now) }
+    ensures values { IfOk result (λ all. HasValues (source_of spec.now) scopes.now all.numbers all.values) }
+    ensures refused { IfErr result (λ e. ConstDue (source_of spec.now) e) }
+{
+    let numbers = constant_numbers(alloc, scopes)?;
+    let all = constants(alloc, spec)?;
+    let needs = needs_of(alloc, scopes, numbers.as_slice(), all.as_slice())?;
+    let sorted = ordered(alloc, needs.as_slice())?;
+    let zeros = Items::filled(alloc, 0, needs.len())?;
+    match fill(
+        scopes,
+        numbers.as_slice(),
+        all.as_slice(),
+        sorted.as_slice(),
+        zeros,
+    ) {
+        Ok(values) => Ok(Constants { numbers, values }),
+        Err(at) => Err(ConstErr::ConstantRange { at }),
+    }
+}
+
+impl Constants {
+    /// The value of a constant expression of a body, or `None` where, every operand evaluated, some value in it leaves 64 bits or
+    /// some divisor is 0.
+    pub fn value(&self, scopes: &Scopes, body: u32, expr: &Expr) -> Option<i64>
+        ensures { (t : Source) (c : Component) → HasValues t scopes.now self.now.numbers self.now.values → IsBody t body c
+            → result ≡ outcome c (view expr.now) }
+    {
+        let names = NameValues {
+            scopes,
+            numbers: self.numbers.as_slice(),
+            values: self.values.as_slice(),
+            body,
+        };
+        evaluate(expr, &names)
+    }
+}
