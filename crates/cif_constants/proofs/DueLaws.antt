@@ -2,6 +2,7 @@
 use Rattle.std.proofs.Common.{◌≡◌, ℕ, zero, suc, ◌+◌, ◌<◌, ℤ, pos, true, List, [], ◌∷◌, ◌++◌, length, map, flat_map, refl, sym, ap, subst, ◌∙◌, arith, Option, Some, None, inl, inr, ◌⊎◌}
 use Rattle.std.specs.Prelude.{slice_get, IsTrue, Result, Ok, Err, replicate}
 use Rattle.std.specs.List.{Any}
+use Rattle.std.proofs.lemmas.Option.{slice_get-map}
 use Rattle.cif_system.specs.Words.{Member}
 use Rattle.cif_system.proofs.Lists.{some-same, none-some, slice_get-below, map-length}
 use Rattle.cif_system.proofs.Picks.{at-member, append-right, map-member, flat_map-member, map-at}
@@ -120,9 +121,7 @@ module _ (t : Source) (s : Scopes) (are : AreNumbered t s) (flat : IsFlat t) whe
 -- ---- the answers of the code
 
 node-map : (cs : List Constant) (m : ℕ) → node_in cs m ≡ slice_get (map node_of cs) m
-node-map [] m = refl
-node-map (c ∷ cs) zero = refl
-node-map (c ∷ cs) (suc m) = node-map cs m
+node-map cs m = sym (slice_get-map node_of cs m)
 
 -- what the code has: the numbers, the constants, their needs, an order of these, and values to begin with
 pub record IsReady (t : Source) (s : Scopes) (ns needs : List (List ℕ)) (cs : List Constant) (order : List ℕ) (zs : List ℤ) : Type 0 where

@@ -1,6 +1,6 @@
 //! The values of the constants of a source.
 
-ghost use Rattle.std.specs.Prelude.{◌≡◌, ℤ, IfOk, IfErr, MatchResult, length};
+ghost use Rattle.std.specs.Prelude.{◌≡◌, IfOk, IfErr};
 ghost use Rattle.cif_ast.specs.View.{view};
 ghost use Rattle.cif_source.specs.Source.{Source, source_of};
 ghost use Rattle.cif_source.specs.Components.{Component};
@@ -8,7 +8,8 @@ ghost use Rattle.cif_order.specs.Graph.{AreInside, IsOrder};
 ghost use Rattle.cif_scope.specs.Scopes.{AreScopesOf};
 ghost use Rattle.cif_scope.specs.Tables.{IsBody};
 ghost use Rattle.cif_constants.specs.Constants.{IsFlat, HasValues, ConstDue};
-ghost use Rattle.cif_constants.specs.Outcomes.{outcome};
+ghost use Rattle.cif_constants.specs.Named.{table_value};
+ghost use Rattle.cif_constants.specs.Outcomes.{evaluated, outcome};
 
 use crate::error::ConstErr;
 use crate::evaluating::evaluate;
@@ -70,7 +71,8 @@ impl Constants {
     /// The value of a constant expression of a body, or `None` where, every operand evaluated, some value in it leaves 64 bits or
     /// some divisor is 0.
     pub fn value(&self, scopes: &Scopes, body: u32, expr: &Expr) -> Option<i64>
-        ensures { (t : Source) (c : Component) → HasValues t scopes.now self.now.numbers self.now.values → IsBody t body c
+        ensures computed { result ≡ evaluated (table_value scopes.now self.now.numbers self.now.values body) (view expr.now) }
+        ensures constant { (t : Source) (c : Component) → HasValues t scopes.now self.now.numbers self.now.values → IsBody t body c
             → result ≡ outcome c (view expr.now) }
     {
         let names = NameValues {
