@@ -32,10 +32,10 @@ use Rattle.cif_constants.specs.Constants.{IsFlat, HasValues, BoundsDue}
 use Rattle.cif_constants.proofs.Firsts.{or-told, or-none}
 use Rattle.cif_constants.proofs.DueLaws.{value-is}
 
-any-member : {A : Type 0} (P : A → Type 0) (xs : List A) (x : A) → Member x xs → P x → Any P xs
+pub any-member : {A : Type 0} (P : A → Type 0) (xs : List A) (x : A) → Member x xs → P x → Any P xs
 any-member P xs x m p = let w = member-at xs x m in any-of P xs w.0 x w.1 p
 
-member-any : {A : Type 0} (P : A → Type 0) (xs : List A) → Any P xs → (x : A) × Member x xs × P x
+pub member-any : {A : Type 0} (P : A → Type 0) (xs : List A) → Any P xs → (x : A) × Member x xs × P x
 member-any P xs a = let w = of-any P xs a in (w.1, at-member xs w.0 w.1 w.2, w.3)
 
 -- ---- two bounds

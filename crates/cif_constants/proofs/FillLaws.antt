@@ -136,7 +136,7 @@ set-length [] k x = refl
 set-length (y ∷ xs) zero x = refl
 set-length (y ∷ xs) (suc k) x = ap suc (set-length xs k x)
 
-bool-cases : (b : Bool) → (b ≡ true) ⊎ (b ≡ false)
+pub bool-cases : (b : Bool) → (b ≡ true) ⊎ (b ≡ false)
 bool-cases true = inl refl
 bool-cases false = inr refl
 

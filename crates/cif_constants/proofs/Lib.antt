@@ -10,3 +10,8 @@ pub mod RankLaws
 pub mod FillLaws
 pub mod DueLaws
 pub mod BoundsLaws
+pub mod RowLaws
+pub mod TypeLaws
+pub mod WalkLaws
+pub mod TurnLaws
+pub mod RangeLaws

@@ -8,3 +8,5 @@ pub mod Collected
 pub mod Constancy
 pub mod Constants
 pub mod Bounds
+pub mod Slots
+pub mod Walked
