@@ -1,6 +1,6 @@
 -- The first constant expression or bound that breaks the rule is told, and where none is, none breaks it.
-use Rattle.std.proofs.Common.{◌≡◌, ℕ, zero, suc, ◌+◌, ℤ, Bool, true, false, not, ◌⊎◌, inl, inr, List, [], ◌∷◌, ◌++◌, map, flat_map, refl, sym, ap, subst, ◌∙◌, Option, Some, None}
-use Rattle.std.specs.Prelude.{slice_get, IsTrue, int_lt}
+use Rattle.std.proofs.Common.{◌≡◌, ℕ, ◌+◌, ℤ, Bool, true, false, ◌⊎◌, inl, inr, List, [], ◌∷◌, ◌++◌, map, flat_map, refl, sym, ap, subst, ◌∙◌, Option, Some, None}
+use Rattle.std.specs.Prelude.{IsTrue, int_lt}
 use Rattle.std.specs.List.{Any}
 use Rattle.std.specs.Option.{option_or}
 use Rattle.cif_system.specs.Words.{Member}
@@ -10,24 +10,22 @@ use Rattle.cif_system.proofs.Picks.{at-member, append-left, append-right, map-me
 use Rattle.cif_system.proofs.Distinct.{member-append, member-map, member-flat_map}
 use Rattle.cif_ast.specs.Tree.{Tree}
 use Rattle.cif_source.specs.Source.{TypeTree, bool_type, int_type, range_type, named_type, Source, tree_at}
-use Rattle.cif_source.specs.Components.{Component, body_of, params_of}
-use Rattle.cif_source.specs.Objects.{components_of, bodies, decls_in, decls_of}
+use Rattle.cif_source.specs.Components.{Component, params_of}
+use Rattle.cif_source.specs.Objects.{bodies, decls_in}
 use Rattle.cif_source.specs.Value.{constant}
 use Rattle.cif_source.specs.Types.{signed_range}
 use Rattle.cif_rules.specs.Constants.{param_types, decl_types, types_of, Bounds, bounds_in, bounds_of, bound_values, decl_constants, typed_constants, constants_of}
 use Rattle.cif_rules.specs.InstanceRules.{is_faulty, FaultyConstant, LeavesRange, LongBound, EmptyRange, ConstantRangeDue}
 use Rattle.cif_scope.specs.declared.scopes.Scopes.{Scopes}
 use Rattle.cif_scope.specs.Tables.{IsBody, Beside}
-use Rattle.cif_scope.specs.Scopes.{AreNumbered}
 use Rattle.cif_scope.specs.Written.{WrittenBody, written_bodies}
 use Rattle.cif_scope.proofs.Places.{Sits, sits-head, sits-tail, sits-whole}
 use Rattle.cif_scope.proofs.DefinitionLaws.{IsWritten, bodies-written}
 use Rattle.cif_scope.proofs.IndexLaws.{any-of, of-any}
 use Rattle.cif_cycles.proofs.Graphs.{member-at}
 use Rattle.cif_constants.specs.Collected.{types_in, values_in}
-use Rattle.cif_constants.specs.Named.{table_value}
-use Rattle.cif_constants.specs.Outcomes.{unless_faulty, evaluated, outcome}
-use Rattle.cif_constants.specs.Bounds.{fits_32, crossed, bounds_fault, type_fault, types_fault, missing_value, values_fault, body_fault, faults_from}
+use Rattle.cif_constants.specs.Outcomes.{unless_faulty, outcome}
+use Rattle.cif_constants.specs.Bounds.{fits_32, crossed, bounds_fault, types_fault, missing_value, values_fault, body_fault, faults_from}
 use Rattle.cif_constants.specs.Constants.{IsFlat, HasValues, BoundsDue}
 use Rattle.cif_constants.proofs.Firsts.{or-told, or-none}
 use Rattle.cif_constants.proofs.DueLaws.{value-is}

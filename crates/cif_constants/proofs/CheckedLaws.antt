@@ -1,5 +1,5 @@
 -- What checked operators give.
-use Rattle.std.proofs.Common.{◌≡◌, ◌<◌, ◌^◌, pos, negsuc, ℤ, refl, sym, ap, ◌∙◌, arith, Option, Some, None, Bool, true, false, ◌⊎◌, inl, inr}
+use Rattle.std.proofs.Common.{◌≡◌, ◌<◌, ◌^◌, pos, negsuc, ℤ, refl, ap, arith, Option, Some, None, Bool, true, false, ◌⊎◌, inl, inr}
 use Rattle.std.specs.Int.{w64}
 use Rattle.std.specs.Int.RustNames.{FitsSigned}
 use Rattle.std.specs.Option.{SomeIff}

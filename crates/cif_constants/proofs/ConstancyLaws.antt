@@ -1,5 +1,5 @@
 -- The first name that is no constant, by where names lead, stands where the rule on constants is broken.
-use Rattle.std.proofs.Common.{◌≡◌, ℕ, zero, suc, ◌+◌, Bool, true, false, not, inl, inr, List, [], ◌∷◌, ◌++◌, map, flat_map, length, refl, sym, ap, subst, ◌∙◌, Option, Some, None}
+use Rattle.std.proofs.Common.{◌≡◌, ℕ, zero, suc, ◌+◌, Bool, true, not, inl, inr, List, [], ◌∷◌, ◌++◌, map, flat_map, refl, sym, ap, ◌∙◌, Option, Some, None}
 use Rattle.std.specs.Prelude.{slice_get, IsTrue}
 use Rattle.std.specs.List.{Any}
 use Rattle.std.specs.Option.{option_or}
@@ -8,7 +8,7 @@ use Rattle.cif_system.proofs.Lists.{some-same, none-some}
 use Rattle.cif_ast.specs.Tree.{Tree, node, Shape, truth, number, named, received, paren, negative, positive, negation, absolute, least, greatest, sum, product, comparison, all_of, any_of, implication, equivalence, choice, Trees, no_trees, trees, Terms, no_terms, terms, Factors, no_factors, factors, Branches, no_branches, branches}
 use Rattle.cif_ast.specs.declared.names.Name.{Name}
 use Rattle.cif_source.specs.Source.{DeclTree, type_decl, enum_decl, event_decl, const_decl, alg_decl, input_decl, disc_decl, equation_decl, invariant_decl, marked_decl, TypeTree, bool_type, int_type, range_type, named_type, Source}
-use Rattle.cif_source.specs.Components.{Component, body_of, params_of, as_written, Entry, declared, literal, location, inner, definition, instance, parameter}
+use Rattle.cif_source.specs.Components.{Component, params_of, as_written, Entry, declared, literal, location, inner, definition, instance, parameter}
 use Rattle.cif_source.specs.Lookup.{Reached, reached, missing, blocked, found}
 use Rattle.cif_source.specs.Objects.{bodies, decls_in}
 use Rattle.cif_source.specs.Uses.{names_in, shape_names, term_names, factor_names, names_in_all, branch_names}
@@ -30,7 +30,7 @@ use Rattle.cif_scope.proofs.IndexLaws.{any-of, of-any}
 use Rattle.cif_scope.proofs.LookLaws.{Agrees}
 use Rattle.cif_scope.proofs.FindLaws.{what-of, found-is}
 use Rattle.cif_constants.specs.Collected.{types_in, values_in}
-use Rattle.cif_constants.specs.Constancy.{is_constant_sort, is_constant_what, is_constant_slot, is_wrong_by, is_wrong_name, unfit, shape_unfit, terms_unfit, factors_unfit, trees_unfit, branches_unfit, type_unfit, types_unfit, values_unfit, body_unfit, unfit_from}
+use Rattle.cif_constants.specs.Constancy.{is_constant_sort, is_constant_what, is_constant_slot, is_wrong_by, is_wrong_name, unfit, shape_unfit, terms_unfit, factors_unfit, trees_unfit, branches_unfit, types_unfit, values_unfit, body_unfit, unfit_from}
 use Rattle.cif_constants.proofs.Firsts.{or-three, or-told, or-none, first_place, first-both, first-one, first-told, first-none}
 
 -- ---- a name

@@ -1,24 +1,22 @@
 -- What the values of constants, or their lack, say of a source.
-use Rattle.std.proofs.Common.{◌≡◌, ℕ, zero, suc, ◌+◌, ◌<◌, ℤ, pos, true, List, [], ◌∷◌, ◌++◌, length, map, flat_map, refl, sym, ap, subst, ◌∙◌, arith, Option, Some, None, inl, inr, ◌⊎◌}
-use Rattle.std.specs.Prelude.{slice_get, IsTrue, Result, Ok, Err, replicate}
+use Rattle.std.proofs.Common.{◌≡◌, ℕ, ◌<◌, ℤ, List, [], length, map, refl, sym, ap, subst, ◌∙◌, arith, Some, inl, ◌⊎◌}
+use Rattle.std.specs.Prelude.{slice_get, IsTrue, Result, Ok, Err}
 use Rattle.std.specs.List.{Any}
 use Rattle.std.proofs.lemmas.Option.{slice_get-map}
 use Rattle.cif_system.specs.Words.{Member}
 use Rattle.cif_system.proofs.Lists.{some-same, none-some, slice_get-below, map-length}
 use Rattle.cif_system.proofs.Picks.{at-member, append-right, map-member, flat_map-member, map-at}
 use Rattle.cif_system.proofs.Distinct.{member-flat_map}
-use Rattle.cif_ast.specs.declared.names.Ident.{Ident}
-use Rattle.cif_ast.specs.declared.names.Name.{Name}
 use Rattle.cif_ast.specs.Tree.{Tree}
 use Rattle.cif_source.specs.Source.{TypeTree, DeclTree, type_decl, enum_decl, event_decl, const_decl, alg_decl, input_decl, disc_decl, equation_decl, invariant_decl, marked_decl, Source, tree_at}
-use Rattle.cif_source.specs.Components.{Component, as_written, scope_of, Entry, declared, literal, location, inner, definition, instance, parameter}
+use Rattle.cif_source.specs.Components.{Component, as_written, Entry, declared, literal, location, inner, definition, instance, parameter}
 use Rattle.cif_source.specs.Lookup.{Reached, reached, missing, blocked, found}
-use Rattle.cif_source.specs.Objects.{components_of, bodies, decls_of}
-use Rattle.cif_source.specs.Uses.{Use, decl_uses}
+use Rattle.cif_source.specs.Objects.{bodies, decls_of}
+use Rattle.cif_source.specs.Uses.{decl_uses}
 use Rattle.cif_source.specs.Value.{constant}
 use Rattle.cif_rules.specs.Constants.{bound_values, decl_constants, typed_constants, constants_of}
 use Rattle.cif_rules.specs.InstanceRules.{is_faulty, FaultyConstant, LeavesRange, LongBound, EmptyRange, ConstantRangeDue}
-use Rattle.cif_order.specs.Graph.{Needs, AreInside, IsOrder}
+use Rattle.cif_order.specs.Graph.{AreInside, IsOrder}
 use Rattle.cif_order.proofs.OrderLaws.{order-rank}
 use Rattle.cif_scope.specs.declared.looked.Looked.{Looked}
 use Rattle.cif_scope.specs.declared.looked.Looked.TheVariants.{At, Missing, Blocked}
@@ -35,15 +33,15 @@ use Rattle.cif_scope.proofs.DefinitionLaws.{bodies-written}
 use Rattle.cif_cycles.proofs.Graphs.{member-at, in-option, needs-row}
 use Rattle.cif_constants.specs.Numbers.{unit_of, numbers_of, number_at, number_if, number_found}
 use Rattle.cif_constants.specs.Named.{table_value}
-use Rattle.cif_constants.specs.Nodes.{Node, node_of, node_in, nodes_from, use_need, node_needs, filled}
+use Rattle.cif_constants.specs.Nodes.{node_of, node_in, nodes_from, use_need, node_needs, filled}
 use Rattle.cif_constants.specs.declared.nodes.Constant.{Constant}
 use Rattle.cif_constants.specs.Outcomes.{evaluated, outcome}
 use Rattle.cif_constants.specs.Constants.{IsFlat, HasValues}
 use Rattle.cif_constants.proofs.Meanings.{constant_name}
 use Rattle.cif_constants.proofs.NodeLaws.{nodes, entry_nodes, what-unit}
-use Rattle.cif_constants.proofs.ReachedLaws.{numbers, looks, agrees, IsNode, IsFoundNode, found-node}
+use Rattle.cif_constants.proofs.ReachedLaws.{numbers, looks, agrees, found-node}
 use Rattle.cif_constants.proofs.RankLaws.{graph}
-use Rattle.cif_constants.proofs.FillLaws.{IsFaultyAt, nodes-sound, Answer, IsDone, fill-is, has-values, evaluated-same, constant-evaluated, name-constant}
+use Rattle.cif_constants.proofs.FillLaws.{IsFaultyAt, nodes-sound, Answer, fill-is, has-values, evaluated-same, constant-evaluated, name-constant}
 
 -- ---- a faulty value
 

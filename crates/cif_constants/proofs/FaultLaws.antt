@@ -1,5 +1,5 @@
 -- What is computed in 64 bits is the value where nothing is faulty, and none elsewhere.
-use Rattle.std.proofs.Common.{◌≡◌, ◌<◌, ◌^◌, ◌*ℤ◌, ℤ, pos, negsuc, neg_ℤ, refl, sym, ap, ◌∙◌, arith, Bool, true, false, not, ◌&&◌, ◌||◌, Option, Some, None}
+use Rattle.std.proofs.Common.{◌≡◌, ◌*ℤ◌, ℤ, pos, negsuc, neg_ℤ, refl, sym, ap, ◌∙◌, arith, Bool, true, false, not, ◌&&◌, ◌||◌, Option, Some, None}
 use Rattle.std.specs.Prelude.{nat_abs, unwrap_or, if◌then◌else◌, int_div, int_rem, int_lt}
 use Rattle.std.specs.Int.{int_min, int_max}
 use Rattle.std.specs.Ordering.{int_eq}
@@ -11,7 +11,7 @@ use Rattle.cif_ast.specs.declared.expressions.MulOp.{MulOp}
 use Rattle.cif_ast.specs.declared.expressions.MulOp.TheVariants as mul
 use Rattle.cif_source.specs.Value.{of_bool, is_true, compared, multiplied, added, value_with, shape_value, sum_value, product_value, all_true, any_true, branch_value}
 use Rattle.cif_rules.specs.InstanceRules.{leaves_64_bits, divides_by_0, is_faulty, shape_faulty, sum_faulty, product_faulty, any_faulty, branch_faulty}
-use Rattle.cif_constants.specs.Checked.{fits_64, checked, unless_zero, multiplied_checked}
+use Rattle.cif_constants.specs.Checked.{fits_64, checked, multiplied_checked}
 use Rattle.cif_constants.specs.Computed.{with_value, or_first, computed, shape_computed, terms_computed, factors_computed, all_computed, any_computed, branches_computed}
 use Rattle.cif_constants.specs.Outcomes.{unless_faulty}
 

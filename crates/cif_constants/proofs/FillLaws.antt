@@ -1,22 +1,22 @@
 -- The values that constants get one after the other are their values.
-use Rattle.std.proofs.Common.{◌≡◌, ◌≢◌, ℕ, zero, suc, ◌+◌, ◌<◌, ◌≤◌, ℤ, pos, Bool, true, false, List, [], ◌∷◌, ◌++◌, append_assoc, length, map, refl, sym, ap, subst, ◌∙◌, arith, Option, Some, None, inl, inr, ◌⊎◌, flat_map, append-nil}
-use Rattle.std.specs.Prelude.{slice_get, slice_set, Result, Ok, Err, replicate}
+use Rattle.std.proofs.Common.{◌≡◌, ◌≢◌, ℕ, zero, suc, ◌+◌, ◌<◌, ℤ, Bool, true, false, List, [], ◌∷◌, ◌++◌, append_assoc, length, refl, sym, ap, subst, ◌∙◌, arith, Option, Some, None, inl, inr, ◌⊎◌, flat_map, append-nil}
+use Rattle.std.specs.Prelude.{slice_get, slice_set, Result, Ok, Err}
 use Rattle.cif_system.specs.Words.{Member, AreDistinct, Before}
 use Rattle.cif_system.proofs.Lists.{some-same, none-some, slice_get-below, map-length}
-use Rattle.cif_system.proofs.Picks.{at-member, append-left, append-right}
+use Rattle.cif_system.proofs.Picks.{at-member, append-right}
 use Rattle.cif_system.proofs.Distinct.{member-append, member-flat_map}
 use Rattle.cif_ast.specs.declared.names.Ident.{Ident}
 use Rattle.cif_ast.specs.declared.names.Name.{Name}
 use Rattle.cif_ast.specs.Tree.{Tree, node, named}
 use Rattle.cif_source.specs.Source.{DeclTree, type_decl, enum_decl, event_decl, const_decl, alg_decl, input_decl, disc_decl, equation_decl, invariant_decl, marked_decl, TypeTree, Source, tree_at}
-use Rattle.cif_source.specs.Components.{Component, specification_of, declared}
+use Rattle.cif_source.specs.Components.{Component, specification_of}
 use Rattle.cif_source.specs.Lookup.{found}
 use Rattle.cif_source.specs.Objects.{bodies, decls_in, decls_of, of_sort, is_const}
 use Rattle.cif_source.specs.Uses.{names_in}
-use Rattle.cif_source.specs.Value.{value_with, constant_object, constant_within, constant}
+use Rattle.cif_source.specs.Value.{constant_within, constant}
 use Rattle.cif_rules.specs.InstanceRules.{is_faulty}
 use Rattle.cif_order.specs.Graph.{Needs, IsOrder, IsRank}
-use Rattle.cif_order.proofs.Lists.{written-same, written-other, same-or-other, before-push, distinct-front}
+use Rattle.cif_order.proofs.Lists.{written-same, written-other}
 use Rattle.cif_scope.specs.declared.scopes.Scopes.{Scopes}
 use Rattle.cif_scope.specs.Tables.{IsBody, Beside}
 use Rattle.cif_scope.specs.Scopes.{AreNumbered}
@@ -24,7 +24,6 @@ use Rattle.cif_scope.specs.Written.{WrittenBody, written_bodies}
 use Rattle.cif_scope.proofs.Places.{Sits, sits-head, sits-tail, sits-whole}
 use Rattle.cif_scope.proofs.BodyLaws.{body-root}
 use Rattle.cif_scope.proofs.DefinitionLaws.{IsWritten, bodies-written}
-use Rattle.cif_constants.specs.Computed.{computed}
 use Rattle.cif_constants.specs.Outcomes.{unless_faulty, evaluated, outcome}
 use Rattle.cif_constants.specs.Named.{or_zero, value_at, table_value}
 use Rattle.cif_constants.specs.Nodes.{Node, decl_nodes, nodes_from, node_needs, node_value, filled_by, filled_at, filled_on, filled}

@@ -1,15 +1,15 @@
 -- The number at the slot of a constant is its place among the constants of the source.
 use Rattle.std.proofs.Common.{◌≡◌, ℕ, zero, suc, ◌+◌, ◌-◌, ◌<◌, ◌≤◌, List, [], ◌∷◌, ◌++◌, append_assoc, map, length, drop, length-append, add-one, inl, inr, refl, sym, ap, subst, ◌∙◌, arith, Option, Some, None}
-use Rattle.std.specs.Prelude.{slice_get, flat_map, filter_map, filter, option_map}
+use Rattle.std.specs.Prelude.{slice_get, flat_map, filter_map, option_map}
 use Rattle.std.specs.List.{enumerate_from, cons_option}
 use Rattle.std.proofs.lemmas.Grind.{flat_map-append}
 use Rattle.cif_system.proofs.Lists.{some-same, none-some, slice_get-below}
 use Rattle.cif_order.proofs.Lists.{same-or-other}
 use Rattle.cif_ast.specs.declared.names.Ident.{Ident}
 use Rattle.cif_ast.specs.Tree.{Tree}
-use Rattle.cif_source.specs.Source.{DeclTree, type_decl, enum_decl, event_decl, const_decl, alg_decl, input_decl, disc_decl, equation_decl, invariant_decl, marked_decl, TypeTree, ParamTree, LocationTree, SourceItem, decl_item, component_item, definition_item, instance_item, SourceBody, group_body, automaton_body, Source, no_source, source, list_of_items}
-use Rattle.cif_source.specs.Components.{Component, body_of, params_of, scope_of, Entry, Entries, declared, literal, location, inner, definition, instance, parameter, literal_entries, decl_entries, location_entry, item_entries, body_entries, param_name, param_entries}
-use Rattle.cif_source.specs.Objects.{bodies, decls_in, item_decls}
+use Rattle.cif_source.specs.Source.{DeclTree, type_decl, enum_decl, event_decl, const_decl, alg_decl, input_decl, disc_decl, equation_decl, invariant_decl, marked_decl, TypeTree, ParamTree, LocationTree, decl_item, component_item, definition_item, instance_item, SourceBody, group_body, automaton_body, Source, no_source, source, list_of_items}
+use Rattle.cif_source.specs.Components.{Component, body_of, params_of, scope_of, Entry, Entries, declared, literal, location, inner, definition, instance, parameter, decl_entries, location_entry, item_entries, body_entries, param_name}
+use Rattle.cif_source.specs.Objects.{bodies, decls_in}
 use Rattle.cif_scope.specs.declared.scope.ScopeName.{ScopeName}
 use Rattle.cif_scope.specs.declared.scope.Sort.{Sort}
 use Rattle.cif_scope.specs.declared.scope.What.{What}
@@ -18,7 +18,7 @@ use Rattle.cif_scope.specs.Tables.{IsBody, Beside, IsSort, IsName, IsWhat, IsSco
 use Rattle.cif_scope.specs.Looks.{names_in, names_at, what_at}
 use Rattle.cif_scope.specs.Scopes.{AreNumbered}
 use Rattle.cif_scope.specs.Written.{WrittenBody, written_bodies}
-use Rattle.cif_scope.proofs.Places.{beside-at, beside-length, drop-item}
+use Rattle.cif_scope.proofs.Places.{beside-at, beside-length}
 use Rattle.cif_scope.proofs.BodyLaws.{row-of}
 use Rattle.cif_scope.proofs.DefinitionLaws.{IsWritten, bodies-written}
 use Rattle.cif_cycles.proofs.NumberLaws.{get-front, get-rest, length-push, get-pushed, below-other}

@@ -1,6 +1,6 @@
 -- The first value that leaves its declared range is told, and where there is none, no constant breaks the rule.
-use Rattle.std.proofs.Common.{◌≡◌, ℕ, zero, suc, ◌+◌, ℤ, pos, Bool, true, false, ◌⊎◌, inl, inr, List, [], ◌∷◌, ◌++◌, map, flat_map, length, length-append, add-one, refl, sym, ap, subst, ◌∙◌, Option, Some, None}
-use Rattle.std.specs.Prelude.{slice_get, IsTrue, if◌then◌else◌}
+use Rattle.std.proofs.Common.{◌≡◌, ℕ, suc, ◌+◌, ℤ, Bool, true, false, ◌⊎◌, inl, inr, List, [], ◌∷◌, map, flat_map, length, length-append, add-one, refl, sym, ap, subst, ◌∙◌, Option, Some, None}
+use Rattle.std.specs.Prelude.{IsTrue, if◌then◌else◌}
 use Rattle.std.specs.List.{Any}
 use Rattle.std.specs.Option.{option_or}
 use Rattle.cif_system.specs.Words.{Member}
@@ -10,21 +10,18 @@ use Rattle.cif_system.proofs.Picks.{at-member, append-left, append-right, map-me
 use Rattle.cif_system.proofs.Distinct.{member-flat_map}
 use Rattle.cif_ast.specs.Tree.{Tree}
 use Rattle.cif_source.specs.Source.{TypeTree, bool_type, int_type, range_type, named_type, DeclTree, type_decl, enum_decl, event_decl, const_decl, alg_decl, input_decl, disc_decl, equation_decl, invariant_decl, marked_decl, Source, tree_at}
-use Rattle.cif_source.specs.Components.{Component, body_of, params_of}
-use Rattle.cif_source.specs.Objects.{components_of, bodies, decls_in, decls_of, Declared, declarations}
+use Rattle.cif_source.specs.Components.{Component, params_of}
+use Rattle.cif_source.specs.Objects.{bodies, decls_in, decls_of, Declared, declarations}
 use Rattle.cif_source.specs.Value.{constant}
 use Rattle.cif_source.specs.Types.{range_of}
 use Rattle.cif_rules.specs.Constants.{param_types, decl_types, types_of, Bounds, bounds_in, bounds_of, bound_values, decl_constants, typed_constants, constants_of}
 use Rattle.cif_rules.specs.InstanceRules.{is_faulty, FaultyConstant, LeavesRange, LongBound, EmptyRange, ConstantRangeDue}
 use Rattle.cif_scope.specs.declared.scopes.Scopes.{Scopes}
 use Rattle.cif_scope.specs.Tables.{IsBody, Beside}
-use Rattle.cif_scope.specs.Scopes.{AreNumbered, AreScopesOf}
+use Rattle.cif_scope.specs.Scopes.{AreNumbered}
 use Rattle.cif_scope.specs.Written.{WrittenBody, written_bodies}
 use Rattle.cif_scope.proofs.Places.{Sits, sits-head, sits-tail, sits-whole}
 use Rattle.cif_scope.proofs.DefinitionLaws.{IsWritten, bodies-written}
-use Rattle.cif_scope.proofs.IndexLaws.{any-of, of-any}
-use Rattle.cif_cycles.proofs.Graphs.{member-at}
-use Rattle.cif_constants.specs.Collected.{values_in}
 use Rattle.cif_constants.specs.Named.{table_value}
 use Rattle.cif_constants.specs.Outcomes.{unless_faulty, evaluated, outcome}
 use Rattle.cif_constants.specs.Constants.{IsFlat, HasValues, BoundsDue}
@@ -32,7 +29,6 @@ use Rattle.cif_constants.proofs.BoundsLaws.{any-member, member-any}
 use Rattle.cif_constants.proofs.FillLaws.{bool-cases}
 use Rattle.cif_constants.proofs.Firsts.{or-told, or-none}
 use Rattle.cif_constants.proofs.DueLaws.{value-is}
-use Rattle.cif_constants.specs.Slots.{Slot}
 use Rattle.cif_constants.specs.Walked.{walked, leaves, values_fault, body_fault, faults_from, declaration_count}
 use Rattle.cif_constants.proofs.RowLaws.{all_rows}
 use Rattle.cif_constants.proofs.WalkLaws.{IsSound, range-is}

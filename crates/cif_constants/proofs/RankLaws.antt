@@ -1,38 +1,33 @@
 -- The value of a constant rests on those of lower rank, so more unfoldings than its rank change nothing.
-use Rattle.std.proofs.Common.{◌≡◌, Bool, false, cond, ℕ, zero, suc, ◌+◌, ◌<◌, ◌≤◌, ℤ, pos, true, List, [], ◌∷◌, ◌++◌, length, map, filter, flat_map, refl, sym, ap, subst, ◌∙◌, arith, Option, Some, None, inl, inr, length-append}
-use Rattle.std.specs.Prelude.{slice_get}
-use Rattle.std.proofs.lemmas.List.{map-append}
+use Rattle.std.proofs.Common.{◌≡◌, Bool, false, cond, ℕ, zero, suc, ◌+◌, ◌<◌, ◌≤◌, ℤ, pos, true, List, [], ◌∷◌, ◌++◌, length, map, filter, flat_map, refl, sym, ap, ◌∙◌, arith, Some, length-append}
 use Rattle.cif_system.specs.Words.{Member}
-use Rattle.cif_system.proofs.Lists.{some-same, none-some, slice_get-below, map-length}
-use Rattle.cif_system.proofs.Picks.{at-member, append-right, map-member, flat_map-member}
+use Rattle.cif_system.proofs.Picks.{append-right, map-member, flat_map-member}
 use Rattle.cif_ast.specs.declared.names.Ident.{Ident}
 use Rattle.cif_ast.specs.declared.names.Name.{Name}
 use Rattle.cif_ast.specs.Tree.{Tree}
 use Rattle.cif_source.specs.Source.{DeclTree, type_decl, enum_decl, event_decl, const_decl, alg_decl, input_decl, disc_decl, equation_decl, invariant_decl, marked_decl, TypeTree, Source}
-use Rattle.cif_source.specs.Components.{Component, specification_of, body_of, scope_of, Entry, declared, literal, location, inner, definition, instance, parameter}
+use Rattle.cif_source.specs.Components.{Component, declared, literal, location, inner, definition, instance, parameter}
 use Rattle.cif_source.specs.Lookup.{Reached, reached, missing, blocked, found, follow, ended}
-use Rattle.cif_source.specs.Objects.{bodies, components_of, decls_in, decls_of, Declared, declarations, of_sort, is_const}
+use Rattle.cif_source.specs.Objects.{bodies, decls_in, decls_of, Declared, of_sort, is_const}
 use Rattle.cif_source.specs.Uses.{Use, value_asked, names_in, type_uses, value_uses, decl_uses}
 use Rattle.cif_source.specs.Value.{value_with, constant_object, constant_within}
 use Rattle.cif_order.specs.Graph.{Needs, IsRank}
 use Rattle.cif_scope.specs.declared.looked.Looked.{Looked}
 use Rattle.cif_scope.specs.declared.looked.Looked.TheVariants.{At, Missing, Blocked}
 use Rattle.cif_scope.specs.declared.scopes.Scopes.{Scopes}
-use Rattle.cif_scope.specs.Tables.{IsBody, Beside}
+use Rattle.cif_scope.specs.Tables.{Beside}
 use Rattle.cif_scope.specs.Scopes.{AreNumbered}
 use Rattle.cif_scope.specs.Written.{WrittenBody, written_bodies}
-use Rattle.cif_scope.proofs.BodyLaws.{body-root}
 use Rattle.cif_scope.proofs.LookLaws.{Agrees, get-map}
 use Rattle.cif_scope.proofs.DefinitionLaws.{IsWritten, bodies-written}
 use Rattle.cif_cycles.proofs.Graphs.{option-in, row-needs}
 use Rattle.cif_constants.specs.Numbers.{number_at, number_found}
-use Rattle.cif_constants.specs.Named.{value_at, looked_value, table_value}
 use Rattle.cif_constants.specs.Nodes.{Node, decl_nodes, nodes_from, use_need, node_needs}
 use Rattle.cif_constants.specs.Constants.{IsFlat}
 use Rattle.cif_constants.proofs.Meanings.{defined_within, name_within}
 use Rattle.cif_constants.proofs.Congruence.{same-value}
-use Rattle.cif_constants.proofs.NodeLaws.{nodes, node-of}
-use Rattle.cif_constants.proofs.ReachedLaws.{numbers, looks, agrees, own-body, followed, IsNode, IsFoundNode, found-node, found-value, constant_argument}
+use Rattle.cif_constants.proofs.NodeLaws.{nodes}
+use Rattle.cif_constants.proofs.ReachedLaws.{numbers, looks, agrees, followed, IsNode, IsFoundNode, found-node, constant_argument}
 
 pub within-value : (n : ℕ) (c : Component) (e : Tree) → constant_within n c e ≡ value_with (name_within n c) (pos 0) e
 within-value zero c e = refl

@@ -1,18 +1,15 @@
 -- What a name finds in a source without definitions, and its value.
-use Rattle.std.proofs.Common.{◌≡◌, ℕ, zero, suc, ◌+◌, ◌<◌, ◌≤◌, ℤ, pos, true, false, List, [], ◌∷◌, ◌++◌, length, map, refl, sym, ap, subst, ◌∙◌, arith, Option, Some, None}
-use Rattle.std.specs.Prelude.{slice_get, flat_map}
-use Rattle.std.specs.List.{list_all}
-use Rattle.cif_system.specs.Words.{Member}
-use Rattle.cif_system.proofs.Lists.{some-same, none-some, false-true, slice_get-below}
-use Rattle.cif_system.proofs.Picks.{all-at, at-member, append-right, map-member, flat_map-member}
-use Rattle.cif_system.proofs.Distinct.{member-append, member-flat_map}
+use Rattle.std.proofs.Common.{◌≡◌, ℕ, ℤ, pos, true, false, List, refl, ap, ◌∙◌, Some}
+use Rattle.std.specs.Prelude.{slice_get}
+use Rattle.cif_system.proofs.Lists.{false-true}
+use Rattle.cif_system.proofs.Picks.{all-at}
 use Rattle.cif_ast.specs.declared.names.Ident.{Ident}
 use Rattle.cif_ast.specs.declared.names.Name.{Name}
 use Rattle.cif_ast.specs.Tree.{Tree}
 use Rattle.cif_source.specs.Source.{DeclTree, type_decl, enum_decl, event_decl, const_decl, alg_decl, input_decl, disc_decl, equation_decl, invariant_decl, marked_decl, TypeTree, Source}
-use Rattle.cif_source.specs.Components.{Component, whole, part, blank, copy, body_of, as_written, scope_of, Entry, declared, literal, location, inner, definition, instance, parameter}
+use Rattle.cif_source.specs.Components.{Component, whole, part, blank, copy, as_written, declared, literal, location, inner, definition, instance, parameter}
 use Rattle.cif_source.specs.Lookup.{ScopeEntry, Reached, reached, missing, blocked, found, follow, ended, stands_for_argument}
-use Rattle.cif_source.specs.Objects.{bodies, decls_in, decls_of}
+use Rattle.cif_source.specs.Objects.{bodies}
 use Rattle.cif_source.specs.Value.{value_with, constant_object}
 use Rattle.cif_source.proofs.NameLaws.{met, met_at-place, follow-met}
 use Rattle.cif_scope.specs.declared.scope.What.{What}
@@ -21,15 +18,13 @@ use Rattle.cif_scope.specs.declared.scope.Sort.TheVariants as sort
 use Rattle.cif_scope.specs.declared.looked.Looked.{Looked}
 use Rattle.cif_scope.specs.declared.looked.Looked.TheVariants.{At, Missing, Blocked}
 use Rattle.cif_scope.specs.declared.scopes.Scopes.{Scopes}
-use Rattle.cif_scope.specs.Tables.{IsBody, IsWhat, IsSort}
+use Rattle.cif_scope.specs.Tables.{IsBody, IsWhat}
 use Rattle.cif_scope.specs.Looks.{what_at, look}
 use Rattle.cif_scope.specs.Scopes.{AreNumbered, IsEntry}
-use Rattle.cif_scope.proofs.BodyLaws.{scope-written}
 use Rattle.cif_scope.proofs.LookLaws.{Agrees}
 use Rattle.cif_scope.proofs.FindLaws.{what-of, found-is}
 use Rattle.cif_constants.specs.Numbers.{sort_unit, unit_of, numbers_of, number_at, number_if, number_found}
-use Rattle.cif_constants.specs.Named.{value_at, value_if, what_value, looked_value, table_value}
-use Rattle.cif_constants.specs.Nodes.{Node}
+use Rattle.cif_constants.specs.Named.{value_at, value_if, what_value, looked_value}
 use Rattle.cif_constants.specs.Constants.{is_plain, IsFlat}
 use Rattle.cif_constants.proofs.NodeLaws.{nodes, node-of}
 

@@ -1,24 +1,20 @@
 -- The declarations at the names of a body are those that its scope declares.
-use Rattle.std.proofs.Common.{◌≡◌, ℕ, zero, suc, ◌+◌, List, [], ◌∷◌, ◌++◌, map, flat_map, length, replicate, refl, sym, ap, subst, ◌∙◌, Option, Some, None, inl, inr}
+use Rattle.std.proofs.Common.{◌≡◌, ℕ, ◌+◌, List, [], ◌∷◌, ◌++◌, map, flat_map, length, refl, sym, ap, ◌∙◌, Option, Some, None}
 use Rattle.std.specs.Prelude.{slice_get, filter_map, option_map}
 use Rattle.std.specs.Borrow.{Bor}
 use Rattle.std.specs.List.{enumerate_from, cons_option}
 use Rattle.std.proofs.lemmas.List.{map-append}
 use Rattle.std.proofs.lemmas.Option.{slice_get-map}
-use Rattle.cif_system.specs.Words.{Member}
-use Rattle.cif_system.proofs.Lists.{some-same, none-some}
-use Rattle.cif_system.proofs.Picks.{at-member}
-use Rattle.cif_system.proofs.Distinct.{member-append, member-flat_map}
 use Rattle.cif_ast.specs.declared.names.Ident.{Ident}
 use Rattle.cif_ast.specs.declared.declarations.Decl.{Decl}
 use Rattle.cif_source.specs.Source.{DeclTree, type_decl, enum_decl, event_decl, const_decl, alg_decl, input_decl, disc_decl, equation_decl, invariant_decl, marked_decl, ParamTree, LocationTree, SourceItem, decl_item, component_item, definition_item, instance_item, SourceBody, group_body, automaton_body, Source, no_source, source, list_of_items}
-use Rattle.cif_source.specs.Components.{Component, body_of, params_of, scope_of, Entry, Entries, declared, literal, location, inner, definition, instance, parameter, literal_entries, decl_entries, location_entry, item_entries, body_entries, param_name, param_entries}
-use Rattle.cif_source.specs.Objects.{bodies, decls_in, decls_of}
-use Rattle.cif_scope.specs.Tables.{IsBody, Beside}
+use Rattle.cif_source.specs.Components.{Component, params_of, scope_of, Entry, Entries, declared, literal, location, inner, definition, instance, parameter, decl_entries, location_entry, item_entries, body_entries, param_name, param_entries}
+use Rattle.cif_source.specs.Objects.{bodies}
+use Rattle.cif_scope.specs.Tables.{IsBody}
 use Rattle.cif_scope.specs.Written.{WrittenBody, written_bodies}
 use Rattle.cif_scope.proofs.Places.{beside-at}
 use Rattle.cif_scope.proofs.DefinitionLaws.{IsWritten, bodies-written}
-use Rattle.cif_constants.specs.Slots.{Slot, nones, decl_slots, location_slots, item_slots, slots_in, slots_under, written_slots, slot_of, row_of, decl_in, decl_at}
+use Rattle.cif_constants.specs.Slots.{Slot, nones, decl_slots, location_slots, item_slots, slots_in, slots_under, written_slots, row_of, decl_in, decl_at}
 
 pub get_row : (rows : List (List (Option (Bor Decl)))) (k j : ℕ) → decl_at (map row_of rows) k j ≡ decl_in (option_map row_of (slice_get rows k)) j
 get_row rows k j = ap (λ o. decl_in o j) (slice_get-map row_of rows k)

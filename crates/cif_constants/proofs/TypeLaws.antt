@@ -1,13 +1,13 @@
 -- The types that declarations of a body write are among the types of the body.
-use Rattle.std.proofs.Common.{◌≡◌, ℕ, zero, suc, ◌+◌, List, [], ◌∷◌, ◌++◌, map, flat_map, refl, sym, ap, subst, ◌∙◌, Option, Some, None, inl, inr}
+use Rattle.std.proofs.Common.{◌≡◌, ℕ, ◌+◌, List, [], ◌∷◌, ◌++◌, map, flat_map, refl, ap, subst, ◌∙◌, Option, Some, None, inl}
 use Rattle.std.specs.Prelude.{slice_get, filter_map, option_map}
 use Rattle.std.specs.List.{enumerate_from, cons_option}
 use Rattle.std.proofs.lemmas.Grind.{flat_map-append}
 use Rattle.cif_system.specs.Words.{Member}
 use Rattle.cif_system.proofs.Picks.{at-member, append-right, flat_map-member}
 use Rattle.cif_ast.specs.declared.names.Ident.{Ident}
-use Rattle.cif_source.specs.Source.{TypeTree, DeclTree, type_decl, enum_decl, event_decl, const_decl, alg_decl, input_decl, disc_decl, equation_decl, invariant_decl, marked_decl, ParamTree, LocationTree, SourceItem, decl_item, component_item, definition_item, instance_item, SourceBody, group_body, automaton_body, Source, no_source, source, list_of_items}
-use Rattle.cif_source.specs.Components.{Component, body_of, params_of, scope_of, Entry, Entries, declared, literal, location, inner, definition, instance, parameter, decl_entries, location_entry, item_entries, body_entries, param_name, param_entries}
+use Rattle.cif_source.specs.Source.{TypeTree, DeclTree, type_decl, enum_decl, event_decl, const_decl, alg_decl, input_decl, disc_decl, equation_decl, invariant_decl, marked_decl, ParamTree, LocationTree, decl_item, component_item, definition_item, instance_item, SourceBody, group_body, automaton_body, Source, no_source, source, list_of_items}
+use Rattle.cif_source.specs.Components.{Component, body_of, params_of, scope_of, Entry, Entries, declared, literal, location, inner, definition, instance, parameter, decl_entries, location_entry, item_entries, body_entries, param_name}
 use Rattle.cif_source.specs.Objects.{decls_in, decls_of}
 use Rattle.cif_rules.specs.Constants.{param_types, decl_types, types_of}
 

@@ -1,34 +1,29 @@
 -- What is found through names of types is the range of the type.
-use Rattle.std.proofs.Common.{◌≡◌, ℕ, zero, suc, ◌+◌, ℤ, pos, Bool, true, false, List, [], ◌∷◌, ◌++◌, map, flat_map, length, refl, sym, ap, subst, ◌∙◌, Option, Some, None, inl, inr}
-use Rattle.std.specs.Prelude.{slice_get, unwrap_or}
+use Rattle.std.proofs.Common.{◌≡◌, ℕ, zero, suc, ℤ, pos, Bool, true, false, List, length, refl, sym, ap, ◌∙◌}
+use Rattle.std.specs.Prelude.{unwrap_or}
 use Rattle.cif_system.specs.Words.{Member}
 use Rattle.cif_system.specs.System.{Range}
-use Rattle.cif_ast.specs.declared.names.Ident.{Ident}
-use Rattle.cif_ast.specs.declared.names.Name.{Name}
 use Rattle.cif_ast.specs.Tree.{Tree}
-use Rattle.cif_source.specs.Source.{TypeTree, bool_type, int_type, range_type, named_type, DeclTree, type_decl, enum_decl, event_decl, const_decl, alg_decl, input_decl, disc_decl, equation_decl, invariant_decl, marked_decl, Source}
-use Rattle.cif_source.specs.Components.{Component, as_written, specification_of, scope_of, Entry, declared, literal, location, inner, definition, instance, parameter}
+use Rattle.cif_source.specs.Source.{TypeTree, bool_type, int_type, range_type, named_type, type_decl, enum_decl, event_decl, const_decl, alg_decl, input_decl, disc_decl, equation_decl, invariant_decl, marked_decl, Source}
+use Rattle.cif_source.specs.Components.{Component, declared, literal, location, inner, definition, instance, parameter}
 use Rattle.cif_source.specs.Lookup.{Reached, reached, missing, blocked, found}
-use Rattle.cif_source.specs.Objects.{bodies, declarations}
+use Rattle.cif_source.specs.Objects.{declarations}
 use Rattle.cif_source.specs.Value.{constant}
-use Rattle.cif_source.specs.Types.{from_to, signed_range, range_at, range_by, range_within, range_of}
+use Rattle.cif_source.specs.Types.{from_to, range_at, range_by, range_within, range_of}
 use Rattle.cif_rules.specs.Constants.{types_of}
 use Rattle.cif_rules.specs.InstanceRules.{is_faulty}
 use Rattle.cif_scope.specs.declared.looked.Looked.{Looked}
 use Rattle.cif_scope.specs.declared.looked.Looked.TheVariants.{At, Missing, Blocked}
 use Rattle.cif_scope.specs.declared.scopes.Scopes.{Scopes}
-use Rattle.cif_scope.specs.Looks.{look}
 use Rattle.cif_scope.specs.Tables.{IsBody}
-use Rattle.cif_scope.specs.Scopes.{AreNumbered, IsEntry}
+use Rattle.cif_scope.specs.Scopes.{AreNumbered}
 use Rattle.cif_scope.proofs.BodyLaws.{body-root}
 use Rattle.cif_scope.proofs.LookLaws.{Agrees}
-use Rattle.cif_constants.specs.Named.{table_value}
-use Rattle.cif_constants.specs.Outcomes.{unless_faulty, evaluated, outcome}
+use Rattle.cif_constants.specs.Outcomes.{unless_faulty}
 use Rattle.cif_constants.specs.Constants.{IsFlat, HasValues}
 use Rattle.cif_constants.proofs.ReachedLaws.{agrees, own-body, looks}
 use Rattle.cif_constants.proofs.DueLaws.{value-is}
-use Rattle.cif_constants.specs.Slots.{Slot, decl_at}
-use Rattle.cif_constants.specs.Walked.{StepTree, known, further, bound, decl_step, found_step, type_step, on_step, walked}
+use Rattle.cif_constants.specs.Walked.{bound, decl_step, found_step, type_step, on_step, walked}
 use Rattle.cif_constants.proofs.RowLaws.{all_rows, slot-is}
 use Rattle.cif_constants.proofs.TypeLaws.{type-inside}
 
@@ -54,9 +49,6 @@ module _ (t : Source) (s : Scopes) (ns : List (List ℕ)) (vs : List ℤ) (are :
   -- what the rest of the way gives, is the rest of the range
   abbrev Agree : (ℕ → TypeTree → Range) → (Component → TypeTree → Range) → Type 0
   Agree go more = (k : ℕ) (c : Component) → IsBody t k c → (ty : TypeTree) → IsSound c ty → go k ty ≡ more c ty
-
-  other : (go : ℕ → TypeTree → Range) (k j : ℕ) (d : Component) (n : Ident) (e : Entry) → IsBody t k d → slice_get (scope_of d) j ≡ Some (n, e) → (o : Slot) → decl_at (all_rows t) k j ≡ o → (r : Range) → on_step go (decl_step k o) ≡ r → on_step go (found_step (all_rows t) (At k j)) ≡ r
-  other go k j d n e own at o h r g = ap (λ x. on_step go (decl_step k x)) h ∙ g
 
   found-range : (go : ℕ → TypeTree → Range) (more : Component → TypeTree → Range) → Agree go more → (r : Reached) (l : Looked) → Agrees t r l → on_step go (found_step (all_rows t) l) ≡ range_at more r
   found-range go more same (reached (d, declared (type_decl n ty))) (At k j) h =

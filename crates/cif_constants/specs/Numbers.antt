@@ -1,5 +1,5 @@
 -- The constants of a source, numbered through all bodies, by what the names of scopes are.
-use Rattle.std.specs.Prelude.{ℕ, zero, suc, ◌+◌, true, false, Bool, List, [], ◌∷◌, ◌++◌, length, Option, Some, None, slice_get, if◌then◌else◌}
+use Rattle.std.specs.Prelude.{ℕ, zero, suc, ◌+◌, List, [], ◌∷◌, ◌++◌, length, Option, Some, None, slice_get}
 use Rattle.cif_scope.specs.declared.scope.Sort.{Sort}
 use Rattle.cif_scope.specs.declared.scope.Sort.TheVariants as sort
 use Rattle.cif_scope.specs.declared.scope.What.{What}

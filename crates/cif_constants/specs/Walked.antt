@@ -1,10 +1,9 @@
 -- The range of a type through names of types, by where they lead, and the first value that leaves its declared range.
-use Rattle.std.specs.Prelude.{ℕ, zero, suc, ◌+◌, ◌-ℤ◌, ℤ, pos, true, List, [], ◌∷◌, map, length, Option, None, Some, unwrap_or, if◌then◌else◌}
+use Rattle.std.specs.Prelude.{ℕ, zero, suc, ◌+◌, ◌-ℤ◌, ℤ, pos, true, List, [], ◌∷◌, length, Option, None, Some, unwrap_or, if◌then◌else◌}
 use Rattle.std.specs.Option.{option_or}
 use Rattle.cif_ast.specs.Tree.{Tree}
-use Rattle.cif_ast.specs.declared.names.Name.{Name}
 use Rattle.cif_system.specs.System.{Range, in_range}
-use Rattle.cif_source.specs.Source.{TypeTree, bool_type, int_type, range_type, named_type, type_tree, DeclTree, type_decl, enum_decl, event_decl, const_decl, alg_decl, input_decl, disc_decl, equation_decl, invariant_decl, marked_decl, tree_at}
+use Rattle.cif_source.specs.Source.{TypeTree, bool_type, int_type, range_type, named_type, type_tree, type_decl, enum_decl, event_decl, const_decl, alg_decl, input_decl, disc_decl, equation_decl, invariant_decl, marked_decl, tree_at}
 use Rattle.cif_source.specs.Types.{from_to, signed_range}
 use Rattle.cif_source.specs.Objects.{decls_in}
 use Rattle.cif_scope.specs.declared.looked.Looked.{Looked}

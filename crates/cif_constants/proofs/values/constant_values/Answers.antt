@@ -1,9 +1,9 @@
-use Rattle.std.proofs.Common.{◌≡◌, ◌∙◌, sym, ap, refl, length, map, List, ℕ}
+use Rattle.std.proofs.Common.{◌∙◌, sym, ap, refl, length, map}
 use Rattle.std.specs.Prelude.{Ok, Err}
 use Rattle.std.proofs.lemmas.List.{length-replicate}
 use Rattle.cif_source.specs.Source.{source_of}
 use Rattle.cif_constants.specs.Nodes.{node_of, node_needs, node_in, filled}
-use Rattle.cif_constants.proofs.DueLaws.{IsReady, inside-is, values-are, refused-at}
+use Rattle.cif_constants.proofs.DueLaws.{inside-is, values-are, refused-at}
 use Rattle.cif_constants.proofs.values.constant_values.Goals as goal
 
 pub ordered-requires : goal.ordered-requires
