@@ -1,5 +1,6 @@
 -- Where a tally says that a name is defined once everywhere, no number of its definitions is another.
 use Rattle.std.proofs.Common.{◌≡◌, ℕ, zero, suc, ◌+◌, ◌<◌, Bool, true, false, cond, ◌⊎◌, inl, inr, List, [], ◌∷◌, length, refl, sym, ap, subst, ◌∙◌, Option, Some, None, arith}
+use Rattle.std.specs.Option.{option_or}
 use Rattle.std.specs.Prelude.{nat_eq, filter_map}
 use Rattle.std.proofs.lemmas.Bool.Decides.{nat_tests}
 use Rattle.std.specs.List.{cons_option}
@@ -9,7 +10,7 @@ use Rattle.cif_source.specs.Components.{same_text}
 use Rattle.cif_source.specs.Value.{equation_for}
 use Rattle.cif_equations.specs.declared.tallies.Tally.{Tally}
 use Rattle.cif_equations.specs.Tallies.{follows}
-use Rattle.cif_equations.specs.Counts.{unless_one, or_later, equation_count, first_other, is_at, is_single, other_count}
+use Rattle.cif_equations.specs.Counts.{unless_one, equation_count, first_other, is_at, is_single, other_count}
 use Rattle.cif_equations.proofs.TallyLaws.{placed_in, placed_from}
 
 -- so many equations more at location k
@@ -76,7 +77,7 @@ module _ (y : Text) where
           absurd (never ls (k + 1) m (sym (from-step l ls k (suc n) (Some j) c ∙ ap (placed_from y (k + 1) ls) none) ∙ e))
 
   further : (own : ℕ) (l : LocationTree) (ls : List LocationTree) (n : ℕ) → equation_count y l.equations ≡ n → unless_one (own + n) ≡ None → first_other own y ls ≡ None → first_other own y (l ∷ ls) ≡ None
-  further own l ls n c h g = ap (λ m. or_later (unless_one (own + m)) (first_other own y ls)) c ∙ ap (λ o. or_later o (first_other own y ls)) h ∙ g
+  further own l ls n c h g = ap (λ m. option_or (unless_one (own + m)) (first_other own y ls)) c ∙ ap (λ o. option_or o (first_other own y ls)) h ∙ g
 
   -- each location has one
   each : (ls : List LocationTree) (k m : ℕ) → placed_from y k ls (Some k) ≡ Some m → m ≡ k + length ls → first_other 0 y ls ≡ None

@@ -1,29 +1,29 @@
 -- Elements of lists, and the first that tells something.
-use Rattle.std.proofs.Common.{◌≡◌, ℕ, zero, suc, ◌<◌, ◌⊎◌, inl, inr, List, [], ◌∷◌, length, refl, sym, ap, ◌∙◌, Option, Some, None, arith}
-use Rattle.std.specs.Prelude.{slice_index_or, filter_map}
+use Rattle.std.proofs.Common.{◌≡◌, ℕ, suc, ◌⊎◌, inl, inr, List, [], ◌∷◌, refl, sym, ap, ◌∙◌, subst, Option, Some, None, arith}
+use Rattle.std.specs.Prelude.{slice_get, filter_map}
+use Rattle.std.specs.Option.{option_or}
 use Rattle.std.specs.List.{Any, Contains, cons_option}
 use Rattle.cif_system.specs.Words.{Member}
 use Rattle.cif_system.proofs.Lists.{some-same, none-some}
-use Rattle.cif_equations.specs.Counts.{or_later, first_some}
+use Rattle.cif_system.proofs.Picks.{at-member}
+use Rattle.cif_scope.proofs.IndexLaws.{any-of, of-any}
+use Rattle.cif_equations.specs.Counts.{first_some}
 
-at : {A : Type 0} (xs : List A) (k : ℕ) (x : A) → k < length xs → slice_index_or xs k x ≡ x → Member x xs
-at [] k x lt is = absurd (omega (arith, lt))
-at (y ∷ ys) zero x lt is = inl (sym is)
-at (y ∷ ys) (suc k) x lt is = inr (at ys k x (omega (arith, lt)) is)
+member-at : {A : Type 0} (x : A) (xs : List A) → Member x xs → (k : ℕ) × (slice_get xs k ≡ Some x)
+member-at x [] m = absurd m
+member-at x (y ∷ xs) m = elim m [
+  | inl w ↦ (0, ap Some (sym w))
+  | inr w ↦ let rest = member-at x xs w in (suc rest.0, rest.1)
+]
 
 pub from-any : {A : Type 0} (P : A → Type 0) (xs : List A) → Any P xs → (x : A) × Member x xs × P x
-from-any P xs a = (a.1, at xs a.0 a.1 a.2 a.3, a.4)
+from-any P xs h = let w = of-any P xs h in (w.1, at-member xs w.0 w.1 w.2, w.3)
 
 pub to-any : {A : Type 0} (P : A → Type 0) (x : A) (xs : List A) → Member x xs → P x → Any P xs
-to-any P x [] m p = absurd m
-to-any P x (y ∷ ys) m p =
-    elim m [
-      | inl w ↦ (0, x, omega arith, sym w, p)
-      | inr w ↦ let rest = to-any P x ys w p in (suc rest.0, rest.1, omega (arith, rest.2), rest.3, rest.4)
-    ]
+to-any P x xs m p = let w = member-at x xs m in any-of P xs w.0 x w.1 p
 
 pub from-contains : {A : Type 0} (xs : List A) (x : A) → Contains xs x → Member x xs
-from-contains xs x h = at xs h.0 x h.1 h.2
+from-contains xs x h = let w = of-any (λ y. y ≡ x) xs (h.0, x, h.1, h.2, refl) in subst (λ y. Member y xs) w.3 (at-member xs w.0 w.1 w.2)
 
 pub to-contains : {A : Type 0} (xs : List A) (x : A) → Member x xs → Contains xs x
 to-contains [] x m = absurd m
@@ -33,15 +33,15 @@ to-contains (y ∷ ys) x m =
       | inr w ↦ let rest = to-contains ys x w in (suc rest.0, omega (arith, rest.1), rest.2)
     ]
 
-later-told : {F : Type 0} (o p : Option F) (e : F) → or_later o p ≡ Some e → (o ≡ Some e) ⊎ (p ≡ Some e)
+later-told : {F : Type 0} (o p : Option F) (e : F) → option_or o p ≡ Some e → (o ≡ Some e) ⊎ (p ≡ Some e)
 later-told None p e h = inr h
 later-told (Some d) p e h = inl h
 
-later-none : {F : Type 0} (o p : Option F) → or_later o p ≡ None → (o ≡ None) × (p ≡ None)
+later-none : {F : Type 0} (o p : Option F) → option_or o p ≡ None → (o ≡ None) × (p ≡ None)
 later-none None p h = (refl, h)
 later-none (Some d) p h = absurd (none-some d (sym h))
 
-pub later-nothing : {F : Type 0} (o : Option F) → or_later o None ≡ o
+pub later-nothing : {F : Type 0} (o : Option F) → option_or o None ≡ o
 later-nothing None = refl
 later-nothing (Some d) = refl
 

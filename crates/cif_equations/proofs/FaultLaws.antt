@@ -1,7 +1,7 @@
 -- The first algebraic variable that is found breaks the rule, and where none is found none breaks it.
 use Rattle.std.proofs.Common.{◌≡◌, ◌≢◌, ℕ, ◌+◌, Bool, true, false, cond, List, [], ◌∷◌, ◌++◌, map, length, refl, sym, ap, subst, ◌∙◌, Option, Some, None, zero-add, length-append, arith}
 use Rattle.std.specs.Prelude.{nat_eq, filter_map}
-use Rattle.std.specs.Option.{option_to_list}
+use Rattle.std.specs.Option.{option_or, option_to_list}
 use Rattle.std.specs.List.{Any, Contains}
 use Rattle.std.proofs.lemmas.Bool.Decides.{nat_tests}
 use Rattle.cif_ast.specs.Tree.{Tree}
@@ -19,7 +19,7 @@ use Rattle.cif_scope.proofs.DefinitionLaws.{IsWritten, bodies-written}
 use Rattle.cif_equations.specs.declared.error.EquationErr.{EquationErr}
 use Rattle.cif_equations.specs.declared.error.EquationErr.TheVariants.{Equations, Memory}
 use Rattle.cif_equations.specs.Tallies.{Tallied, tally_in, decls_tallied}
-use Rattle.cif_equations.specs.Counts.{value_count, unless_one, or_later, first_some, equation_count, location_other, first_other, other_count}
+use Rattle.cif_equations.specs.Counts.{value_count, unless_one, first_some, equation_count, location_other, first_other, other_count}
 use Rattle.cif_equations.specs.Faults.{body_tallied, told, alg_fault, decl_fault, body_fault, fault_in, due}
 use Rattle.cif_equations.proofs.TallyLaws.{decls-tallied, locations-tallied, placed_from}
 use Rattle.cif_equations.proofs.CountLaws.{other-is}
@@ -52,7 +52,7 @@ counts_in (automaton_body a) n x = map (λ (l : LocationTree). n + equation_coun
 
 locations-other : (n : ℕ) (x : Text) (ls : List LocationTree) → first_other n x ls ≡ first_some unless_one (map (λ (l : LocationTree). n + equation_count x l.equations) ls)
 locations-other n x [] = refl
-locations-other n x (l ∷ ls) = ap (or_later (location_other n x l)) (locations-other n x ls)
+locations-other n x (l ∷ ls) = ap (option_or (location_other n x l)) (locations-other n x ls)
 
 other-first : (b : SourceBody) (ds : List DeclTree) (n : ℕ) (x : Text) → other_count b (tally_in (body_tallied b ds) x) n x ≡ first_some unless_one (counts_in b n x)
 other-first (group_body is) ds n x = sym (later-nothing (unless_one n))
@@ -180,7 +180,7 @@ faults-same : (cs : List Component) (ws : List WrittenBody) → Beside IsWritten
 faults-same [] [] h = refl
 faults-same [] (w ∷ ws) h = absurd h
 faults-same (c ∷ cs) [] h = absurd h
-faults-same (c ∷ cs) (w ∷ ws) h = ap (λ b. or_later (body_fault b) (first_some (λ d. body_fault (body_of d)) cs)) h.0.1 ∙ ap (or_later (body_fault w.body)) (faults-same cs ws h.1)
+faults-same (c ∷ cs) (w ∷ ws) h = ap (λ b. option_or (body_fault b) (first_some (λ d. body_fault (body_of d)) cs)) h.0.1 ∙ ap (option_or (body_fault w.body)) (faults-same cs ws h.1)
 
 abbrev SourceBreaks : Source → ℕ → ℕ → Type 0
 SourceBreaks t at count = (c : Component) × Member c (bodies t) × Breaks c at count

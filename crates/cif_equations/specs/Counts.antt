@@ -1,5 +1,6 @@
 -- The numbers of definitions of an algebraic variable, and the first of them that is not 1.
 use Rattle.std.specs.Prelude.{ℕ, ◌+◌, Bool, false, nat_eq, List, [], ◌∷◌, length, filter_map, Option, Some, None, if◌then◌else◌, ◌&&◌, ◌||◌}
+use Rattle.std.specs.Option.{option_or}
 use Rattle.cif_ast.specs.Tree.{Tree}
 use Rattle.cif_source.specs.Source.{Text, EquationTree, LocationTree, SourceBody, group_body, automaton_body}
 use Rattle.cif_source.specs.Value.{equation_for}
@@ -13,13 +14,9 @@ value_count (Some e) = 1
 abbrev pub unless_one : ℕ → Option ℕ
 unless_one k = if nat_eq k 1 then None else Some k
 
-abbrev pub or_later : {F : Type 0} → Option F → Option F → Option F
-or_later None o = o
-or_later (Some f) o = Some f
-
 abbrev pub first_some : {A F : Type 0} → (A → Option F) → List A → Option F
 first_some f [] = None
-first_some f (x ∷ xs) = or_later (f x) (first_some f xs)
+first_some f (x ∷ xs) = option_or (f x) (first_some f xs)
 
 -- the number of equations that define x
 abbrev pub equation_count : Text → List EquationTree → ℕ
