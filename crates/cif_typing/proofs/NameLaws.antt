@@ -27,7 +27,7 @@ use Rattle.cif_typing.specs.declared.layout.Slot.{Slot}
 use Rattle.cif_typing.specs.declared.layout.Slot.TheVariants as slot
 use Rattle.cif_typing.specs.declared.layout.NamedType.{NamedType}
 use Rattle.cif_typing.specs.declared.layout.NamedType.TheVariants as named
-use Rattle.cif_typing.specs.Layouts.{SlotTree, type_slot, literal_slot, value_slot, location_slot, other_slot, slot_tree, NamedTree, synonym, enumeration, named_tree}
+use Rattle.cif_typing.specs.Layouts.{SlotTree, type_slot, literal_slot, value_slot, location_slot, event_slot, other_slot, slot_tree, NamedTree, synonym, enumeration, named_tree}
 use Rattle.cif_typing.specs.Types.{type_in, type_among, type_at, type_named, type_in_type, type_needs, type_graph}
 use Rattle.cif_typing.proofs.SlotLaws.{IsSlot, IsSlotOf, AreRows, row-at, row-back}
 
@@ -49,6 +49,7 @@ tree_type (type_slot m) = Some m
 tree_type (literal_slot m) = None
 tree_type (value_slot ty) = None
 tree_type location_slot = None
+tree_type (event_slot h) = None
 tree_type other_slot = None
 
 tree-type : (s : Slot) → type_in (Some s) ≡ tree_type (slot_tree s)
@@ -56,6 +57,7 @@ tree-type (slot.Type m) = refl
 tree-type (slot.Literal m) = refl
 tree-type (slot.Value ty) = refl
 tree-type slot.Location = refl
+tree-type (slot.Event h) = refl
 tree-type slot.Other = refl
 
 -- the number of the type that an entry of a body declares, if it declares one
@@ -108,6 +110,7 @@ type-slot (type_slot m) l h = ap type_slot (some-same m l h)
 type-slot (literal_slot m) l h = absurd (none-some l h)
 type-slot (value_slot ty) l h = absurd (none-some l h)
 type-slot location_slot l h = absurd (none-some l h)
+type-slot (event_slot c) l h = absurd (none-some l h)
 type-slot other_slot l h = absurd (none-some l h)
 
 -- a type in a slot is one of the types

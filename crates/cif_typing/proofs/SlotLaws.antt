@@ -11,13 +11,13 @@ use Rattle.cif_scope.specs.Tables.{Beside}
 use Rattle.cif_scope.specs.Written.{WrittenBody}
 use Rattle.cif_scope.proofs.Places.{beside-append, Sits, sits-left, sits-right, sits-head}
 use Rattle.cif_scope.proofs.DefinitionLaws.{IsWritten}
-use Rattle.cif_typing.specs.Layouts.{SlotTree, type_slot, literal_slot, value_slot, location_slot, other_slot, NamedTree, synonym, enumeration, decl_types, decls_types, item_types, items_types, body_types, all_types, decl_count, decls_count, item_count, items_count, body_count, decl_slots, decls_slots, item_slots, items_slots, location_slots, body_slots, param_slot, written_slots, all_slots}
+use Rattle.cif_typing.specs.Layouts.{SlotTree, type_slot, literal_slot, value_slot, location_slot, event_slot, other_slot, NamedTree, synonym, enumeration, decl_types, decls_types, item_types, items_types, body_types, all_types, decl_count, decls_count, item_count, items_count, body_count, decl_slots, decls_slots, item_slots, items_slots, location_slots, body_slots, param_slot, written_slots, all_slots}
 
 -- what a slot of body k says of an entry, where these are all types with names
 abbrev pub IsSlot : List NamedTree → ℕ → Entry → SlotTree → Type 0
 IsSlot all k (declared (type_decl n ty)) s = (m : ℕ) × (s ≡ type_slot m) × (slice_get all m ≡ Some (synonym k ty))
 IsSlot all k (declared (enum_decl n ls)) s = (m : ℕ) × (s ≡ type_slot m) × (slice_get all m ≡ Some (enumeration ls))
-IsSlot all k (declared (event_decl c h n)) s = s ≡ other_slot
+IsSlot all k (declared (event_decl c h n)) s = s ≡ event_slot h
 IsSlot all k (declared (const_decl ty n e)) s = s ≡ value_slot ty
 IsSlot all k (declared (alg_decl ty n e)) s = s ≡ value_slot ty
 IsSlot all k (declared (input_decl ty n)) s = s ≡ value_slot ty

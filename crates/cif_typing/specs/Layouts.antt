@@ -2,7 +2,7 @@
 -- through all bodies.
 use Rattle.std.specs.Prelude.{ℕ, ◌+◌, List, [], ◌∷◌, ◌++◌, map, flat_map, length, replicate, Some, None}
 use Rattle.cif_ast.specs.declared.names.Ident.{Ident}
-use Rattle.cif_source.specs.Source.{TypeTree, type_tree, DeclTree, type_decl, enum_decl, event_decl, const_decl, alg_decl, input_decl, disc_decl, equation_decl, invariant_decl, marked_decl, ParamTree, event_param, alg_param, location_param, LocationTree, SourceItem, decl_item, component_item, definition_item, instance_item, SourceBody, group_body, automaton_body, Source, no_source, source}
+use Rattle.cif_source.specs.Source.{TypeTree, type_tree, ChannelTree, channel_tree, DeclTree, type_decl, enum_decl, event_decl, const_decl, alg_decl, input_decl, disc_decl, equation_decl, invariant_decl, marked_decl, ParamTree, event_param, alg_param, location_param, LocationTree, SourceItem, decl_item, component_item, definition_item, instance_item, SourceBody, group_body, automaton_body, Source, no_source, source}
 use Rattle.cif_scope.specs.Written.{WrittenBody}
 use Rattle.cif_typing.specs.declared.layout.Slot.{Slot}
 use Rattle.cif_typing.specs.declared.layout.Slot.TheVariants as slot
@@ -13,6 +13,7 @@ use Rattle.cif_typing.specs.declared.layout.NamedType.TheVariants as named
 pub data SlotTree : Type 0 where
   type_slot literal_slot : ℕ → SlotTree
   value_slot : TypeTree → SlotTree
+  event_slot : ChannelTree → SlotTree
   location_slot other_slot : SlotTree
 
 -- another name for a type that is written in a body, or an enumeration
@@ -27,6 +28,7 @@ slot_tree (slot.Type m) = type_slot m
 slot_tree (slot.Literal m) = literal_slot m
 slot_tree (slot.Value ty) = value_slot (type_tree ty.now)
 slot_tree slot.Location = location_slot
+slot_tree (slot.Event h) = event_slot (channel_tree h.now)
 slot_tree slot.Other = other_slot
 
 abbrev pub named_tree : NamedType → NamedTree
@@ -107,7 +109,7 @@ body_count (automaton_body a) = decls_count a.decls
 abbrev pub decl_slots : ℕ → DeclTree → List SlotTree
 decl_slots m (type_decl n ty) = type_slot m ∷ []
 decl_slots m (enum_decl n ls) = type_slot m ∷ replicate (length ls) (literal_slot m)
-decl_slots m (event_decl c h n) = other_slot ∷ []
+decl_slots m (event_decl c h n) = event_slot h ∷ []
 decl_slots m (const_decl ty n e) = value_slot ty ∷ []
 decl_slots m (alg_decl ty n e) = value_slot ty ∷ []
 decl_slots m (input_decl ty n) = value_slot ty ∷ []
@@ -138,7 +140,7 @@ body_slots m (group_body is) = items_slots m is
 body_slots m (automaton_body a) = decls_slots m a.decls ++ flat_map location_slots a.locs
 
 abbrev pub param_slot : ParamTree → SlotTree
-param_slot (event_param c h n) = other_slot
+param_slot (event_param c h n) = event_slot h
 param_slot (alg_param ty n) = value_slot ty
 param_slot (location_param n) = location_slot
 

@@ -2,13 +2,15 @@
 use Rattle.std.specs.Prelude.{ℕ, ◌+◌, true, List, [], ◌∷◌, map, Option, Some, None, slice_get, slice_set, unwrap_or}
 use Rattle.std.specs.Option.{option_to_list}
 use Rattle.cif_ast.specs.declared.names.Name.{Name}
-use Rattle.cif_source.specs.Source.{TypeTree, bool_type, int_type, range_type, named_type, type_tree}
+use Rattle.cif_source.specs.Source.{TypeTree, bool_type, int_type, range_type, named_type, type_tree, ChannelTree, no_type, void_type, value_type, channel_tree}
 use Rattle.cif_scope.specs.declared.looked.Looked.{Looked}
 use Rattle.cif_scope.specs.declared.looked.Looked.TheVariants.{At, Missing, Blocked}
 use Rattle.cif_scope.specs.declared.scopes.Scopes.{Scopes}
 use Rattle.cif_scope.specs.Looks.{look}
 use Rattle.cif_kinds.specs.declared.kind.Kind.{Kind}
 use Rattle.cif_kinds.specs.declared.kind.Kind.TheVariants as kind
+use Rattle.cif_kinds.specs.declared.kind.Channel.{Channel}
+use Rattle.cif_kinds.specs.declared.kind.Channel.TheVariants as channel
 use Rattle.cif_typing.specs.declared.layout.Slot.{Slot}
 use Rattle.cif_typing.specs.declared.layout.Slot.TheVariants as slot
 use Rattle.cif_typing.specs.declared.layout.NamedType.{NamedType}
@@ -23,6 +25,7 @@ type_in (Some (slot.Type m)) = Some m
 type_in (Some (slot.Literal m)) = None
 type_in (Some (slot.Value ty)) = None
 type_in (Some slot.Location) = None
+type_in (Some (slot.Event h)) = None
 type_in (Some slot.Other) = None
 
 abbrev pub type_among : Option (List Slot) → ℕ → Option ℕ
@@ -87,6 +90,7 @@ kind_in_slot s slots kinds k (slot.Type m) = kind.None
 kind_in_slot s slots kinds k (slot.Literal m) = kind_among kinds (Some m)
 kind_in_slot s slots kinds k (slot.Value ty) = kind_of_type s slots kinds k (type_tree ty.now)
 kind_in_slot s slots kinds k slot.Location = kind.Bool
+kind_in_slot s slots kinds k (slot.Event h) = kind.None
 kind_in_slot s slots kinds k slot.Other = kind.None
 
 abbrev pub body_kinds : Scopes → List (List Slot) → List Kind → ℕ → List Slot → List Kind
@@ -96,3 +100,26 @@ body_kinds s slots kinds k row = map (kind_in_slot s slots kinds k) row
 abbrev pub all_kinds : Scopes → List (List Slot) → List Kind → ℕ → List (List Slot) → List (List Kind)
 all_kinds s slots kinds k [] = []
 all_kinds s slots kinds k (row ∷ rows) = body_kinds s slots kinds k row ∷ all_kinds s slots kinds (k + 1) rows
+
+-- ---- what is sent
+
+abbrev pub channel_of : Scopes → List (List Slot) → List Kind → ℕ → ChannelTree → Channel
+channel_of s slots kinds k no_type = channel.No
+channel_of s slots kinds k void_type = channel.Void
+channel_of s slots kinds k (value_type ty) = channel.Of (kind_of_type s slots kinds k ty)
+
+abbrev pub channel_in_slot : Scopes → List (List Slot) → List Kind → ℕ → Slot → Channel
+channel_in_slot s slots kinds k (slot.Type m) = channel.No
+channel_in_slot s slots kinds k (slot.Literal m) = channel.No
+channel_in_slot s slots kinds k (slot.Value ty) = channel.No
+channel_in_slot s slots kinds k slot.Location = channel.No
+channel_in_slot s slots kinds k (slot.Event h) = channel_of s slots kinds k (channel_tree h.now)
+channel_in_slot s slots kinds k slot.Other = channel.No
+
+abbrev pub body_channels : Scopes → List (List Slot) → List Kind → ℕ → List Slot → List Channel
+body_channels s slots kinds k row = map (channel_in_slot s slots kinds k) row
+
+-- along what the bodies from body k on declare
+abbrev pub all_channels : Scopes → List (List Slot) → List Kind → ℕ → List (List Slot) → List (List Channel)
+all_channels s slots kinds k [] = []
+all_channels s slots kinds k (row ∷ rows) = body_channels s slots kinds k row ∷ all_channels s slots kinds (k + 1) rows

@@ -1,6 +1,6 @@
 //! What each body declares, as far as kinds go, as references into the tree.
 
-use cif_ast::{Ident, TypeUse};
+use cif_ast::{Chan, Ident, TypeUse};
 use cif_base::Items;
 
 /// What a name of a scope declares. The name of a type and a literal have the number of that type.
@@ -11,7 +11,9 @@ pub enum Slot<'a> {
     /// Something whose values are of a type.
     Value(&'a TypeUse),
     Location,
-    /// What has no value and is no type.
+    /// An event, with what is sent along it.
+    Event(&'a Chan),
+    /// What has no value, and is no type and no event.
     Other,
 }
 

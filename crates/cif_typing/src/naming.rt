@@ -23,7 +23,7 @@ fn type_in(row: &Items<Slot<'_>>, slot: u32) -> Option<u32>
 {
     match row.get(slot as usize)? {
         Slot::Type(named) => Some(*named),
-        Slot::Literal(_) | Slot::Value(_) | Slot::Location | Slot::Other => None,
+        Slot::Literal(_) | Slot::Value(_) | Slot::Location | Slot::Event(_) | Slot::Other => None,
     }
 }
 

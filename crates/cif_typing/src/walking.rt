@@ -74,7 +74,7 @@ fn add_decl<'a>(
         | Decl::Alg { ty, .. }
         | Decl::Input { ty, .. }
         | Decl::Disc { ty, .. } => slots.push(Slot::Value(ty)),
-        Decl::Event { .. } => slots.push(Slot::Other),
+        Decl::Event { chan, .. } => slots.push(Slot::Event(chan)),
         Decl::Equation { .. } | Decl::Inv(_) | Decl::Marked(_) => Ok(()),
     }
 }
@@ -147,7 +147,7 @@ fn param_slot<'a>(param: &'a Param) -> Slot<'a>
     ensures { layout.slot_tree result ≡ layout.param_slot (param_tree param.now) }
 {
     match param {
-        Param::Event { .. } => Slot::Other,
+        Param::Event { chan, .. } => Slot::Event(chan),
         Param::Alg { ty, name: _ } => Slot::Value(ty),
         Param::Location { .. } => Slot::Location,
     }

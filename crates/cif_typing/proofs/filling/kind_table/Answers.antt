@@ -5,7 +5,7 @@ use Rattle.cif_kinds.specs.declared.kind.Kind.{Kind}
 use Rattle.cif_typing.specs.declared.layout.Slot.{Slot}
 use Rattle.cif_typing.specs.declared.layout.NamedType.{NamedType}
 use Rattle.cif_typing.specs.Lists.{lists_after, listed_kinds}
-use Rattle.cif_typing.specs.Types.{all_kinds}
+use Rattle.cif_typing.specs.Types.{all_kinds, all_channels}
 use Rattle.cif_typing.proofs.TableLaws.{types-read, slots-read, graph-inside, graph-acyclic, settled-same, table-told}
 use Rattle.cif_typing.proofs.filling.kind_table.Goals as goal
 
@@ -36,6 +36,7 @@ returns c =
     let listed : c.as_slice-2.result.now ≡ types = c.as_slice-2.ensures.value ∙ sym c.as_slice-4.ensures.value in
     let ends = settled-same t c.args.scopes.now c.requires.scopes.numbers slots types typed slotted c.in_ok-order.order is c.as_slice-6.result.now c.in_ok-listed.listed.kinds c.settle.new.kinds c.as_slice-7.result.now
     c.settle.ensures (c.as_slice-6.ensures.value ∙ sym c.as_slice-4.ensures.value) (c.in_ok-listed.ensures.kinds ∙ ap (λ (ys : List NamedType). listed_kinds [] ys) listed) c.as_slice-7.ensures in
-    table-told t c.args.scopes.now c.requires.scopes.numbers slots types typed slotted c.in_ok-order.order is c.in_ok-kinds.kinds c.in_ok-listed.listed.lists
+    table-told t c.args.scopes.now c.requires.scopes.numbers slots types typed slotted c.in_ok-order.order is c.in_ok-kinds.kinds c.in_ok-channels.channels c.in_ok-listed.listed.lists
     (c.in_ok-kinds.ensures ∙ ap (λ (ks : List Kind). all_kinds c.args.scopes.now slots ks 0 slots) (c.as_slice-8.ensures ∙ ends))
+    (c.in_ok-channels.ensures ∙ ap (λ (ks : List Kind). all_channels c.args.scopes.now slots ks 0 slots) (c.as_slice-9.ensures ∙ ends))
     (c.in_ok-listed.ensures.lists ∙ ap (λ (ys : List NamedType). lists_after [] ys) listed)
