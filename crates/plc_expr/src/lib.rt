@@ -1,0 +1,2 @@
+//! Expressions of a net as Structured Text: the expression, and the statements that are executed before it.
+#![tactic(auto)]
