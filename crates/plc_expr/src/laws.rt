@@ -1,0 +1,17 @@
+//! What is proved of the texts of expressions, as laws that a proof reads off: each the contract of a function without a body.
+
+ghost use Rattle.std.specs.Prelude.{◌≡◌, ℕ, List, Ok};
+ghost use Rattle.cif_term.specs.Tree.{NetExpr};
+ghost use Rattle.st_ast.specs.Values.{Memory, value_of};
+ghost use Rattle.st_ast.specs.declared.tree.StVar.{StVar};
+ghost use Rattle.plc_expr.specs.Texts.{Naming, text};
+ghost use Rattle.plc_expr.specs.Safe.{Setting, value_at, IsSafe};
+ghost use Rattle.plc_expr.specs.Held.{Reads, Held};
+
+/// In each memory from which the names are read as they are in the setting, and in which the own variables hold what they
+/// are to hold, the text of a safe expression has the value of the expression, and no fault.
+pub fn texts_have_the_value()
+    ensures { (vars : List StVar) (w : Naming) (x : Setting) (m : Memory) (k : ℕ) (e : NetExpr) →
+        Reads vars w x m e → IsSafe x e → Held vars w x m k e →
+        value_of vars (text w k e) m ≡ Ok (value_at x e) }
+{}
