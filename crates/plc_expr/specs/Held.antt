@@ -1,8 +1,10 @@
 -- What a memory holds before an expression is evaluated: what the expression names is read from it, and the expression's own
 -- variables hold the values of the `if`s.
-use Rattle.std.specs.Prelude.{◌≡◌, ℕ, ◌+◌, ◌<◌, ◌≤◌, ℤ, pos, nat_eq, true, List, length, Ok, slice_get, slice_index_or}
+use Rattle.std.specs.Prelude.{◌≡◌, ℕ, ◌+◌, ◌<◌, ◌≤◌, ℤ, pos, nat_eq, true, List, length, Ok, Option, is_some, slice_get, slice_index_or}
 use Rattle.std.specs.List.{AllByRecursion}
 use Rattle.cif_term.specs.Tree.{NetExpr, net_expr, NetForm, n_minus, n_plus, n_not, n_abs, n_min, n_max, n_sum, n_product, n_compare, n_and, n_or, n_implies, n_iff, n_if, NetExprs, no_net_exprs, net_exprs, NetTerms, no_net_terms, net_terms, NetFactors, no_net_factors, net_factors, NetBranches, no_net_branches, net_branches}
+use Rattle.cif_base.specs.declared.types.Ty.{Ty}
+use Rattle.cif_model.specs.Net.{Net}
 use Rattle.cif_model.specs.Value.{net_cases}
 use Rattle.cif_model.specs.Reads.{Read, a_var, an_input, an_alg, a_place, the_received, names_in}
 use Rattle.grammar.specs.Pieces.{Text}
@@ -29,6 +31,14 @@ IsRead vars w x m the_received = held_at vars m w.received ≡ x.received
 -- all that the expression names is read from the memory as it is in the setting
 abbrev pub Reads : List StVar → Naming → Setting → Memory → NetExpr → Type 0
 Reads vars w x m e = AllByRecursion (IsRead vars w x m) (names_in e)
+
+-- what is named is one of the net's; r is the type of the received value, and algebraic variables have been replaced
+abbrev pub IsThere : Net → Option Ty → Read → Type 0
+IsThere n r (a_var k) = k < length n.vars
+IsThere n r (an_input k) = k < length n.inputs
+IsThere n r (an_alg k) = ⊥
+IsThere n r (a_place a) = a < length n.autos
+IsThere n r the_received = is_some r ≡ true
 
 -- ---- own variables
 

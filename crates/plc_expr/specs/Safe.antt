@@ -1,10 +1,13 @@
 -- What is asked of an expression, so that its text has its value: each number has 32 bits and each result 64, no divisor is
 -- 0, and what is true or false is 0 or 1.
-use Rattle.std.specs.Prelude.{◌≡◌, ℕ, ℤ, pos, neg_ℤ, nat_abs, true, false}
+use Rattle.std.specs.Prelude.{◌≡◌, ℕ, ℤ, pos, neg_ℤ, nat_abs, length, true, false}
 use Rattle.std.specs.Ordering.{int_eq}
 use Rattle.cif_base.specs.Bounds.{in_64_bits}
 use Rattle.cif_system.specs.System.{State}
 use Rattle.cif_term.specs.Tree.{MulOp, times, divided, modulo, NetExpr, net_expr, NetForm, n_number, n_minus, n_plus, n_not, n_abs, n_min, n_max, n_sum, n_product, n_compare, n_and, n_or, n_implies, n_iff, n_if, NetExprs, no_net_exprs, net_exprs, NetTerms, no_net_terms, net_terms, NetFactors, no_net_factors, net_factors, NetBranches, no_net_branches, net_branches}
+use Rattle.cif_model.specs.Net.{Net}
+use Rattle.cif_model.specs.Unfolding.{at_or}
+use Rattle.cif_model.specs.Meaning.{alg_values}
 use Rattle.cif_model.specs.Value.{of_bool, is_true, added, multiplied, net_value}
 use Rattle.cif_model.specs.Kinds.{in_32_bits}
 
@@ -16,6 +19,10 @@ pub record Setting : Type 0 where
 
 abbrev pub value_at : Setting → NetExpr → ℤ
 value_at x e = net_value x.algs x.state x.received e
+
+-- those of a net in a state, where r is received
+abbrev pub setting_in : Net → State → ℤ → Setting
+setting_in n s r = record { algs = at_or (pos 0) (alg_values n s r (length n.algs)); state = s; received = r }
 
 -- 0 or 1
 abbrev pub IsTruth : ℤ → Type 0
