@@ -36,14 +36,17 @@ any-holds p (y ∷ ys) h = by (p y) refl (any-holds p ys) h
     by false e go k = go k
 
 -- both sides of a comparison have one kind
-pub sides-fit : (n : Net) (r : Option Ty) (op : CmpOp) (a b : NetExpr) → (if is_equality op then list_any (λ q. fits n r q a && fits n r q b) (kinds_in n) else fits n r int_kind a && fits n r int_kind b) ≡ true
+kinds-fit : (n : Net) (r : Option Ty) (op : CmpOp) (a b : NetExpr) → (if is_equality op then list_any (λ q. fits n r q a && fits n r q b) (kinds_in n) else fits n r int_kind a && fits n r int_kind b) ≡ true
     → (q : Kind) × (fits n r q a ≡ true) × (fits n r q b ≡ true)
-sides-fit n r eq a b h = let w = any-holds (λ q. fits n r q a && fits n r q b) (kinds_in n) h in (w.0, and-left _ _ w.1, and-right _ _ w.1)
-sides-fit n r ne a b h = let w = any-holds (λ q. fits n r q a && fits n r q b) (kinds_in n) h in (w.0, and-left _ _ w.1, and-right _ _ w.1)
-sides-fit n r lt a b h = (int_kind, and-left _ _ h, and-right _ _ h)
-sides-fit n r le a b h = (int_kind, and-left _ _ h, and-right _ _ h)
-sides-fit n r gt a b h = (int_kind, and-left _ _ h, and-right _ _ h)
-sides-fit n r ge a b h = (int_kind, and-left _ _ h, and-right _ _ h)
+kinds-fit n r eq a b h = let w = any-holds (λ q. fits n r q a && fits n r q b) (kinds_in n) h in (w.0, and-left _ _ w.1, and-right _ _ w.1)
+kinds-fit n r ne a b h = let w = any-holds (λ q. fits n r q a && fits n r q b) (kinds_in n) h in (w.0, and-left _ _ w.1, and-right _ _ w.1)
+kinds-fit n r lt a b h = (int_kind, and-left _ _ h, and-right _ _ h)
+kinds-fit n r le a b h = (int_kind, and-left _ _ h, and-right _ _ h)
+kinds-fit n r gt a b h = (int_kind, and-left _ _ h, and-right _ _ h)
+kinds-fit n r ge a b h = (int_kind, and-left _ _ h, and-right _ _ h)
+
+pub sides-fit : (n : Net) (r : Option Ty) (k : Kind) (op : CmpOp) (a b : NetExpr) → form_fits n r k (n_compare a op b) ≡ true → (q : Kind) × (fits n r q a ≡ true) × (fits n r q b ≡ true)
+sides-fit n r k op a b h = kinds-fit n r op a b (and-right _ _ h)
 
 truth-lies : (z : ℤ) → Lies truths z → IsTruth z
 truth-lies z h = grind (arith, ints)
@@ -53,7 +56,7 @@ can-divide times a z c h = tt
 can-divide divided a z c h = let k = not-zero a z c h in grind (arith, ints)
 can-divide modulo a z c h = let k = not-zero a z c h in grind (arith, ints)
 
-number-small : (k : Kind) (z : ℤ) → number_fits k z ≡ true → in_32_bits z ≡ true
+pub number-small : (k : Kind) (z : ℤ) → number_fits k z ≡ true → in_32_bits z ≡ true
 number-small bool_kind z h = never h
 number-small int_kind z h = h
 number-small (enum_kind ls) z h = and-left _ _ (and-left _ _ h)
@@ -144,7 +147,7 @@ module _ (n : Net) (R : Range) (x : Setting) (r : Option Ty)
         (safe int_kind e aa.0 dd.0 bb.0 (and-right _ _ (and-left _ _ h)), safe-factors at e no_net_factors es aa.1 dd.1 bb.1 (and-right _ _ h))
     safe-form k at (n_compare p op q) a d b h =
         let aa = no-algs (names_in p) (names_in q) a in let dd = divide-both (parts p) (parts q) d in let bb = bits-both (parts p) (parts q) b in
-        let hh = sides-fit n r op p q (and-right _ _ h) in
+        let hh = sides-fit n r k op p q h in
         (safe hh.0 p aa.0 dd.0 bb.0 hh.1, safe hh.0 q aa.1 dd.1 bb.1 hh.2)
     safe-form k at (n_and es) a d b h = safe-truths es a d b (and-right _ _ h)
     safe-form k at (n_or es) a d b h = safe-truths es a d b (and-right _ _ h)

@@ -1,6 +1,6 @@
 //! What is proved of the texts of expressions, as laws that a proof reads off: each the contract of a function without a body.
 
-ghost use Rattle.std.specs.Prelude.{◌≡◌, ℕ, ◌+◌, ◌≤◌, ℤ, true, IsTrue, List, length, Ok, Option, Some};
+ghost use Rattle.std.specs.Prelude.{◌≡◌, ℕ, ◌+◌, ◌*◌, ◌≤◌, ℤ, true, IsTrue, List, length, Ok, Option, Some};
 ghost use Rattle.std.specs.List.{AllByRecursion};
 ghost use Rattle.cif_base.specs.declared.types.Ty.{Ty};
 ghost use Rattle.cif_system.specs.System.{State, IsState, in_range};
@@ -9,13 +9,17 @@ ghost use Rattle.cif_term.specs.Tree.{NetExpr};
 ghost use Rattle.cif_model.specs.Net.{Net};
 ghost use Rattle.cif_model.specs.Meaning.{system_of_net, type_range};
 ghost use Rattle.cif_model.specs.Kinds.{Kind, fits};
+ghost use Rattle.cif_model.specs.Counts.{Measure, measure_by};
 ghost use Rattle.cif_model.specs.Reads.{names_in, names_no_alg};
 ghost use Rattle.cif_model.specs.Rules.{Evaluated, evaluated, is_plain};
 ghost use Rattle.st_ast.specs.Values.{Memory, value_of};
+ghost use Rattle.st_ast.specs.Grammar.{at_or};
+ghost use Rattle.st_ast.specs.Spelled.{is_expr, are_stms};
 ghost use Rattle.st_ast.specs.declared.tree.StVar.{StVar};
-ghost use Rattle.plc_expr.specs.Texts.{Naming, temps, text};
+ghost use Rattle.plc_expr.specs.Texts.{Naming, temps, text, before};
 ghost use Rattle.plc_expr.specs.Safe.{Setting, setting_in, value_at, IsSafe};
 ghost use Rattle.plc_expr.specs.Held.{Reads, Held, IsThere, OwnPlaces, IsBeside, Prepares};
+ghost use Rattle.plc_expr.specs.Sorts.{NamesAreSpelled};
 
 /// In each memory from which the names are read as they are in the setting, and in which the own variables hold what they
 /// are to hold, the text of a safe expression has the value of the expression, and no fault.
@@ -48,4 +52,19 @@ pub fn plain_expressions_are_safe()
 pub fn named_things_are_there()
     ensures { (n : Net) (r : Option Ty) (k : Kind) (e : NetExpr) → fits n r k e ≡ true → names_no_alg e ≡ true →
         AllByRecursion (IsThere n r) (names_in e) }
+{}
+
+/// The text of an expression that has a kind has a spelling, and nests at most three times as deep as the expression, and
+/// two deeper.
+pub fn texts_have_a_spelling()
+    ensures { (w : Naming) (n : Net) (r : Option Ty) (kind : Kind) (e : NetExpr) (alg : ℕ → Measure) (k d : ℕ) →
+        NamesAreSpelled w n → fits n r kind e ≡ true → 3 * (measure_by alg e).depth + 2 ≤ d →
+        is_expr d at_or (text w k e) ≡ true }
+{}
+
+/// So have the statements before it, which nest no deeper than an IF, where the expression isn't deeper than 132.
+pub fn statements_before_a_text_have_a_spelling()
+    ensures { (w : Naming) (n : Net) (r : Option Ty) (kind : Kind) (e : NetExpr) (alg : ℕ → Measure) (k d : ℕ) →
+        NamesAreSpelled w n → fits n r kind e ≡ true → (measure_by alg e).depth ≤ 132 → 1 ≤ d →
+        are_stms d (before w k e) ≡ true }
 {}
