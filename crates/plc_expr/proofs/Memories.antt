@@ -88,10 +88,11 @@ module _ (vars : List StVar) (w : Naming) (x : Setting) (base count : ℕ) (own 
     form-same k (n_or es) l s h = list-same k es l s h
     form-same k (n_implies a b) l s h = two-same k (temps a) (temps b) (held-same k a) (held-same (k + temps a) b) l s h
     form-same k (n_iff a b) l s h = two-same k (temps a) (temps b) (held-same k a) (held-same (k + temps a) b) l s h
-    form-same k (n_if bs e) l s h =
-        (branches-same (k + 1) bs (omega arith) (part k (1 + branches_temps bs + temps e) (k + 1) (branches_temps bs) (omega arith) (omega arith) s) h.0,
-        held-same (k + 1 + branches_temps bs) e (omega arith) (part k (1 + branches_temps bs + temps e) (k + 1 + branches_temps bs) (temps e) (omega arith) (omega arith) s) h.1,
-        own-kept k (omega arith) (s k (omega arith) (omega arith)) ∙ h.2)
+    form-same k (n_if bs e) l s h = (
+      branches-same (k + 1) bs (omega arith) (part k (1 + branches_temps bs + temps e) (k + 1) (branches_temps bs) (omega arith) (omega arith) s) h.0,
+      held-same (k + 1 + branches_temps bs) e (omega arith) (part k (1 + branches_temps bs + temps e) (k + 1 + branches_temps bs) (temps e) (omega arith) (omega arith) s) h.1,
+      own-kept k (omega arith) (s k (omega arith) (omega arith)) ∙ h.2,
+    )
 
     terms-same : (k : ℕ) (es : NetTerms) → k + terms_temps es ≤ count → Same k (terms_temps es) → HeldTerms vars w x m k es → HeldTerms vars w x o k es
     terms-same k no_net_terms l s h = tt
@@ -107,10 +108,11 @@ module _ (vars : List StVar) (w : Naming) (x : Setting) (base count : ℕ) (own 
 
     pub branches-same : (k : ℕ) (bs : NetBranches) → k + branches_temps bs ≤ count → Same k (branches_temps bs) → HeldBranches vars w x m k bs → HeldBranches vars w x o k bs
     branches-same k no_net_branches l s h = tt
-    branches-same k (net_branches c e bs) l s h =
-        (held-same k c (omega arith) (part k (temps c + temps e + branches_temps bs) k (temps c) (omega arith) (omega arith) s) h.0,
-        held-same (k + temps c) e (omega arith) (part k (temps c + temps e + branches_temps bs) (k + temps c) (temps e) (omega arith) (omega arith) s) h.1,
-        branches-same (k + temps c + temps e) bs (omega arith) (part k (temps c + temps e + branches_temps bs) (k + temps c + temps e) (branches_temps bs) (omega arith) (omega arith) s) h.2)
+    branches-same k (net_branches c e bs) l s h = (
+      held-same k c (omega arith) (part k (temps c + temps e + branches_temps bs) k (temps c) (omega arith) (omega arith) s) h.0,
+      held-same (k + temps c) e (omega arith) (part k (temps c + temps e + branches_temps bs) (k + temps c) (temps e) (omega arith) (omega arith) s) h.1,
+      branches-same (k + temps c + temps e) bs (omega arith) (part k (temps c + temps e + branches_temps bs) (k + temps c + temps e) (branches_temps bs) (omega arith) (omega arith) s) h.2,
+    )
 
   -- changed are those from the l-th on, after these
   pub same-before : (k c l d : ℕ) → k + c ≤ l → IsBeside (base + l) d m o → Same k c

@@ -11,7 +11,7 @@ use Rattle.cif_model.specs.Reads.{Read, alg_passes, names_in, form_names, term_n
 use Rattle.cif_model.proofs.Passing.{and-left, and-right, both-pass}
 use Rattle.cif_model.proofs.PlainLaws.{never}
 use Rattle.plc_expr.specs.Held.{IsThere}
-use Rattle.plc_expr.proofs.Plain.{sides-fit}
+use Rattle.plc_expr.proofs.Sides.{sides-fit}
 
 below : {A : Type 0} (xs : List A) (k : ℕ) → is_some (slice_get xs k) ≡ true → k < length xs
 below [] k h = never h
@@ -64,7 +64,7 @@ module _ (n : Net) (r : Option Ty) where
     form-there k (n_max p q) h a = two (names_in p) (names_in q) (expr-there int_kind p (and-right _ _ (and-left _ _ h))) (expr-there int_kind q (and-right _ _ h)) a
     form-there k (n_sum e es) h a = two (names_in e) (term_names es) (expr-there int_kind e (and-right _ _ (and-left _ _ h))) (terms-there es (and-right _ _ h)) a
     form-there k (n_product e es) h a = two (names_in e) (factor_names es) (expr-there int_kind e (and-right _ _ (and-left _ _ h))) (factors-there es (and-right _ _ h)) a
-    form-there k (n_compare p op q) h a = let hh = sides-fit n r k op p q h in two (names_in p) (names_in q) (expr-there hh.0 p hh.1) (expr-there hh.0 q hh.2) a
+    form-there k (n_compare p op q) h a = let hh = sides-fit n r k op p q h in two (names_in p) (names_in q) (expr-there hh.kind p hh.left) (expr-there hh.kind q hh.right) a
     form-there k (n_and es) h a = list-there es (and-right _ _ h) a
     form-there k (n_or es) h a = list-there es (and-right _ _ h) a
     form-there k (n_implies p q) h a = two (names_in p) (names_in q) (expr-there bool_kind p (and-right _ _ (and-left _ _ h))) (expr-there bool_kind q (and-right _ _ h)) a

@@ -1,17 +1,17 @@
 -- In a plain net an evaluated expression that has a kind is safe.
-use Rattle.std.proofs.Common.{◌≡◌, ℕ, zero, suc, ℤ, pos, Bool, true, false, ◌&&◌, ◌||◌, IsTrue, List, [], ◌∷◌, ◌++◌, Some, inl, inr, refl, sym, subst, if◌then◌else◌, slice_get, slice_index_or, arith}
+use Rattle.std.proofs.Common.{◌≡◌, ℕ, zero, suc, ℤ, pos, Bool, true, false, IsTrue, List, [], ◌∷◌, ◌++◌, Some, inl, inr, refl, sym, subst, slice_get, slice_index_or, arith}
 use Rattle.std.specs.Prelude.{Option}
-use Rattle.std.specs.List.{list_all, list_any, AllByRecursion}
+use Rattle.std.specs.List.{list_all, AllByRecursion}
 use Rattle.std.proofs.lemmas.Int.{ints}
 use Rattle.cif_base.specs.declared.types.Ty.{Ty}
 use Rattle.cif_system.specs.System.{Range, State, IsState, in_range}
 use Rattle.cif_system.specs.Words.{Member}
-use Rattle.cif_term.specs.Tree.{CmpOp, eq, ne, lt, le, gt, ge, MulOp, times, divided, modulo, NetExpr, net_expr, NetForm, n_truth, n_number, n_loc, n_var, n_input, n_alg, n_received, n_minus, n_plus, n_not, n_abs, n_min, n_max, n_sum, n_product, n_compare, n_and, n_or, n_implies, n_iff, n_if, NetExprs, no_net_exprs, net_exprs, NetTerms, no_net_terms, net_terms, NetFactors, no_net_factors, net_factors, NetBranches, no_net_branches, net_branches}
+use Rattle.cif_term.specs.Tree.{MulOp, times, divided, modulo, NetExpr, net_expr, NetForm, n_truth, n_number, n_loc, n_var, n_input, n_alg, n_received, n_minus, n_plus, n_not, n_abs, n_min, n_max, n_sum, n_product, n_compare, n_and, n_or, n_implies, n_iff, n_if, NetExprs, no_net_exprs, net_exprs, NetTerms, no_net_terms, net_terms, NetFactors, no_net_factors, net_factors, NetBranches, no_net_branches, net_branches}
 use Rattle.cif_model.specs.Net.{NetStored, Net}
 use Rattle.cif_model.specs.Value.{added, multiplied, net_sum, net_product}
 use Rattle.cif_model.specs.Meaning.{system_of_net, type_range}
 use Rattle.cif_model.specs.Interval.{truths, declared_ranges, range_of, stored_range}
-use Rattle.cif_model.specs.Kinds.{Kind, bool_kind, int_kind, enum_kind, in_32_bits, is_equality, number_fits, kinds_in, fits, form_fits, terms_fit, factors_fit, all_fit, branches_fit}
+use Rattle.cif_model.specs.Kinds.{Kind, bool_kind, int_kind, fits, form_fits, terms_fit, factors_fit, all_fit, branches_fit}
 use Rattle.cif_model.specs.Facts.{literals_fit, stored_stands, is_net}
 use Rattle.cif_model.specs.Reads.{Read, alg_passes, names_in, form_names, term_names, factor_names, list_names, branch_names}
 use Rattle.cif_model.specs.Parts.{parts, form_parts, list_parts, branch_parts, sum_parts, product_parts, add_term, add_factor, part_divides}
@@ -23,30 +23,10 @@ use Rattle.cif_model.proofs.PlainLaws.{never, fit-at, plain-expr, fits as part_f
 use Rattle.cif_model.proofs.ValueLaws.{all-parts}
 use Rattle.cif_model.proofs.IntervalLaws.{holds}
 use Rattle.cif_model.proofs.KindLaws.{value-kind}
+use Rattle.plc_expr.proofs.Sides.{sides-fit, number-small}
 use Rattle.plc_expr.specs.Safe.{Setting, value_at, setting_in, IsTruth, HasBits, CanDivide, IsSafe, IsSafeForm, AreSafeTerms, AreSafeFactors, AreSafeTruths, AreSafeBranches}
 
 -- ---- tests
-
-any-holds : {A : Type 0} (p : A → Bool) (xs : List A) → list_any p xs ≡ true → (y : A) × (p y ≡ true)
-any-holds p [] h = never h
-any-holds p (y ∷ ys) h = by (p y) refl (any-holds p ys) h
-  where
-    by : (b : Bool) → p y ≡ b → (list_any p ys ≡ true → (z : _) × (p z ≡ true)) → (b || list_any p ys) ≡ true → (z : _) × (p z ≡ true)
-    by true e go k = (y, e)
-    by false e go k = go k
-
--- both sides of a comparison have one kind
-kinds-fit : (n : Net) (r : Option Ty) (op : CmpOp) (a b : NetExpr) → (if is_equality op then list_any (λ q. fits n r q a && fits n r q b) (kinds_in n) else fits n r int_kind a && fits n r int_kind b) ≡ true
-    → (q : Kind) × (fits n r q a ≡ true) × (fits n r q b ≡ true)
-kinds-fit n r eq a b h = let w = any-holds (λ q. fits n r q a && fits n r q b) (kinds_in n) h in (w.0, and-left _ _ w.1, and-right _ _ w.1)
-kinds-fit n r ne a b h = let w = any-holds (λ q. fits n r q a && fits n r q b) (kinds_in n) h in (w.0, and-left _ _ w.1, and-right _ _ w.1)
-kinds-fit n r lt a b h = (int_kind, and-left _ _ h, and-right _ _ h)
-kinds-fit n r le a b h = (int_kind, and-left _ _ h, and-right _ _ h)
-kinds-fit n r gt a b h = (int_kind, and-left _ _ h, and-right _ _ h)
-kinds-fit n r ge a b h = (int_kind, and-left _ _ h, and-right _ _ h)
-
-pub sides-fit : (n : Net) (r : Option Ty) (k : Kind) (op : CmpOp) (a b : NetExpr) → form_fits n r k (n_compare a op b) ≡ true → (q : Kind) × (fits n r q a ≡ true) × (fits n r q b ≡ true)
-sides-fit n r k op a b h = kinds-fit n r op a b (and-right _ _ h)
 
 truth-lies : (z : ℤ) → Lies truths z → IsTruth z
 truth-lies z h = grind (arith, ints)
@@ -55,11 +35,6 @@ can-divide : (op : MulOp) (a : Range) (z : ℤ) → CanMultiply op a → Lies a 
 can-divide times a z c h = tt
 can-divide divided a z c h = let k = not-zero a z c h in grind (arith, ints)
 can-divide modulo a z c h = let k = not-zero a z c h in grind (arith, ints)
-
-pub number-small : (k : Kind) (z : ℤ) → number_fits k z ≡ true → in_32_bits z ≡ true
-number-small bool_kind z h = never h
-number-small int_kind z h = h
-number-small (enum_kind ls) z h = and-left _ _ (and-left _ _ h)
 
 stored-literals : (vs : List NetStored) → list_all stored_stands vs ≡ true → (k : ℕ) (w : NetStored) → slice_get vs k ≡ Some w → literals_fit w.type_of w.literals ≡ true
 stored-literals [] h k w e = absurd cc
@@ -148,7 +123,7 @@ module _ (n : Net) (R : Range) (x : Setting) (r : Option Ty)
     safe-form k at (n_compare p op q) a d b h =
         let aa = no-algs (names_in p) (names_in q) a in let dd = divide-both (parts p) (parts q) d in let bb = bits-both (parts p) (parts q) b in
         let hh = sides-fit n r k op p q h in
-        (safe hh.0 p aa.0 dd.0 bb.0 hh.1, safe hh.0 q aa.1 dd.1 bb.1 hh.2)
+        (safe hh.kind p aa.0 dd.0 bb.0 hh.left, safe hh.kind q aa.1 dd.1 bb.1 hh.right)
     safe-form k at (n_and es) a d b h = safe-truths es a d b (and-right _ _ h)
     safe-form k at (n_or es) a d b h = safe-truths es a d b (and-right _ _ h)
     safe-form k at (n_implies p q) a d b h =
@@ -168,9 +143,11 @@ module _ (n : Net) (R : Range) (x : Setting) (r : Option Ty)
         let aa = no-algs (names_in e) (term_names es) a in
         let dd = divide-both (parts e) (sum_parts at first (add_term before m e) es) d in
         let bb = bits-both (parts e) (sum_parts at first (add_term before m e) es) b.1 in
-        let more = sum-more x (value_at x first) before m e in
-        (safe int_kind e aa.0 dd.0 bb.0 (and-left _ _ h), subst HasBits (sym more) b.0,
-        subst (λ z. AreSafeTerms x z es) (sym more) (safe-terms at first (add_term before m e) es aa.1 dd.1 bb.1 (and-right _ _ h)))
+        let more = sum-more x (value_at x first) before m e in (
+          safe int_kind e aa.0 dd.0 bb.0 (and-left _ _ h),
+          subst HasBits (sym more) b.0,
+          subst (λ z. AreSafeTerms x z es) (sym more) (safe-terms at first (add_term before m e) es aa.1 dd.1 bb.1 (and-right _ _ h)),
+        )
 
     safe-factors : (at : ℕ) (first : NetExpr) (before es : NetFactors) → NoAlg (factor_names es) → Divides (product_parts at first before es) → Bits (product_parts at first before es) → factors_fit n r es ≡ true
         → AreSafeFactors x (net_product x.algs x.state x.received (value_at x first) before) es
@@ -180,9 +157,12 @@ module _ (n : Net) (R : Range) (x : Setting) (r : Option Ty)
         let dd = divide-both (parts e) (product_parts at first (add_factor before op e) es) (and-right _ _ d) in
         let bb = bits-both (parts e) (product_parts at first (add_factor before op e) es) b.1 in
         let more = product-more x (value_at x first) before op e in
-        let can = can-divide op (range_of (declared_ranges n R) e) (value_at x e) (last-divides (declared_ranges n R) before op e (and-left _ _ d)) (lies e aa.0 dd.0) in
-        (safe int_kind e aa.0 dd.0 bb.0 (and-left _ _ h), can, subst HasBits (sym more) b.0,
-        subst (λ z. AreSafeFactors x z es) (sym more) (safe-factors at first (add_factor before op e) es aa.1 dd.1 bb.1 (and-right _ _ h)))
+        let can = can-divide op (range_of (declared_ranges n R) e) (value_at x e) (last-divides (declared_ranges n R) before op e (and-left _ _ d)) (lies e aa.0 dd.0) in (
+          safe int_kind e aa.0 dd.0 bb.0 (and-left _ _ h),
+          can,
+          subst HasBits (sym more) b.0,
+          subst (λ z. AreSafeFactors x z es) (sym more) (safe-factors at first (add_factor before op e) es aa.1 dd.1 bb.1 (and-right _ _ h)),
+        )
 
     safe-truths : (es : NetExprs) → NoAlg (list_names es) → Divides (list_parts es) → Bits (list_parts es) → all_fit n r es ≡ true → AreSafeTruths x es
     safe-truths no_net_exprs a d b h = tt
@@ -194,9 +174,12 @@ module _ (n : Net) (R : Range) (x : Setting) (r : Option Ty)
     safe-branches k no_net_branches a d b h = tt
     safe-branches k (net_branches c e bs) a d b h =
         let aa = no-algs (names_in c) (names_in e ++ branch_names bs) a in let dd = divide-both (parts c) (parts e ++ branch_parts bs) d in let bb = bits-both (parts c) (parts e ++ branch_parts bs) b in
-        let a2 = no-algs (names_in e) (branch_names bs) aa.1 in let d2 = divide-both (parts e) (branch_parts bs) dd.1 in let b2 = bits-both (parts e) (branch_parts bs) bb.1 in
-        (safe bool_kind c aa.0 dd.0 bb.0 (and-left _ _ (and-left _ _ h)), truth c aa.0 (and-left _ _ (and-left _ _ h)),
-        safe k e a2.0 d2.0 b2.0 (and-right _ _ (and-left _ _ h)), safe-branches k bs a2.1 d2.1 b2.1 (and-right _ _ h))
+        let a2 = no-algs (names_in e) (branch_names bs) aa.1 in let d2 = divide-both (parts e) (branch_parts bs) dd.1 in let b2 = bits-both (parts e) (branch_parts bs) bb.1 in (
+          safe bool_kind c aa.0 dd.0 bb.0 (and-left _ _ (and-left _ _ h)),
+          truth c aa.0 (and-left _ _ (and-left _ _ h)),
+          safe k e a2.0 d2.0 b2.0 (and-right _ _ (and-left _ _ h)),
+          safe-branches k bs a2.1 d2.1 b2.1 (and-right _ _ h),
+        )
 
 -- ---- plain nets
 

@@ -115,9 +115,10 @@ module _ (vars : List StVar) (w : Naming) (x : Setting) (base count : ℕ) (own 
   Parts i bs e o = HeldBranches vars w x o (i + 1) bs × Held vars w x o (i + 1 + branches_temps bs) e
 
   parts-kept : (i : ℕ) (bs : NetBranches) (e : NetExpr) → i + 1 + branches_temps bs + temps e ≤ count → (m o : Memory) → IsBeside (base + i) 1 m o → Parts i bs e m → Parts i bs e o
-  parts-kept i bs e top m o g h =
-      (branches-same vars w x base count own m o (i + 1) bs (omega arith) (same-after vars w x base count own m o (i + 1) (branches_temps bs) i 1 (omega arith) g) h.0,
-      held-same vars w x base count own m o (i + 1 + branches_temps bs) e (omega arith) (same-after vars w x base count own m o (i + 1 + branches_temps bs) (temps e) i 1 (omega arith) g) h.1)
+  parts-kept i bs e top m o g h = (
+    branches-same vars w x base count own m o (i + 1) bs (omega arith) (same-after vars w x base count own m o (i + 1) (branches_temps bs) i 1 (omega arith) g) h.0,
+    held-same vars w x base count own m o (i + 1 + branches_temps bs) e (omega arith) (same-after vars w x base count own m o (i + 1 + branches_temps bs) (temps e) i 1 (omega arith) g) h.1,
+  )
 
   set-runs : (i : ℕ) (bs : NetBranches) (e : NetExpr) → i + 1 + branches_temps bs + temps e ≤ count → ((o : Memory) → From o → AllByRecursion (IsRead vars w x o) (branch_names bs ++ names_in e)) → AreSafeBranches x bs → IsSafe x e
       → (turns : ℕ) (m : Memory) → From m → Parts i bs e m
@@ -141,9 +142,9 @@ module _ (vars : List StVar) (w : Naming) (x : Setting) (base count : ℕ) (own 
   if-runs i bs e top reads sbs se p q =
       let c = branches_temps bs in
       let kept = λ (m o : Memory) (g : IsBeside (base + (i + 1 + c)) (temps e) m o) (h : HeldBranches vars w x m (i + 1) bs).
-          branches-same vars w x base count own m o (i + 1) bs (omega arith) (same-before vars w x base count own m o (i + 1) c (i + 1 + c) (temps e) (omega arith) g) h in
+      branches-same vars w x base count own m o (i + 1) bs (omega arith) (same-before vars w x base count own m o (i + 1) c (i + 1 + c) (temps e) (omega arith) g) h in
       let inner = then-runs (branches_before w (i + 1) bs) (before w (i + 1 + c) e) (i + 1) c (i + 1 + c) (temps e) (i + 1) (c + temps e) (λ o. HeldBranches vars w x o (i + 1) bs) (λ o. Held vars w x o (i + 1 + c) e)
-          (omega arith) (omega arith) (omega arith) (omega arith) (omega arith) kept p (λ t o f h. q t o f) in
+      (omega arith) (omega arith) (omega arith) (omega arith) (omega arith) kept p (λ t o f h. q t o f) in
       let last = stms (case_text (w.own i) (branches_text w (w.own i) (i + 1) bs) (text w (i + 1 + c) e)) no_stms in
       regrouped (branches_before w (i + 1) bs) (before w (i + 1 + c) e) last i (1 + c + temps e) (λ o. Parts i bs e o × Set i bs e o) (λ o. HeldForm vars w x o i (n_if bs e))
       (λ o h. (h.0.0, h.0.1, h.1))
@@ -159,8 +160,8 @@ module _ (vars : List StVar) (w : Naming) (x : Setting) (base count : ℕ) (own 
   branch-runs k c e bs top p q r turns m from =
       let rest = next-runs (k + temps c) e (branches_before w (k + temps c + temps e) bs) (branches_temps bs) (λ o. HeldBranches vars w x o (k + temps c + temps e) bs) (omega arith) q r in
       let all = then-runs (before w k c) (append (before w (k + temps c) e) (branches_before w (k + temps c + temps e) bs)) k (temps c) (k + temps c) (temps e + branches_temps bs) k (temps c + temps e + branches_temps bs)
-          (λ o. Held vars w x o k c) (λ o. Held vars w x o (k + temps c) e × HeldBranches vars w x o (k + temps c + temps e) bs) (omega arith) (omega arith) (omega arith) (omega arith) (omega arith)
-          (held-after k c (k + temps c) (temps e + branches_temps bs) (omega arith) (omega arith)) p (λ t o f h. rest t o f) in
+      (λ o. Held vars w x o k c) (λ o. Held vars w x o (k + temps c) e × HeldBranches vars w x o (k + temps c + temps e) bs) (omega arith) (omega arith) (omega arith) (omega arith) (omega arith)
+      (held-after k c (k + temps c) (temps e + branches_temps bs) (omega arith) (omega arith)) p (λ t o f h. rest t o f) in
       let ran = all turns m from in
       record { after = ran.after; runs = ran.runs; beside = ran.beside; held = (ran.held.0, ran.held.1.0, ran.held.1.1) }
 

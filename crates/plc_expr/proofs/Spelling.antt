@@ -16,7 +16,7 @@ use Rattle.st_ast.specs.Tree.{Expr, Factors, Terms, Stms, Branches, truth, named
 use Rattle.st_ast.specs.Spelled.{has_literal, is_name, is_expr, are_exprs, are_terms, are_factors, is_whole_expr, is_stm, are_stms, are_branches}
 use Rattle.plc_expr.specs.Texts.{Naming, is_leaf, is_joined, is_test, is_factor, is_term, wrapped, operand, side, factor, term, number_text, negated, says, said, conjunction, said_or, disjunction, implication, comparison, sum_text, product_text, temps, branches_temps, text, form_text, terms_text, factors_text, texts, texts_or, branches_text, case_text, before, form_before, terms_before, factors_before, list_before, branches_before}
 use Rattle.plc_expr.specs.Sorts.{NamesAreSpelled}
-use Rattle.plc_expr.proofs.Plain.{sides-fit, number-small}
+use Rattle.plc_expr.proofs.Sides.{sides-fit, number-small}
 
 both-true : (a b : Bool) → a ≡ true → b ≡ true → (a && b) ≡ true
 both-true a b x y = rw x y
@@ -295,8 +295,8 @@ module _ (w : Naming) (n : Net) (names : NamesAreSpelled w n) (r : Option Ty) (a
         let d = max (depth a) (depth b) in
         let hh = sides-fit n r kind op a b h in
         up d 2 (comparison op (text w k a) (text w (k + temps a) b)) (omega arith)
-        (comparison-spelled op (most d) (text w k a) (text w (k + temps a) b) (within (depth a) d (text w k a) (omega arith) (expr-spelled hh.0 k a hh.1))
-        (within (depth b) d (text w (k + temps a) b) (omega arith) (expr-spelled hh.0 (k + temps a) b hh.2)))
+        (comparison-spelled op (most d) (text w k a) (text w (k + temps a) b) (within (depth a) d (text w k a) (omega arith) (expr-spelled hh.kind k a hh.left))
+        (within (depth b) d (text w (k + temps a) b) (omega arith) (expr-spelled hh.kind (k + temps a) b hh.right)))
     form-spelled kind k (n_and es) h =
         let d = (list_measure alg es).depth in
         up d 2 (conjunction (texts w k es)) (omega arith)
@@ -406,7 +406,7 @@ module _ (w : Naming) (n : Net) (names : NamesAreSpelled w n) (r : Option Ty) (a
           two (before w k e) (factors_before w (k + temps e) es) (before-spelled int_kind k e (and-right _ _ (and-left _ _ h)) (omega (arith, l))) (factors-before-spelled (k + temps e) es (and-right _ _ h) (omega (arith, l)))
       form-before-spelled kind k (n_compare a op b) h l =
           let hh = sides-fit n r kind op a b h in
-          two (before w k a) (before w (k + temps a) b) (before-spelled hh.0 k a hh.1 (omega (arith, l))) (before-spelled hh.0 (k + temps a) b hh.2 (omega (arith, l)))
+          two (before w k a) (before w (k + temps a) b) (before-spelled hh.kind k a hh.left (omega (arith, l))) (before-spelled hh.kind (k + temps a) b hh.right (omega (arith, l)))
       form-before-spelled kind k (n_and es) h l = list-before-spelled k es (and-right _ _ h) (omega (arith, l))
       form-before-spelled kind k (n_or es) h l = list-before-spelled k es (and-right _ _ h) (omega (arith, l))
       form-before-spelled kind k (n_implies a b) h l =

@@ -1,6 +1,6 @@
 //! What is proved of the texts of expressions, as laws that a proof reads off: each the contract of a function without a body.
 
-ghost use Rattle.std.specs.Prelude.{◌≡◌, ℕ, ◌+◌, ◌*◌, ◌≤◌, ℤ, true, IsTrue, List, length, Ok, Option, Some};
+ghost use Rattle.std.specs.Prelude.{◌≡◌, ℕ, ◌+◌, ◌*◌, ◌≤◌, ℤ, true, IsTrue, List, [], length, Ok, Option, Some};
 ghost use Rattle.std.specs.List.{AllByRecursion};
 ghost use Rattle.cif_base.specs.declared.types.Ty.{Ty};
 ghost use Rattle.cif_system.specs.System.{State, IsState, in_range};
@@ -8,18 +8,19 @@ ghost use Rattle.cif_system.specs.Words.{Member};
 ghost use Rattle.cif_term.specs.Tree.{NetExpr};
 ghost use Rattle.cif_model.specs.Net.{Net};
 ghost use Rattle.cif_model.specs.Meaning.{system_of_net, type_range};
-ghost use Rattle.cif_model.specs.Kinds.{Kind, fits};
+ghost use Rattle.cif_model.specs.Kinds.{Kind, is_bool, fits};
 ghost use Rattle.cif_model.specs.Counts.{Measure, measure_by};
 ghost use Rattle.cif_model.specs.Reads.{names_in, names_no_alg};
 ghost use Rattle.cif_model.specs.Rules.{Evaluated, evaluated, is_plain};
 ghost use Rattle.st_ast.specs.Values.{Memory, value_of};
+ghost use Rattle.st_ast.specs.Checks.{stms_faults};
 ghost use Rattle.st_ast.specs.Grammar.{at_or};
 ghost use Rattle.st_ast.specs.Spelled.{is_expr, are_stms};
 ghost use Rattle.st_ast.specs.declared.tree.StVar.{StVar};
 ghost use Rattle.plc_expr.specs.Texts.{Naming, temps, text, before};
 ghost use Rattle.plc_expr.specs.Safe.{Setting, setting_in, value_at, IsSafe};
 ghost use Rattle.plc_expr.specs.Held.{Reads, Held, IsThere, OwnPlaces, IsBeside, Prepares};
-ghost use Rattle.plc_expr.specs.Sorts.{NamesAreSpelled};
+ghost use Rattle.plc_expr.specs.Sorts.{own_types, is_boolean, HasSort, NamesHaveSorts, AreOwn, NamesAreSpelled};
 
 /// In each memory from which the names are read as they are in the setting, and in which the own variables hold what they
 /// are to hold, the text of a safe expression has the value of the expression, and no fault.
@@ -67,4 +68,30 @@ pub fn statements_before_a_text_have_a_spelling()
     ensures { (w : Naming) (n : Net) (r : Option Ty) (kind : Kind) (e : NetExpr) (alg : ℕ → Measure) (k d : ℕ) →
         NamesAreSpelled w n → fits n r kind e ≡ true → (measure_by alg e).depth ≤ 132 → 1 ≤ d →
         are_stms d (before w k e) ≡ true }
+{}
+
+/// Where the names are declared with their sorts, and the own variables with theirs, the text of an expression that has a
+/// kind and names no algebraic variable is BOOL where the kind is that of booleans, and else an integer.
+pub fn texts_have_the_sort()
+    ensures { (vars : List StVar) (w : Naming) (n : Net) (r : Option Ty) (kind : Kind) (k : ℕ) (e : NetExpr) →
+        NamesHaveSorts vars w n r → fits n r kind e ≡ true → names_no_alg e ≡ true →
+        AreOwn vars w k (own_types n r e) → HasSort vars (text w k e) (is_bool kind) }
+{}
+
+/// Nor do the statements before it break a check then, whatever their numbers.
+pub fn statements_before_a_text_break_no_check()
+    ensures { (vars : List StVar) (w : Naming) (n : Net) (r : Option Ty) (kind : Kind) (k j : ℕ) (e : NetExpr) →
+        NamesHaveSorts vars w n r → fits n r kind e ≡ true → names_no_alg e ≡ true →
+        AreOwn vars w k (own_types n r e) → stms_faults vars j (before w k e) ≡ [] }
+{}
+
+/// There are as many types of own variables as there are own variables.
+pub fn own_variables_have_types()
+    ensures { (n : Net) (r : Option Ty) (e : NetExpr) → length (own_types n r e) ≡ temps e }
+{}
+
+/// An expression that has a kind, and names no algebraic variable, is true or false where the kind is that of booleans alone.
+pub fn kinds_tell_what_is_boolean()
+    ensures { (n : Net) (r : Option Ty) (kind : Kind) (e : NetExpr) → fits n r kind e ≡ true → names_no_alg e ≡ true →
+        is_boolean n r e ≡ is_bool kind }
 {}
