@@ -21,7 +21,7 @@ use Rattle.st_ast.specs.declared.tree.StMul.{StMul}
 use Rattle.st_ast.specs.declared.tree.StOrder.{StOrder}
 use Rattle.st_ast.specs.declared.tree.StOrder.TheVariants as cmp
 use Rattle.st_ast.specs.declared.tree.StTy.{StTy}
-use Rattle.plc_expr.specs.Texts.{Naming, is_leaf, is_joined, is_test, is_factor, is_term, wrapped, operand, side, factor, term, number_text, negated, conjunction, said_or, disjunction, implication, comparison, mul_of, sum_text, product_text, temps, form_temps, terms_temps, factors_temps, list_temps, branches_temps, text, form_text, terms_text, factors_text, texts, texts_or}
+use Rattle.plc_expr.specs.Texts.{Naming, is_leaf, is_joined, is_test, is_factor, is_term, wrapped, operand, side, factor, term, number_text, negated, all_said, conjunction, said_or, all_said_or, disjunction, implication, comparison, mul_of, sum_text, product_text, temps, form_temps, terms_temps, factors_temps, list_temps, branches_temps, text, form_text, terms_text, factors_text, texts}
 use Rattle.plc_expr.specs.Sorts.{is_bool_type, stored_boolean, received_boolean, is_boolean, form_boolean, sort_by, type_by, own_types, form_types, terms_types, factors_types, list_types, branches_types, HasSort, NamesHaveSorts, OwnIs, AreOwn}
 use Rattle.plc_expr.proofs.Sides.{sides-fit}
 use Rattle.plc_expr.proofs.Spelling.{said-all, said_or-all}
@@ -337,8 +337,8 @@ module _ (vars : List StVar) where
             let aa = no-algs (names_in p) (names_in q) a in let oo = own-two k p q o in let hh = sides-fit n r kind op p q h in
             as-bool kind (comparison op (text w k p) (text w (k + temps p) q)) (and-left _ _ h)
             (comparison-sort op (text w k p) (text w (k + temps p) q) (is_bool hh.kind) hh.ordered (expr-sort hh.kind k p hh.left aa.0 oo.0) (expr-sort hh.kind (k + temps p) q hh.right aa.1 oo.1))
-        form-sort kind k (n_and es) h a o = as-bool kind (conjunction (texts w k es)) (and-left _ _ h) (conjunction-sort (texts w k es) (all-sort k es (and-right _ _ h) a o))
-        form-sort kind k (n_or es) h a o = as-bool kind (disjunction (texts_or w k es)) (and-left _ _ h) (disjunction-sort (texts_or w k es) (any-sort k es (and-right _ _ h) a o))
+        form-sort kind k (n_and es) h a o = as-bool kind (conjunction (all_said (texts w k es))) (and-left _ _ h) (conjunction-sort (all_said (texts w k es)) (all-sort k es (and-right _ _ h) a o))
+        form-sort kind k (n_or es) h a o = as-bool kind (disjunction (all_said_or (texts w k es))) (and-left _ _ h) (disjunction-sort (all_said_or (texts w k es)) (any-sort k es (and-right _ _ h) a o))
         form-sort kind k (n_implies p q) h a o =
             let aa = no-algs (names_in p) (names_in q) a in let oo = own-two k p q o in
             as-bool kind (implication (text w k p) (text w (k + temps p) q)) (and-left _ _ (and-left _ _ h))
@@ -361,14 +361,14 @@ module _ (vars : List StVar) where
             let aa = no-algs (names_in e) (factor_names es) a in let oo = own-both k (temps e) (own_types n r e) (factors_types n r es) (types-length n r e) o in
             more-factors (mul_of op) (text w k e) (factors_text w (k + temps e) es) (expr-sort int_kind k e (and-left _ _ h) aa.0 oo.0) (factors-sort (k + temps e) es (and-right _ _ h) aa.1 oo.1)
 
-        all-sort : (k : ℕ) (es : NetExprs) → all_fit n r es ≡ true → NoAlg (list_names es) → Own k (list_types n r es) → AllTrue (texts w k es)
+        all-sort : (k : ℕ) (es : NetExprs) → all_fit n r es ≡ true → NoAlg (list_names es) → Own k (list_types n r es) → AllTrue (all_said (texts w k es))
         all-sort k no_net_exprs h a o = tt
         all-sort k (net_exprs e es) h a o =
             let aa = no-algs (names_in e) (list_names es) a in let oo = own-both k (temps e) (own_types n r e) (list_types n r es) (types-length n r e) o in
-            said-all (λ d. HasSort vars d true) (text w k e) (texts w (k + temps e) es) (expr-sort bool_kind k e (and-left _ _ h) aa.0 oo.0) (all-sort (k + temps e) es (and-right _ _ h) aa.1 oo.1)
+            said-all (λ d. HasSort vars d true) (text w k e) (all_said (texts w (k + temps e) es)) (expr-sort bool_kind k e (and-left _ _ h) aa.0 oo.0) (all-sort (k + temps e) es (and-right _ _ h) aa.1 oo.1)
 
-        any-sort : (k : ℕ) (es : NetExprs) → all_fit n r es ≡ true → NoAlg (list_names es) → Own k (list_types n r es) → AllTrue (texts_or w k es)
+        any-sort : (k : ℕ) (es : NetExprs) → all_fit n r es ≡ true → NoAlg (list_names es) → Own k (list_types n r es) → AllTrue (all_said_or (texts w k es))
         any-sort k no_net_exprs h a o = tt
         any-sort k (net_exprs e es) h a o =
             let aa = no-algs (names_in e) (list_names es) a in let oo = own-both k (temps e) (own_types n r e) (list_types n r es) (types-length n r e) o in
-            said_or-all (λ d. HasSort vars d true) (text w k e) (texts_or w (k + temps e) es) (expr-sort bool_kind k e (and-left _ _ h) aa.0 oo.0) (any-sort (k + temps e) es (and-right _ _ h) aa.1 oo.1)
+            said_or-all (λ d. HasSort vars d true) (text w k e) (all_said_or (texts w (k + temps e) es)) (expr-sort bool_kind k e (and-left _ _ h) aa.0 oo.0) (any-sort (k + temps e) es (and-right _ _ h) aa.1 oo.1)

@@ -14,7 +14,7 @@ use Rattle.cif_model.proofs.Passing.{and-left, and-right}
 use Rattle.st_ast.specs.Grammar.{Level, at_or, at_xor, at_equal, at_order, at_sum, at_product, at_unary}
 use Rattle.st_ast.specs.Tree.{Expr, Factors, Terms, Stms, Branches, truth, named, negation, complement, product, sum, order, equal, all_of, odd_of, any_of, absolute, least, greatest, exprs_of, no_factors, factors, no_terms, terms, assign, no_stms, stms, no_branches, branches, append}
 use Rattle.st_ast.specs.Spelled.{has_literal, is_name, is_expr, are_exprs, are_terms, are_factors, is_whole_expr, is_stm, are_stms, are_branches}
-use Rattle.plc_expr.specs.Texts.{Naming, is_leaf, is_joined, is_test, is_factor, is_term, wrapped, operand, side, factor, term, number_text, negated, says, said, conjunction, said_or, disjunction, implication, comparison, sum_text, product_text, temps, branches_temps, text, form_text, terms_text, factors_text, texts, texts_or, branches_text, case_text, before, form_before, terms_before, factors_before, list_before, branches_before}
+use Rattle.plc_expr.specs.Texts.{Naming, is_leaf, is_joined, is_test, is_factor, is_term, wrapped, operand, side, factor, term, number_text, negated, says, said, all_said, conjunction, said_or, all_said_or, disjunction, implication, comparison, sum_text, product_text, temps, branches_temps, text, form_text, terms_text, factors_text, texts, branches_text, case_text, before, form_before, terms_before, factors_before, list_before, branches_before}
 use Rattle.plc_expr.specs.Sorts.{NamesAreSpelled}
 use Rattle.plc_expr.proofs.Sides.{sides-fit, number-small}
 
@@ -299,12 +299,12 @@ module _ (w : Naming) (n : Net) (names : NamesAreSpelled w n) (r : Option Ty) (a
         (within (depth b) d (text w (k + temps a) b) (omega arith) (expr-spelled hh.kind (k + temps a) b hh.right)))
     form-spelled kind k (n_and es) h =
         let d = (list_measure alg es).depth in
-        up d 2 (conjunction (texts w k es)) (omega arith)
-        (wider (most d + 1 + 1) (most d + 2) (conjunction (texts w k es)) (omega arith) (conjunction-spelled (most d + 1) (texts w k es) (all-spelled k es d (omega arith) (and-right _ _ h))))
+        up d 2 (conjunction (all_said (texts w k es))) (omega arith)
+        (wider (most d + 1 + 1) (most d + 2) (conjunction (all_said (texts w k es))) (omega arith) (conjunction-spelled (most d + 1) (all_said (texts w k es)) (all-spelled k es d (omega arith) (and-right _ _ h))))
     form-spelled kind k (n_or es) h =
         let d = (list_measure alg es).depth in
-        up d 2 (disjunction (texts_or w k es)) (omega arith)
-        (wider (most d + 1 + 1) (most d + 2) (disjunction (texts_or w k es)) (omega arith) (disjunction-spelled (most d + 1) (texts_or w k es) (any-spelled k es d (omega arith) (and-right _ _ h))))
+        up d 2 (disjunction (all_said_or (texts w k es))) (omega arith)
+        (wider (most d + 1 + 1) (most d + 2) (disjunction (all_said_or (texts w k es))) (omega arith) (disjunction-spelled (most d + 1) (all_said_or (texts w k es)) (any-spelled k es d (omega arith) (and-right _ _ h))))
     form-spelled kind k (n_implies a b) h =
         let d = max (depth a) (depth b) in
         up d 3 (implication (text w k a) (text w (k + temps a) b)) (omega arith)
@@ -331,17 +331,17 @@ module _ (w : Naming) (n : Net) (names : NamesAreSpelled w n) (r : Option Ty) (a
         (factor-spelled (most (depth e)) j (text w k e) (expr-spelled int_kind k e (and-left _ _ h)) (omega (arith, more)))
         (factors-spelled (k + temps e) es (and-right _ _ h) j (omega (arith, more)))
 
-    all-spelled : (k : ℕ) (es : NetExprs) (d : ℕ) → (list_measure alg es).depth ≤ d → all_fit n r es ≡ true → AllByRecursion (Part at_equal (most d + 1)) (texts w k es)
+    all-spelled : (k : ℕ) (es : NetExprs) (d : ℕ) → (list_measure alg es).depth ≤ d → all_fit n r es ≡ true → AllByRecursion (Part at_equal (most d + 1)) (all_said (texts w k es))
     all-spelled k no_net_exprs d l h = tt
     all-spelled k (net_exprs e es) d l h =
-        said-all (Part at_equal (most d + 1)) (text w k e) (texts w (k + temps e) es)
+        said-all (Part at_equal (most d + 1)) (text w k e) (all_said (texts w (k + temps e) es))
         (part at_equal joined-equal (most d) (text w k e) (within (depth e) d (text w k e) (omega (arith, l)) (expr-spelled bool_kind k e (and-left _ _ h))))
         (all-spelled (k + temps e) es d (omega (arith, l)) (and-right _ _ h))
 
-    any-spelled : (k : ℕ) (es : NetExprs) (d : ℕ) → (list_measure alg es).depth ≤ d → all_fit n r es ≡ true → AllByRecursion (Part at_xor (most d + 1)) (texts_or w k es)
+    any-spelled : (k : ℕ) (es : NetExprs) (d : ℕ) → (list_measure alg es).depth ≤ d → all_fit n r es ≡ true → AllByRecursion (Part at_xor (most d + 1)) (all_said_or (texts w k es))
     any-spelled k no_net_exprs d l h = tt
     any-spelled k (net_exprs e es) d l h =
-        said_or-all (Part at_xor (most d + 1)) (text w k e) (texts_or w (k + temps e) es)
+        said_or-all (Part at_xor (most d + 1)) (text w k e) (all_said_or (texts w (k + temps e) es))
         (part at_xor joined-xor (most d) (text w k e) (within (depth e) d (text w k e) (omega (arith, l)) (expr-spelled bool_kind k e (and-left _ _ h))))
         (any-spelled (k + temps e) es d (omega (arith, l)) (and-right _ _ h))
 

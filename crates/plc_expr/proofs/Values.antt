@@ -14,7 +14,7 @@ use Rattle.st_ast.specs.Tree.{Expr, Factors, Terms, truth, negation, complement,
 use Rattle.st_ast.specs.Values.{Fault, Memory, of_bool, is_true, value_of, joined, with_value, both, checked, added, are_equal, holds, sum_on, product_on, multiplied, smaller, larger}
 use Rattle.st_ast.specs.declared.tree.StVar.{StVar}
 use Rattle.st_ast.specs.declared.tree.StOrder.{StOrder}
-use Rattle.plc_expr.specs.Texts.{Naming, is_leaf, wrapped, is_joined, is_test, is_factor, is_term, operand, side, factor, term, number_text, negated, says, said, conjunction, said_or, disjunction, implication, comparison, mul_of, sum_text, product_text, temps, text, form_text, terms_text, factors_text, texts, texts_or}
+use Rattle.plc_expr.specs.Texts.{Naming, is_leaf, wrapped, is_joined, is_test, is_factor, is_term, operand, side, factor, term, number_text, negated, says, said, all_said, conjunction, said_or, all_said_or, disjunction, implication, comparison, mul_of, sum_text, product_text, temps, text, form_text, terms_text, factors_text, texts}
 use Rattle.plc_expr.specs.Safe.{Setting, value_at, IsTruth, IsSafe, IsSafeForm, AreSafeTerms, AreSafeFactors, AreSafeTruths}
 use Rattle.plc_expr.specs.Held.{IsRead, Reads, Held, HeldForm, HeldTerms, HeldFactors, HeldList}
 use Rattle.plc_expr.proofs.Numbers.{same-truth, same-equal, same-least, same-greatest, bits-more, checked-is, same-added, same-product}
@@ -239,8 +239,8 @@ module _ (vars : List StVar) (m : Memory) where
       form-value k (n_compare a op b) r s h =
           let q = all-parts (IsRead vars w x m) (names_in a) (names_in b) r in
           comparison-value op (text w k a) (text w (k + temps a) b) (value_at x a) (value_at x b) (text-value k a q.0 s.0 h.0) (text-value (k + temps a) b q.1 s.1 h.1)
-      form-value k (n_and es) r s h = conjunction-value (texts w k es) (v.net_all x.algs x.state x.received es) (all-value k es r s h) ∙ ap Ok (same-truth _)
-      form-value k (n_or es) r s h = disjunction-value (texts_or w k es) (v.net_any x.algs x.state x.received es) (any-value k es r s h) ∙ ap Ok (same-truth _)
+      form-value k (n_and es) r s h = conjunction-value (all_said (texts w k es)) (v.net_all x.algs x.state x.received es) (all-value k es r s h) ∙ ap Ok (same-truth _)
+      form-value k (n_or es) r s h = disjunction-value (all_said_or (texts w k es)) (v.net_any x.algs x.state x.received es) (any-value k es r s h) ∙ ap Ok (same-truth _)
       form-value k (n_implies a b) r s h =
           let q = all-parts (IsRead vars w x m) (names_in a) (names_in b) r in
           implication-value (text w k a) (text w (k + temps a) b) (v.is_true (value_at x a)) (v.is_true (value_at x b))
@@ -267,16 +267,16 @@ module _ (vars : List StVar) (m : Memory) where
           factor-value op (text w k e) (factors_text w (k + temps e) es) z (value_at x e) _ (text-value k e q.0 s.0 h.0) s.1 s.2
           (factors-value (k + temps e) es (v.multiplied op z (value_at x e)) q.1 s.3 h.1)
 
-      all-value : (k : ℕ) (es : NetExprs) → AllByRecursion (IsRead vars w x m) (list_names es) → AreSafeTruths x es → HeldList vars w x m k es → Joint (texts w k es) (v.net_all x.algs x.state x.received es)
+      all-value : (k : ℕ) (es : NetExprs) → AllByRecursion (IsRead vars w x m) (list_names es) → AreSafeTruths x es → HeldList vars w x m k es → Joint (all_said (texts w k es)) (v.net_all x.algs x.state x.received es)
       all-value k no_net_exprs r s h = refl
       all-value k (net_exprs e es) r s h =
           let q = all-parts (IsRead vars w x m) (names_in e) (list_names es) r in
-          said-joint (text w k e) (texts w (k + temps e) es) (v.is_true (value_at x e)) (v.net_all x.algs x.state x.received es)
+          said-joint (text w k e) (all_said (texts w (k + temps e) es)) (v.is_true (value_at x e)) (v.net_all x.algs x.state x.received es)
           (as-truth (text w k e) (value_at x e) s.1 (text-value k e q.0 s.0 h.0)) (all-value (k + temps e) es q.1 s.2 h.1)
 
-      any-value : (k : ℕ) (es : NetExprs) → AllByRecursion (IsRead vars w x m) (list_names es) → AreSafeTruths x es → HeldList vars w x m k es → Either (texts_or w k es) (v.net_any x.algs x.state x.received es)
+      any-value : (k : ℕ) (es : NetExprs) → AllByRecursion (IsRead vars w x m) (list_names es) → AreSafeTruths x es → HeldList vars w x m k es → Either (all_said_or (texts w k es)) (v.net_any x.algs x.state x.received es)
       any-value k no_net_exprs r s h = refl
       any-value k (net_exprs e es) r s h =
           let q = all-parts (IsRead vars w x m) (names_in e) (list_names es) r in
-          said-either (text w k e) (texts_or w (k + temps e) es) (v.is_true (value_at x e)) (v.net_any x.algs x.state x.received es)
+          said-either (text w k e) (all_said_or (texts w (k + temps e) es)) (v.is_true (value_at x e)) (v.net_any x.algs x.state x.received es)
           (as-truth (text w k e) (value_at x e) s.1 (text-value k e q.0 s.0 h.0)) (any-value (k + temps e) es q.1 s.2 h.1)

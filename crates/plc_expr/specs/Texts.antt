@@ -98,6 +98,10 @@ says _ = true
 abbrev pub said : Expr → List Expr → List Expr
 said e es = if says e then e ∷ es else es
 
+abbrev pub all_said : List Expr → List Expr
+all_said [] = []
+all_said (e ∷ es) = said e (all_said es)
+
 abbrev pub conjunction : List Expr → Expr
 conjunction [] = truth true
 conjunction (e ∷ []) = e
@@ -108,6 +112,10 @@ abbrev pub said_or : Expr → List Expr → List Expr
 said_or (truth true) es = truth true ∷ []
 said_or (truth false) es = es
 said_or e es = e ∷ es
+
+abbrev pub all_said_or : List Expr → List Expr
+all_said_or [] = []
+all_said_or (e ∷ es) = said_or e (all_said_or es)
 
 abbrev pub disjunction : List Expr → Expr
 disjunction [] = truth false
@@ -205,8 +213,8 @@ abbrev mutual
   form_text w k (n_sum e es) = sum_text (text w k e) (terms_text w (k + temps e) es)
   form_text w k (n_product e es) = product_text (text w k e) (factors_text w (k + temps e) es)
   form_text w k (n_compare a op b) = comparison op (text w k a) (text w (k + temps a) b)
-  form_text w k (n_and es) = conjunction (texts w k es)
-  form_text w k (n_or es) = disjunction (texts_or w k es)
+  form_text w k (n_and es) = conjunction (all_said (texts w k es))
+  form_text w k (n_or es) = disjunction (all_said_or (texts w k es))
   form_text w k (n_implies a b) = implication (text w k a) (text w (k + temps a) b)
   form_text w k (n_iff a b) = equal (side (text w k a)) true (side (text w (k + temps a) b))
   form_text w k (n_if bs e) = named (w.own k)
@@ -221,11 +229,7 @@ abbrev mutual
 
   pub texts : Naming → ℕ → NetExprs → List Expr
   texts w k no_net_exprs = []
-  texts w k (net_exprs e es) = said (text w k e) (texts w (k + temps e) es)
-
-  pub texts_or : Naming → ℕ → NetExprs → List Expr
-  texts_or w k no_net_exprs = []
-  texts_or w k (net_exprs e es) = said_or (text w k e) (texts_or w (k + temps e) es)
+  texts w k (net_exprs e es) = text w k e ∷ texts w (k + temps e) es
 
 -- ---- the statements before it
 
