@@ -5,21 +5,10 @@ use Rattle.std.proofs.lemmas.Option.{unwrap_or-slice_get}
 use Rattle.cif_term.specs.Tree.{NetExpr, net_expr, NetForm, n_truth, n_number, n_loc, n_var, n_input, n_alg, n_received, n_minus, n_plus, n_not, n_abs, n_min, n_max, n_sum, n_product, n_compare, n_and, n_or, n_implies, n_iff, n_if, NetExprs, no_net_exprs, net_exprs, NetTerms, no_net_terms, net_terms, NetFactors, no_net_factors, net_factors, NetBranches, no_net_branches, net_branches}
 use Rattle.st_ast.specs.Values.{Memory}
 use Rattle.st_ast.specs.declared.tree.StVar.{StVar}
+use Rattle.plc_face.proofs.FaceLaws.{slice_get-set_same, slice_get-set_other}
 use Rattle.plc_expr.specs.Texts.{Naming, temps, form_temps, terms_temps, factors_temps, list_temps, branches_temps}
 use Rattle.plc_expr.specs.Safe.{Setting}
 use Rattle.plc_expr.specs.Held.{held_at, Held, HeldForm, HeldTerms, HeldFactors, HeldList, HeldBranches, OwnPlaces, IsBeside}
-
-slice_get-set_same : {A : Type 0} (xs : List A) (k : ℕ) (x : A) → k < length xs → slice_get (slice_set xs k x) k ≡ Some x
-slice_get-set_same [] k x h = absurd (omega arith)
-slice_get-set_same (y ∷ xs) zero x h = refl
-slice_get-set_same (y ∷ xs) (suc k) x h = slice_get-set_same xs k x (omega arith)
-
-slice_get-set_other : {A : Type 0} (xs : List A) (k j : ℕ) (x : A) → j ≢ k → slice_get (slice_set xs k x) j ≡ slice_get xs j
-slice_get-set_other [] k j x h = refl
-slice_get-set_other (y ∷ xs) zero zero x h = absurd (h refl)
-slice_get-set_other (y ∷ xs) zero (suc j) x h = refl
-slice_get-set_other (y ∷ xs) (suc k) zero x h = refl
-slice_get-set_other (y ∷ xs) (suc k) (suc j) x h = slice_get-set_other xs k j x (λ e. h (ap suc e))
 
 -- what is read at a place is told from the place
 pub same-read : (a b : Memory) (j : ℕ) → slice_get a j ≡ slice_get b j → slice_index_or a j (pos 0) ≡ slice_index_or b j (pos 0)

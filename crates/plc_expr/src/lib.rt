@@ -2,6 +2,7 @@
 #![tactic(auto)]
 
 mod laws;
+mod shapes;
 
 pub use laws::{
     kinds_tell_what_is_boolean, named_things_are_there, own_variables_have_types,
