@@ -3,3 +3,4 @@ pub mod Safe
 pub mod Held
 pub mod Sorts
 pub mod Shapes
+pub mod Written

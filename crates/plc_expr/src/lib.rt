@@ -1,7 +1,9 @@
 //! Expressions of a net as Structured Text: the expression, and the statements that are executed before it.
 #![tactic(auto)]
 
+mod draft;
 mod laws;
+mod names;
 mod shapes;
 
 pub use laws::{

@@ -1,4 +1,4 @@
-use Rattle.plc_expr.proofs.Names.{there}
+use Rattle.plc_expr.proofs.There.{there}
 use Rattle.plc_expr.proofs.laws.named_things_are_there.Goals as goal
 
 pub returns : goal.returns
