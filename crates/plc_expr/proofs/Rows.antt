@@ -200,9 +200,8 @@ ors : shown (n_or (net_exprs at_2 (net_exprs (e (n_truth false)) (net_exprs (e (
 unfolding digits
 ors = refl
 
-nothing_after_true : shown (n_or (net_exprs at_2 (net_exprs (e (n_truth true)) (net_exprs x no_net_exprs)))) ≡ any_of (exprs At_2 (exprs (truth true) no_exprs))
-unfolding digits
-nothing_after_true = refl
+false_alone : shown (n_or (net_exprs (e (n_truth false)) no_net_exprs)) ≡ truth false
+false_alone = refl
 
 -- NOT (L1 = 2) OR V0
 implications : shown (n_implies at_2 x) ≡ any_of (exprs (complement (paren At_2)) (exprs X no_exprs))

@@ -192,8 +192,9 @@ module _ (vars : List StVar) where
   disjunction-sort (e ∷ d ∷ es) h = let all = operands-sort (e ∷ d ∷ es) h in (all.0, rw all.1 refl)
 
   implication-sort : (p q : Expr) → HasSort vars p true → HasSort vars q true → HasSort vars (implication p q) true
+  implication-sort (truth false) q h g = (refl, refl)
   implication-sort p q h g =
-      disjunction-sort (said_or (negated p) (said_or q []))
+      disjunction-sort (all_said_or (negated p ∷ q ∷ []))
       (said_or-all (λ e. HasSort vars e true) (negated p) (said_or q []) (negated-sort p h) (said_or-all (λ e. HasSort vars e true) q [] g tt))
 
   same-sort : (b : Bool) → is_same_sort (Some (sort_by b)) (Some (sort_by b)) ≡ true

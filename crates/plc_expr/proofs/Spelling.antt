@@ -14,7 +14,7 @@ use Rattle.cif_model.proofs.Passing.{and-left, and-right}
 use Rattle.st_ast.specs.Grammar.{Level, at_or, at_xor, at_equal, at_order, at_sum, at_product, at_unary}
 use Rattle.st_ast.specs.Tree.{Expr, Factors, Terms, Stms, Branches, truth, named, negation, complement, product, sum, order, equal, all_of, odd_of, any_of, absolute, least, greatest, exprs_of, no_factors, factors, no_terms, terms, assign, no_stms, stms, no_branches, branches, append}
 use Rattle.st_ast.specs.Spelled.{has_literal, is_name, is_expr, are_exprs, are_terms, are_factors, is_whole_expr, is_stm, are_stms, are_branches}
-use Rattle.plc_expr.specs.Texts.{Naming, is_leaf, is_joined, is_test, is_factor, is_term, wrapped, operand, side, factor, term, number_text, negated, says, said, all_said, conjunction, said_or, all_said_or, disjunction, implication, comparison, sum_text, product_text, temps, branches_temps, text, form_text, terms_text, factors_text, texts, branches_text, case_text, before, form_before, terms_before, factors_before, list_before, branches_before}
+use Rattle.plc_expr.specs.Texts.{Naming, is_leaf, is_joined, is_test, is_factor, is_term, wrapped, operand, side, factor, term, number_text, negated, says, said, all_said, conjunction, says_or, said_or, all_said_or, disjunction, implication, comparison, sum_text, product_text, temps, branches_temps, text, form_text, terms_text, factors_text, texts, branches_text, case_text, before, form_before, terms_before, factors_before, list_before, branches_before}
 use Rattle.plc_expr.specs.Sorts.{NamesAreSpelled}
 use Rattle.plc_expr.proofs.Sides.{sides-fit, number-small}
 
@@ -153,14 +153,17 @@ said-all P e es h all = go (says e)
     go false = all
 
 pub said_or-all : (P : Expr → Type 0) (e : Expr) (es : List Expr) → P e → AllByRecursion P es → AllByRecursion P (said_or e es)
-said_or-all P (truth true) es h all = (h, tt)
-said_or-all P (truth false) es h all = all
-said_or-all P e es h all = (h, all)
+said_or-all P e es h all = go (says_or e)
+  where
+    go : (t : Bool) → AllByRecursion P (if t then e ∷ es else es)
+    go true = (h, all)
+    go false = all
 
 implication-spelled : (b : ℕ) (p q : Expr) → Within b p → Within b q → Within (b + 3) (implication p q)
+implication-spelled b (truth false) q h g = λ k more. refl
 implication-spelled b p q h g =
     wider (b + 2 + 1) (b + 3) (implication p q) (omega arith)
-    (disjunction-spelled (b + 2) (said_or (negated p) (said_or q []))
+    (disjunction-spelled (b + 2) (all_said_or (negated p ∷ q ∷ []))
     (said_or-all (Part at_xor (b + 2)) (negated p) (said_or q []) (negated-part b p h)
     (said_or-all (Part at_xor (b + 2)) q [] (wider-part at_xor (b + 1) (b + 2) q (omega arith) (part at_xor joined-xor b q g)) tt)))
 

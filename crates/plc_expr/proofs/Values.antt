@@ -14,7 +14,7 @@ use Rattle.st_ast.specs.Tree.{Expr, Factors, Terms, truth, negation, complement,
 use Rattle.st_ast.specs.Values.{Fault, Memory, of_bool, is_true, value_of, joined, with_value, both, checked, added, are_equal, holds, sum_on, product_on, multiplied, smaller, larger}
 use Rattle.st_ast.specs.declared.tree.StVar.{StVar}
 use Rattle.st_ast.specs.declared.tree.StOrder.{StOrder}
-use Rattle.plc_expr.specs.Texts.{Naming, is_leaf, wrapped, is_joined, is_test, is_factor, is_term, operand, side, factor, term, number_text, negated, says, said, all_said, conjunction, said_or, all_said_or, disjunction, implication, comparison, mul_of, sum_text, product_text, temps, text, form_text, terms_text, factors_text, texts}
+use Rattle.plc_expr.specs.Texts.{Naming, is_leaf, wrapped, is_joined, is_test, is_factor, is_term, operand, side, factor, term, number_text, negated, says, said, all_said, conjunction, says_or, said_or, all_said_or, disjunction, implication, comparison, mul_of, sum_text, product_text, temps, text, form_text, terms_text, factors_text, texts}
 use Rattle.plc_expr.specs.Safe.{Setting, value_at, IsTruth, IsSafe, IsSafeForm, AreSafeTerms, AreSafeFactors, AreSafeTruths}
 use Rattle.plc_expr.specs.Held.{IsRead, Reads, Held, HeldForm, HeldTerms, HeldFactors, HeldList}
 use Rattle.plc_expr.proofs.Numbers.{same-truth, same-equal, same-least, same-greatest, bits-more, checked-is, same-added, same-product}
@@ -131,18 +131,23 @@ module _ (vars : List StVar) (m : Memory) where
   disjunction-value (e ∷ []) b h = h.2 ∙ ap (λ c. Ok (of_bool c)) (sym (or-false h.0 h.1 b h.3 h.4))
   disjunction-value (e ∷ d ∷ es) b h = either-value (e ∷ d ∷ es) false b h
 
-  after-true : (x y : Bool) → true ≡ x → (x || y) ≡ (true || false)
-  after-true x y h = ap (λ c. c || y) (sym h)
+  -- what says nothing doesn't hold
+  silent-or : (e : Expr) (b : Bool) → says_or e ≡ false → Holds e b → b ≡ false
+  silent-or (truth false) b q h = sym (truth-same b false h)
+  silent-or e b q h = absurd cc
 
   said-either : (e : Expr) (es : List Expr) (x y : Bool) → Holds e x → Either es y → Either (said_or e es) (x || y)
-  said-either (truth true) es x y h t = (true, false, refl, refl, after-true x y (truth-same x true h))
-  said-either (truth false) es x y h t = subst (λ c. Either es (c || y)) (truth-same x false h) t
-  said-either e es x y h t = (x, y, h, t, refl)
+  said-either e es x y h t = go (says_or e) refl
+    where
+      go : (b : Bool) → says_or e ≡ b → Either (if b then e ∷ es else es) (x || y)
+      go true q = (x, y, h, t, refl)
+      go false q = subst (λ c. Either es (c || y)) (sym (silent-or e x q h)) t
 
   implication-value : (a b : Expr) (x y : Bool) → Holds a x → Holds b y → Holds (implication a b) (not x || y)
+  implication-value (truth false) b x y h g = ap (λ c. Ok (of_bool (not c || y))) (truth-same x false h)
   implication-value a b x y h g =
-      disjunction-value (said_or (negated a) (said_or b [])) (not x || y)
-      (subst (λ c. Either (said_or (negated a) (said_or b [])) (not x || c)) (or-false y false (y || false) refl refl)
+      disjunction-value (all_said_or (negated a ∷ b ∷ [])) (not x || y)
+      (subst (λ c. Either (all_said_or (negated a ∷ b ∷ [])) (not x || c)) (or-false y false (y || false) refl refl)
       (said-either (negated a) (said_or b []) (not x) (y || false) (negated-value a x h) (said-either b [] y false g refl)))
 
   -- ---- comparisons

@@ -107,11 +107,14 @@ conjunction [] = truth true
 conjunction (e ∷ []) = e
 conjunction (e ∷ d ∷ es) = all_of (exprs_of (map operand (e ∷ d ∷ es)))
 
--- Of a disjunction those operands that aren't `FALSE`, and none after a `TRUE`
+-- whether it is more than `FALSE`
+abbrev pub says_or : Expr → Bool
+says_or (truth b) = b
+says_or _ = true
+
+-- Of a disjunction those operands that aren't `FALSE`. It stands for itself where it has one operand.
 abbrev pub said_or : Expr → List Expr → List Expr
-said_or (truth true) es = truth true ∷ []
-said_or (truth false) es = es
-said_or e es = e ∷ es
+said_or e es = if says_or e then e ∷ es else es
 
 abbrev pub all_said_or : List Expr → List Expr
 all_said_or [] = []
@@ -122,9 +125,10 @@ disjunction [] = truth false
 disjunction (e ∷ []) = e
 disjunction (e ∷ d ∷ es) = any_of (exprs_of (map operand (e ∷ d ∷ es)))
 
--- `NOT a OR b`
+-- `NOT a OR b`, and `TRUE` where a is `FALSE`
 abbrev pub implication : Expr → Expr → Expr
-implication a b = disjunction (said_or (negated a) (said_or b []))
+implication (truth false) b = truth true
+implication a b = disjunction (all_said_or (negated a ∷ b ∷ []))
 
 abbrev pub comparison : CmpOp → Expr → Expr → Expr
 comparison eq a b = equal (side a) true (side b)

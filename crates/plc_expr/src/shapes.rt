@@ -2,7 +2,7 @@
 
 ghost use Rattle.std.specs.Prelude.{◌≡◌, IfOk};
 ghost use Rattle.st_ast.specs.View.{view_expr};
-ghost use Rattle.plc_expr.specs.Texts.{factor, negated, operand, side, term, wrapped};
+ghost use Rattle.plc_expr.specs.Texts.{factor, negated, operand, says, says_or, side, term, wrapped};
 ghost use Rattle.plc_expr.specs.Shapes.{literal_in, shape_of};
 
 use cif_base::{Boxed, Memory};
@@ -33,8 +33,17 @@ pub fn shape_of_expr(e: &StExpr) -> Shape
         StExpr::Min(_, _) | StExpr::Max(_, _) | StExpr::Sel(_, _, _) => Shape::Factor,
         StExpr::Product { first: _, rest: _ } => Shape::Product,
         StExpr::Neg(_) | StExpr::Sum { first: _, rest: _ } => Shape::Number,
-        StExpr::Not(_) | StExpr::Order { left: _, op: _, right: _ } => Shape::Test,
-        StExpr::Equal { left: _, equal: _, right: _ } => Shape::Test,
+        StExpr::Not(_)
+        | StExpr::Order {
+            left: _,
+            op: _,
+            right: _,
+        } => Shape::Test,
+        StExpr::Equal {
+            left: _,
+            equal: _,
+            right: _,
+        } => Shape::Test,
         StExpr::And(_) | StExpr::Xor(_) | StExpr::Or(_) => Shape::Joined,
     }
 }
@@ -72,7 +81,10 @@ pub fn as_side(alloc: Global, e: Boxed<StExpr>) -> Result<Boxed<StExpr>, Memory>
 pub fn as_factor(alloc: Global, e: Boxed<StExpr>) -> Result<Boxed<StExpr>, Memory>
     ensures { IfOk result (λ x. view_expr x ≡ factor (view_expr e)) }
 {
-    let stands = matches!(shape_of_expr(e.get()), Shape::Truth(_) | Shape::Name | Shape::Factor);
+    let stands = matches!(
+        shape_of_expr(e.get()),
+        Shape::Truth(_) | Shape::Name | Shape::Factor
+    );
     in_parentheses(alloc, e, !stands)
 }
 
@@ -111,5 +123,27 @@ pub fn literal_of(e: &StExpr) -> Option<bool>
     match shape_of_expr(e) {
         Shape::Truth(b) => Some(b),
         _ => None,
+    }
+}
+
+/// Whether the expression is more than `TRUE`.
+#[tactic(auto, using(crate::proofs::Shaping::says_by))]
+pub fn says_more(e: &StExpr) -> bool
+    ensures { result ≡ says (view_expr e.now) }
+{
+    match shape_of_expr(e) {
+        Shape::Truth(b) => !b,
+        _ => true,
+    }
+}
+
+/// Whether the expression is more than `FALSE`.
+#[tactic(auto, using(crate::proofs::Shaping::says_or_by))]
+pub fn says_more_or(e: &StExpr) -> bool
+    ensures { result ≡ says_or (view_expr e.now) }
+{
+    match shape_of_expr(e) {
+        Shape::Truth(b) => b,
+        _ => true,
     }
 }
