@@ -1,0 +1,3 @@
+//! What a choice of a net with data does, as Structured Text: all new values are computed from the old state and tested
+//! against their ranges, and only then they are stored and the automata move.
+#![tactic(auto)]
