@@ -1,7 +1,6 @@
 -- The variables that updates assign: what the updates leave to others, and what they decide alone.
-use Rattle.std.proofs.Common.{◌≡◌, ℕ, ℤ, Bool, true, false, not, ◌&&◌, ◌||◌, List, [], ◌∷◌, ◌++◌, map, filter, find, Option, Some, None, nat_eq, cond, refl, sym, ap, subst, ◌∙◌, arith, eq-eqb, eqb-true, unwrap_or}
+use Rattle.std.proofs.Common.{◌≡◌, ℕ, ℤ, Bool, true, false, not, ◌&&◌, ◌||◌, List, [], ◌∷◌, ◌++◌, map, find, Option, Some, None, nat_eq, cond, refl, sym, ap, subst, ◌∙◌, eq-eqb, eqb-true, unwrap_or}
 use Rattle.std.specs.Prelude.{slice_get, option_map, if◌then◌else◌}
-use Rattle.std.specs.List.{list_any}
 use Rattle.std.proofs.lemmas.Bool.{eqb-false, ne_eqb}
 use Rattle.std.proofs.lemmas.List.Folds.{list_any-append}
 use Rattle.cif_system.specs.System.{State}
@@ -12,9 +11,8 @@ use Rattle.cif_model.specs.Net.{NetStored, Net}
 use Rattle.cif_model.specs.Meaning.{type_range, value_in, net_assigned_all, net_assigned_by, net_assigned_in}
 use Rattle.cif_model.specs.Exprs.{Written, writes_all, writes_by, writes_in, targets}
 use Rattle.cif_model.specs.Facts.{has}
-use Rattle.plc_expr.specs.Safe.{IsSafe, value_at}
-use Rattle.plc_act.specs.Writes.{is_tested, tests_stored, tests, any_tested, update_tested, branches_tested}
-use Rattle.plc_act.specs.Acts.{once, assigned_vars, surely_set, may_stay}
+use Rattle.plc_act.specs.Writes.{tests_stored, any_tested, update_tested, branches_tested}
+use Rattle.plc_act.specs.Acts.{once, assigned_vars, surely_set}
 use Rattle.plc_act.specs.Asked.{setting_of, AllUpdates, OfUpdate, OfBranches, IsFit, CanTake, IsSafeSet, IsSafeCondition, AreSafe}
 use Rattle.plc_act.proofs.Pairs.{new_value-append, all_fit, fit-append, fit-one}
 

@@ -1,3 +1,5 @@
 pub mod Writes
 pub mod Acts
 pub mod Asked
+pub mod Own
+pub mod Events

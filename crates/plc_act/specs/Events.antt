@@ -1,0 +1,27 @@
+-- What is written for a choice with data, as the statements of an event have it.
+use Rattle.std.specs.Prelude.{ℕ, ◌+◌, Bool, not, ◌&&◌, nat_eq, length, is_none, List, [], ◌∷◌}
+use Rattle.cif_model.specs.Net.{Net}
+use Rattle.cif_model.specs.Listing.{NetChoice}
+use Rattle.plc_gen.specs.Events.{Written, moves_text}
+use Rattle.plc_expr.specs.Texts.{Naming, temps, text, before}
+use Rattle.plc_act.specs.Writes.{NewNames, any_tested}
+use Rattle.plc_act.specs.Acts.{act}
+use Rattle.plc_act.specs.Own.{choice_temps}
+
+-- its test alone says whether there is a step, and nothing stands before the test
+abbrev pub is_bare : Net → NetChoice → Bool
+is_bare n c = is_none c.sent && not (any_tested n c.writes) && nat_eq (length c.invariants) 0 && nat_eq (temps c.test) 0
+
+-- The own variables of its expressions are numbered from k.
+abbrev pub data_written : Net → Naming → NewNames → ℕ → NetChoice → Written
+data_written n w y k c = record {
+  before = before w k c.test;
+  test = text w k c.test;
+  act = λ marks. act n w y (k + temps c.test) c.writes (moves_text n c.moves marks);
+  is_bare = is_bare n c;
+}
+
+-- one choice after the other
+abbrev pub all_written : Net → Naming → NewNames → ℕ → List NetChoice → List Written
+all_written n w y k [] = []
+all_written n w y k (c ∷ cs) = data_written n w y k c ∷ all_written n w y (k + choice_temps c) cs

@@ -1,0 +1,116 @@
+-- The own variables of the statements of an event: the mark that its new values are in range, the new value of each variable
+-- that one of its choices assigns, and the values of the `if`s in its expressions. Their names say what they hold.
+use Rattle.std.specs.Prelude.{ℕ, ◌+◌, pos, Bool, List, [], ◌∷◌, ◌++◌, map, flat_map, length, nat_eq, Option, Some, None, slice_get, codes, if◌then◌else◌}
+use Rattle.std.specs.List.{list_any, position_or_len}
+use Rattle.cif_base.specs.declared.types.Ty.{Ty}
+use Rattle.cif_term.specs.Tree.{NetUpdate, net_set, net_choose, NetUpdates, no_net_updates, net_updates, NetUpdateBranches, no_net_update_branches, net_update_branches}
+use Rattle.cif_model.specs.Net.{NetStored, Net}
+use Rattle.cif_model.specs.Exprs.{targets}
+use Rattle.cif_model.specs.Listing.{NetChoice}
+use Rattle.grammar.specs.Pieces.{Text}
+use Rattle.st_ast.specs.declared.tree.StTy.{StTy}
+use Rattle.st_ast.specs.declared.tree.StTy.TheVariants as ty
+use Rattle.plc_face.specs.declared.letter.Letter.TheVariants as letter
+use Rattle.plc_face.specs.Names.{name_for}
+use Rattle.plc_face.specs.Face.{VariableFace}
+use Rattle.plc_gen.specs.Faces.{st_type}
+use Rattle.plc_gen.specs.Tests.{old_naming}
+use Rattle.plc_expr.specs.Texts.{Naming, temps}
+use Rattle.plc_expr.specs.Sorts.{own_types}
+use Rattle.plc_act.specs.Writes.{NewNames, is_tested, any_tested, updates_temps}
+use Rattle.plc_act.specs.Acts.{once}
+
+-- ---- the variables of the net
+
+abbrev pub path_of : List NetStored → ℕ → Text
+path_of vs k = elim (slice_get vs k) [ None ↦ [] | Some v ↦ v.path ]
+
+-- the variable that holds a discrete variable, and the one that holds a latched input
+abbrev pub variable_name : Net → ℕ → Text
+variable_name n k = name_for letter.V k (path_of n.vars k)
+
+abbrev pub input_name : Net → ℕ → Text
+input_name n k = name_for letter.H k (path_of n.inputs k)
+
+-- ---- faces
+
+abbrev pub range_face : VariableFace
+range_face = record { path = codes "in_range"; ty = ty.Bool; first = pos 0 }
+
+-- a new value is any integer before it is tested, and else of the variable's type
+abbrev pub new_type : Ty → StTy
+new_type t = if is_tested t then ty.Lint else st_type t
+
+abbrev pub new_face_of : Option NetStored → VariableFace
+new_face_of None = record { path = codes "new"; ty = ty.Lint; first = pos 0 }
+new_face_of (Some v) = record { path = codes "new_" ++ v.path; ty = new_type v.type_of; first = v.first }
+
+abbrev pub new_face : Net → ℕ → VariableFace
+new_face n v = new_face_of (slice_get n.vars v)
+
+abbrev pub if_face : StTy → VariableFace
+if_face t = record { path = codes "if"; ty = t; first = pos 0 }
+
+-- ---- the own variables of a choice's expressions, in the order of the statements
+
+abbrev pub choice_temps : NetChoice → ℕ
+choice_temps c = temps c.test + updates_temps c.writes
+
+abbrev pub conditions_types : Net → Option Ty → NetUpdateBranches → List StTy
+conditions_types n r no_net_update_branches = []
+conditions_types n r (net_update_branches c us bs) = own_types n r c ++ conditions_types n r bs
+
+abbrev mutual
+  -- r is the type of the received value
+  pub updates_types : Net → Option Ty → NetUpdates → List StTy
+  updates_types n r no_net_updates = []
+  updates_types n r (net_updates u us) = updates_types n r us ++ update_types n r u
+
+  pub update_types : Net → Option Ty → NetUpdate → List StTy
+  update_types n r (net_set v e) = own_types n r e
+  update_types n r (net_choose bs us) = conditions_types n r bs ++ (bodies_types n r bs ++ updates_types n r us)
+
+  pub bodies_types : Net → Option Ty → NetUpdateBranches → List StTy
+  bodies_types n r no_net_update_branches = []
+  bodies_types n r (net_update_branches c us bs) = updates_types n r us ++ bodies_types n r bs
+
+abbrev pub choice_types : Net → Option Ty → NetChoice → List StTy
+choice_types n r c = own_types n None c.test ++ updates_types n r c.writes
+
+-- ---- the own variables of an event
+
+-- each variable that one of the choices assigns
+abbrev pub event_vars : List NetChoice → List ℕ
+event_vars cs = once [] (flat_map (λ (c : NetChoice). targets c.writes) cs)
+
+abbrev pub tests_range : Net → List NetChoice → Bool
+tests_range n cs = list_any (λ (c : NetChoice). any_tested n c.writes) cs
+
+abbrev pub range_faces : Net → List NetChoice → List VariableFace
+range_faces n cs = if tests_range n cs then range_face ∷ [] else []
+
+-- beside the mark that a choice was made
+abbrev pub data_faces : Net → Option Ty → List NetChoice → List VariableFace
+data_faces n r cs = range_faces n cs ++ (map (new_face n) (event_vars cs) ++ map if_face (flat_map (choice_types n r) cs))
+
+-- ---- names, where the first of these variables has the number j
+
+abbrev pub new_names : Net → List NetChoice → ℕ → NewNames
+new_names n cs j = record {
+  in_range = name_for letter.T j range_face.path;
+  next = λ v. name_for letter.T (j + length (range_faces n cs) + position_or_len (nat_eq v) (event_vars cs)) (new_face n v).path;
+}
+
+-- the number of the first `if`
+abbrev pub first_if : Net → List NetChoice → ℕ → ℕ
+first_if n cs j = j + length (range_faces n cs) + length (event_vars cs)
+
+-- names before a step; the received value has a name of its own
+abbrev pub data_naming : Net → Text → (first : ℕ) → Naming
+data_naming n received first = record {
+  located = (old_naming n).located;
+  variable = variable_name n;
+  input = input_name n;
+  received = received;
+  own = λ k. name_for letter.T (first + k) (codes "if");
+}
