@@ -1,5 +1,5 @@
 -- The variables that updates assign: what the updates leave to others, and what they decide alone.
-use Rattle.std.proofs.Common.{◌≡◌, ℕ, ℤ, Bool, true, false, not, ◌&&◌, ◌||◌, List, [], ◌∷◌, ◌++◌, map, find, Option, Some, None, nat_eq, cond, refl, sym, ap, subst, ◌∙◌, eq-eqb, eqb-true, unwrap_or}
+use Rattle.std.proofs.Common.{◌≡◌, ℕ, ℤ, Bool, true, false, not, ◌&&◌, ◌||◌, ◌+◌, List, [], ◌∷◌, ◌++◌, map, find, Option, Some, None, nat_eq, cond, refl, sym, ap, subst, ◌∙◌, eq-eqb, eqb-true, unwrap_or}
 use Rattle.std.specs.Prelude.{slice_get, option_map, if◌then◌else◌}
 use Rattle.std.proofs.lemmas.Bool.{eqb-false, ne_eqb}
 use Rattle.std.proofs.lemmas.List.Folds.{list_any-append}
@@ -11,7 +11,8 @@ use Rattle.cif_model.specs.Net.{NetStored, Net}
 use Rattle.cif_model.specs.Meaning.{type_range, value_in, net_assigned_all, net_assigned_by, net_assigned_in}
 use Rattle.cif_model.specs.Exprs.{Written, writes_all, writes_by, writes_in, targets}
 use Rattle.cif_model.specs.Facts.{has}
-use Rattle.plc_act.specs.Writes.{tests_stored, any_tested, update_tested, branches_tested}
+use Rattle.plc_act.specs.Writes.{tests_stored, tests, any_tested, update_tested, branches_tested, conditions_temps, updates_temps, bodies_temps}
+use Rattle.plc_expr.specs.Texts.{temps}
 use Rattle.plc_act.specs.Acts.{once, assigned_vars, surely_set}
 use Rattle.plc_act.specs.Asked.{setting_of, AllUpdates, OfUpdate, OfBranches, IsFit, CanTake, IsSafeSet, IsSafeCondition, AreSafe}
 use Rattle.plc_act.proofs.Pairs.{new_value-append, all_fit, fit-append, fit-one}
@@ -173,33 +174,34 @@ module _ (n : Net) (s : State) (r : ℤ) (v : ℕ) where
 
 -- ---- what holds of each update
 
-module _ (S T : ℕ → NetExpr → Type 0) (C D : NetExpr → Type 0) (V : ℕ → Type 0) (sets : (v : ℕ) (e : NetExpr) → V v → S v e → T v e) (tells : (c : NetExpr) → C c → D c) where
+module _ (S T : ℕ → ℕ → NetExpr → Type 0) (C D : ℕ → NetExpr → Type 0) (V : ℕ → Type 0)
+    (sets : (k v : ℕ) (e : NetExpr) → V v → S k v e → T k v e) (tells : (k : ℕ) (c : NetExpr) → C k c → D k c) where
   mutual
-    each-update : (us : NetUpdates) → ((v : ℕ) → has (all_vars us) v ≡ true → V v) → AllUpdates S C us → AllUpdates T D us
-    each-update no_net_updates is all = tt
-    each-update (net_updates u us) is all = (
-      each-by u (λ v h. is v (has-append (by_vars u) (all_vars us) v ∙ in-left _ _ h)) all.0,
-      each-update us (λ v h. is v (has-append (by_vars u) (all_vars us) v ∙ in-right _ _ h)) all.1,
+    each-update : (us : NetUpdates) (k : ℕ) → ((v : ℕ) → has (all_vars us) v ≡ true → V v) → AllUpdates S C k us → AllUpdates T D k us
+    each-update no_net_updates k is all = tt
+    each-update (net_updates u us) k is all = (
+      each-by u (k + updates_temps us) (λ v h. is v (has-append (by_vars u) (all_vars us) v ∙ in-left _ _ h)) all.0,
+      each-update us k (λ v h. is v (has-append (by_vars u) (all_vars us) v ∙ in-right _ _ h)) all.1,
     )
 
-    each-by : (u : NetUpdate) → ((v : ℕ) → has (by_vars u) v ≡ true → V v) → OfUpdate S C u → OfUpdate T D u
-    each-by (net_set v e) is all = sets v e (is v (in-left _ _ (eq-eqb v v refl))) all
-    each-by (net_choose bs us) is all = (
-      each-in bs (λ v h. is v (has-append (in_vars bs) (all_vars us) v ∙ in-left _ _ h)) all.0,
-      each-update us (λ v h. is v (has-append (in_vars bs) (all_vars us) v ∙ in-right _ _ h)) all.1,
+    each-by : (u : NetUpdate) (k : ℕ) → ((v : ℕ) → has (by_vars u) v ≡ true → V v) → OfUpdate S C k u → OfUpdate T D k u
+    each-by (net_set v e) k is all = sets k v e (is v (in-left _ _ (eq-eqb v v refl))) all
+    each-by (net_choose bs us) k is all = (
+      each-in bs k (k + conditions_temps bs) (λ v h. is v (has-append (in_vars bs) (all_vars us) v ∙ in-left _ _ h)) all.0,
+      each-update us (k + conditions_temps bs + bodies_temps bs) (λ v h. is v (has-append (in_vars bs) (all_vars us) v ∙ in-right _ _ h)) all.1,
     )
 
-    each-in : (bs : NetUpdateBranches) → ((v : ℕ) → has (in_vars bs) v ≡ true → V v) → OfBranches S C bs → OfBranches T D bs
-    each-in no_net_update_branches is all = tt
-    each-in (net_update_branches c us bs) is all = (
-      tells c all.0,
-      each-update us (λ v h. is v (has-append (all_vars us) (in_vars bs) v ∙ in-left _ _ h)) all.1,
-      each-in bs (λ v h. is v (has-append (all_vars us) (in_vars bs) v ∙ in-right _ _ h)) all.2,
+    each-in : (bs : NetUpdateBranches) (k j : ℕ) → ((v : ℕ) → has (in_vars bs) v ≡ true → V v) → OfBranches S C k j bs → OfBranches T D k j bs
+    each-in no_net_update_branches k j is all = tt
+    each-in (net_update_branches c us bs) k j is all = (
+      tells k c all.0,
+      each-update us j (λ v h. is v (has-append (all_vars us) (in_vars bs) v ∙ in-left _ _ h)) all.1,
+      each-in bs (k + temps c) (j + updates_temps us) (λ v h. is v (has-append (all_vars us) (in_vars bs) v ∙ in-right _ _ h)) all.2,
     )
 
   -- what is known of the variables is known at each assignment
-  pub all-updates : (us : NetUpdates) → ((v : ℕ) → has (targets us) v ≡ true → V v) → AllUpdates S C us → AllUpdates T D us
-  all-updates us is all = each-update us (λ v h. is v (subst (λ vs. has vs v ≡ true) (sym (targets-are us)) h)) all
+  pub all-updates : (us : NetUpdates) (k : ℕ) → ((v : ℕ) → has (targets us) v ≡ true → V v) → AllUpdates S C k us → AllUpdates T D k us
+  all-updates us k is all = each-update us k (λ v h. is v (subst (λ vs. has vs v ≡ true) (sym (targets-are us)) h)) all
 
 -- ---- without a test
 
@@ -211,24 +213,61 @@ module _ (n : Net) (s : State) (r : ℤ) where
   fit-if true xs ys a c = a
   fit-if false xs ys a c = c
 
+  abbrev SafeSet : ℕ → ℕ → NetExpr → Type 0
+  SafeSet k v e = IsSafeSet n (setting_of n s r) v e
+
+  abbrev SafeCondition : ℕ → NetExpr → Type 0
+  SafeCondition k c = IsSafeCondition (setting_of n s r) c
+
   mutual
     -- values that aren't tested are in range
-    pub untested-fit : (us : NetUpdates) → any_tested n us ≡ false → AreSafe n (setting_of n s r) us → all_fit n (net_assigned_all n s r us) ≡ true
-    untested-fit no_net_updates h all = refl
-    untested-fit (net_updates u us) h all =
-        fit-both (net_assigned_by n s r u) (net_assigned_all n s r us) (fit-by u (or-left _ _ h) all.0) (untested-fit us (or-right _ _ h) all.1)
+    pub untested-fit : (us : NetUpdates) (k : ℕ) → any_tested n us ≡ false → AllUpdates SafeSet SafeCondition k us → all_fit n (net_assigned_all n s r us) ≡ true
+    untested-fit no_net_updates k h all = refl
+    untested-fit (net_updates u us) k h all =
+        fit-both (net_assigned_by n s r u) (net_assigned_all n s r us) (fit-by u (k + updates_temps us) (or-left _ _ h) all.0) (untested-fit us k (or-right _ _ h) all.1)
 
-    fit-by : (u : NetUpdate) → update_tested n u ≡ false → OfUpdate (IsSafeSet n (setting_of n s r)) (IsSafeCondition (setting_of n s r)) u → all_fit n (net_assigned_by n s r u) ≡ true
-    fit-by (net_set v e) h all = go (slice_get n.vars v) refl h all.1
+    fit-by : (u : NetUpdate) (k : ℕ) → update_tested n u ≡ false → OfUpdate SafeSet SafeCondition k u → all_fit n (net_assigned_by n s r u) ≡ true
+    fit-by (net_set v e) k h all = go (slice_get n.vars v) refl h all.1
       where
         go : (o : Option NetStored) → slice_get n.vars v ≡ o → tests_stored o ≡ false → CanTake o (value_in n s r e) → all_fit n ((v, value_in n s r e) ∷ []) ≡ true
         go None at q fit = absurd fit
         go (Some d) at q fit = fit-one n v d (value_in n s r e) at ∙ subst (λ b. IsFit b (type_range d.type_of) (value_in n s r e)) q fit
-    fit-by (net_choose bs us) h all = fit-in bs (net_assigned_all n s r us) (or-left _ _ h) all.0 (untested-fit us (or-right _ _ h) all.1)
+    fit-by (net_choose bs us) k h all =
+        fit-in bs k (k + conditions_temps bs) (net_assigned_all n s r us) (or-left _ _ h) all.0
+        (untested-fit us (k + conditions_temps bs + bodies_temps bs) (or-right _ _ h) all.1)
 
-    fit-in : (bs : NetUpdateBranches) (other_pairs : List (ℕ × ℤ)) → branches_tested n bs ≡ false → OfBranches (IsSafeSet n (setting_of n s r)) (IsSafeCondition (setting_of n s r)) bs
+    fit-in : (bs : NetUpdateBranches) (k j : ℕ) (other_pairs : List (ℕ × ℤ)) → branches_tested n bs ≡ false → OfBranches SafeSet SafeCondition k j bs
         → all_fit n other_pairs ≡ true → all_fit n (net_assigned_in n s r other_pairs bs) ≡ true
-    fit-in no_net_update_branches other_pairs h all a = a
-    fit-in (net_update_branches c us bs) other_pairs h all a =
+    fit-in no_net_update_branches k j other_pairs h all a = a
+    fit-in (net_update_branches c us bs) k j other_pairs h all a =
         fit-if (is_true (value_in n s r c)) (net_assigned_all n s r us) (net_assigned_in n s r other_pairs bs)
-        (untested-fit us (or-left _ _ h) all.1) (fit-in bs other_pairs (or-right _ _ h) all.2 a)
+        (untested-fit us j (or-left _ _ h) all.1) (fit-in bs (k + temps c) (j + updates_temps us) other_pairs (or-right _ _ h) all.2 a)
+
+-- a test of one of the variables is a test of the updates
+module _ (n : Net) (v : ℕ) (is : tests n v ≡ true) where
+  one-of : (xs ys : List ℕ) (a b : Bool) → (has xs v ≡ true → a ≡ true) → (has ys v ≡ true → b ≡ true) → has (xs ++ ys) v ≡ true → (a || b) ≡ true
+  one-of xs ys a b f g h = go (has xs v) refl
+    where
+      go : (c : Bool) → has xs v ≡ c → (a || b) ≡ true
+      go true e = in-left a b (f e)
+      go false e = in-right a b (g (or-rest (has xs v) (has ys v) e (sym (has-append xs ys v) ∙ h)))
+
+  mutual
+    tested-all : (us : NetUpdates) → has (all_vars us) v ≡ true → any_tested n us ≡ true
+    tested-all no_net_updates h = absurd cc
+    tested-all (net_updates u us) h = one-of (by_vars u) (all_vars us) (update_tested n u) (any_tested n us) (tested-by u) (tested-all us) h
+
+    tested-by : (u : NetUpdate) → has (by_vars u) v ≡ true → update_tested n u ≡ true
+    tested-by (net_set k e) h = ap (tests n) (sym (eqb-true v k (only (nat_eq v k) h))) ∙ is
+      where
+        only : (b : Bool) → (b || false) ≡ true → b ≡ true
+        only true h = refl
+        only false h = h
+    tested-by (net_choose bs us) h = one-of (in_vars bs) (all_vars us) (branches_tested n bs) (any_tested n us) (tested-in bs) (tested-all us) h
+
+    tested-in : (bs : NetUpdateBranches) → has (in_vars bs) v ≡ true → branches_tested n bs ≡ true
+    tested-in no_net_update_branches h = absurd cc
+    tested-in (net_update_branches c us bs) h = one-of (all_vars us) (in_vars bs) (any_tested n us) (branches_tested n bs) (tested-all us) (tested-in bs) h
+
+  pub tested-any : (us : NetUpdates) → has (targets us) v ≡ true → any_tested n us ≡ true
+  tested-any us h = tested-all us (subst (λ vs. has vs v ≡ true) (targets-are us) h)

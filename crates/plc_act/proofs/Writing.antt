@@ -35,7 +35,7 @@ exec-otherwise vars no_stms turns m = refl
 exec-otherwise vars (stms s ss) turns m = refl
 
 module _ (n : Net) (s : State) (r : ℤ) (vars : List StVar) (w : Naming) (y : NewNames) (base count : ℕ)
-    (P : Memory → Type 0) (E : NetExpr → Type 0) (V : ℕ → Type 0) (M : Type 0) where
+    (P : Memory → Type 0) (E : ℕ → NetExpr → Type 0) (V : ℕ → Type 0) (M : Type 0) where
   abbrev x : Setting
   x = setting_of n s r
 
@@ -43,11 +43,11 @@ module _ (n : Net) (s : State) (r : ℤ) (vars : List StVar) (w : Naming) (y : N
   -- there.
   pub record Grounds : Type 0 where
     -- the statements before an expression, and its text
-    pub prepares : (e : NetExpr) (k turns : ℕ) (m : Memory) → E e → k + temps e ≤ count → P m → Prepares vars w x base k e turns m
-    pub prepared_kept : (e : NetExpr) (k turns : ℕ) (m : Memory) → E e → k + temps e ≤ count → P m → (q : Prepares vars w x base k e turns m) → P q.after
-    pub held_kept : (e : NetExpr) (k : ℕ) (m after : Memory) → E e → k + temps e ≤ count
+    pub prepares : (e : NetExpr) (k turns : ℕ) (m : Memory) → E k e → k + temps e ≤ count → P m → Prepares vars w x base k e turns m
+    pub prepared_kept : (e : NetExpr) (k turns : ℕ) (m : Memory) → E k e → k + temps e ≤ count → P m → (q : Prepares vars w x base k e turns m) → P q.after
+    pub held_kept : (e : NetExpr) (k : ℕ) (m after : Memory) → E k e → k + temps e ≤ count
         → ((j : ℕ) → base + k ≤ j → j < base + k + temps e → slice_get after j ≡ slice_get m j) → Held vars w x m k e → Held vars w x after k e
-    pub valued : (e : NetExpr) (k : ℕ) (m : Memory) → E e → P m → Held vars w x m k e → value_of vars (text w k e) m ≡ Ok (value_at x e)
+    pub valued : (e : NetExpr) (k : ℕ) (m : Memory) → E k e → P m → Held vars w x m k e → value_of vars (text w k e) m ≡ Ok (value_at x e)
     -- a new value
     pub next_room : (v : ℕ) (m : Memory) → V v → P m → place_of vars (y.next v) < length m
     pub next_apart : (v u : ℕ) → V v → V u → v ≢ u → place_of vars (y.next v) ≢ place_of vars (y.next u)
@@ -119,7 +119,7 @@ module _ (n : Net) (s : State) (r : ℤ) (vars : List StVar) (w : Naming) (y : N
       pub same_length : length wrote.after ≡ length m
       pub others : (j : ℕ) → (base + k ≤ j → base + k + temps e ≤ j) → slice_get wrote.after j ≡ slice_get m j
 
-    known : (e : NetExpr) (k turns : ℕ) (m : Memory) → E e → k + temps e ≤ count → P m → Known e k turns m
+    known : (e : NetExpr) (k turns : ℕ) (m : Memory) → E k e → k + temps e ≤ count → P m → Known e k turns m
     known e k turns m is room keeps =
         let q = g.prepares e k turns m is room keeps in
         record {
@@ -232,7 +232,7 @@ module _ (n : Net) (s : State) (r : ℤ) (vars : List StVar) (w : Naming) (y : N
       set-tested false is fit = untested fit
 
     -- an assignment of an expression
-    set-wrote : (v : ℕ) (e : NetExpr) (k turns : ℕ) (m : Memory) → V v → E e → CanTake (slice_get n.vars v) (value_at x e) → k + temps e ≤ count → P m
+    set-wrote : (v : ℕ) (e : NetExpr) (k turns : ℕ) (m : Memory) → V v → E k e → CanTake (slice_get n.vars v) (value_at x e) → k + temps e ≤ count → P m
         → Wrote ((v, value_at x e) ∷ []) (exec vars (write n w y k (net_set v e)) turns m) turns m
     set-wrote v e k turns m i is takes room keeps =
         let q = known e k turns m is room keeps in
@@ -249,11 +249,11 @@ module _ (n : Net) (s : State) (r : ℤ) (vars : List StVar) (w : Naming) (y : N
     -- ---- conditions
 
     -- each is assigned what it can take, and each condition is true or false
-    abbrev pub Sets : ℕ → NetExpr → Type 0
-    Sets v e = V v × E e × CanTake (slice_get n.vars v) (value_at x e)
+    abbrev pub Sets : ℕ → ℕ → NetExpr → Type 0
+    Sets k v e = V v × E k e × CanTake (slice_get n.vars v) (value_at x e)
 
-    abbrev pub Tells : NetExpr → Type 0
-    Tells c = E c × IsTruth (value_at x c)
+    abbrev pub Tells : ℕ → NetExpr → Type 0
+    Tells k c = E k c × IsTruth (value_at x c)
 
     -- the conditions' own variables hold what they are to hold
     abbrev HeldConditions : ℕ → NetUpdateBranches → Memory → Type 0
@@ -265,19 +265,19 @@ module _ (n : Net) (s : State) (r : ℤ) (vars : List StVar) (w : Naming) (y : N
       pub held : HeldConditions k bs wrote.after
       pub others : (j : ℕ) → (base + k ≤ j → base + k + conditions_temps bs ≤ j) → slice_get wrote.after j ≡ slice_get m j
 
-    known-conditions : (bs : NetUpdateBranches) (k turns : ℕ) (m : Memory) → OfBranches Sets Tells bs → k + conditions_temps bs ≤ count → P m → KnownConditions bs k turns m
+    known-conditions : (bs : NetUpdateBranches) (k j turns : ℕ) (m : Memory) → OfBranches Sets Tells k j bs → k + conditions_temps bs ≤ count → P m → KnownConditions bs k turns m
     unfolding wrote-none wrote-then
-    known-conditions no_net_update_branches k turns m all room keeps = record { wrote = wrote-none turns m keeps; held = tt; others = λ j h. refl }
-    known-conditions (net_update_branches c us bs) k turns m all room keeps =
+    known-conditions no_net_update_branches k j turns m all room keeps = record { wrote = wrote-none turns m keeps; held = tt; others = λ j h. refl }
+    known-conditions (net_update_branches c us bs) k j turns m all room keeps =
         let q = known c k turns m all.0.0 (omega (arith, room)) keeps in
-        let t = known-conditions bs (k + temps c) turns q.wrote.after all.2 (omega (arith, room)) q.wrote.keeps in
+        let t = known-conditions bs (k + temps c) (j + updates_temps us) turns q.wrote.after all.2 (omega (arith, room)) q.wrote.keeps in
         record {
           wrote = wrote-then [] [] (before w k c) (conditions_before w (k + temps c) bs) turns m q.wrote t.wrote;
           held = (
             g.held_kept c k q.wrote.after t.wrote.after all.0.0 (omega (arith, room)) (λ j above below. t.others j (λ h. omega (arith, h, below))) q.held,
             t.held,
           );
-          others = λ j h. t.others j (λ a. omega (arith, a, h)) ∙ q.others j (λ a. omega (arith, a, h));
+          others = λ i h. t.others i (λ a. omega (arith, a, h)) ∙ q.others i (λ a. omega (arith, a, h));
         }
 
     -- an IF with these branches
@@ -297,7 +297,7 @@ module _ (n : Net) (s : State) (r : ℤ) (vars : List StVar) (w : Naming) (y : N
     picked false xs ys o out turns m a c = c
 
     mutual
-      pub updates-wrote : (us : NetUpdates) (k turns : ℕ) (m : Memory) → AllUpdates Sets Tells us → k + updates_temps us ≤ count → P m
+      pub updates-wrote : (us : NetUpdates) (k turns : ℕ) (m : Memory) → AllUpdates Sets Tells k us → k + updates_temps us ≤ count → P m
           → Wrote (net_assigned_all n s r us) (exec vars (writes n w y k us) turns m) turns m
       updates-wrote no_net_updates k turns m all room keeps = wrote-none turns m keeps
       updates-wrote (net_updates u us) k turns m all room keeps =
@@ -305,11 +305,11 @@ module _ (n : Net) (s : State) (r : ℤ) (vars : List StVar) (w : Naming) (y : N
           wrote-then (net_assigned_by n s r u) (net_assigned_all n s r us) (writes n w y k us) (write n w y (k + updates_temps us) u) turns m a
           (update-wrote u (k + updates_temps us) turns a.after all.0 (omega (arith, room)) a.keeps)
 
-      update-wrote : (u : NetUpdate) (k turns : ℕ) (m : Memory) → OfUpdate Sets Tells u → k + update_temps u ≤ count → P m
+      update-wrote : (u : NetUpdate) (k turns : ℕ) (m : Memory) → OfUpdate Sets Tells k u → k + update_temps u ≤ count → P m
           → Wrote (net_assigned_by n s r u) (exec vars (write n w y k u) turns m) turns m
       update-wrote (net_set v e) k turns m all room keeps = set-wrote v e k turns m all.0 all.1 all.2 room keeps
       update-wrote (net_choose bs us) k turns m all room keeps =
-          let q = known-conditions bs k turns m all.0 (omega (arith, room)) keeps in
+          let q = known-conditions bs k (k + conditions_temps bs) turns m all.0 (omega (arith, room)) keeps in
           let ss : Stms = writes n w y (k + conditions_temps bs + bodies_temps bs) us in
           let last = updates-wrote us (k + conditions_temps bs + bodies_temps bs) turns q.wrote.after all.1 (omega (arith, room)) q.wrote.keeps in
           wrote-after (net_assigned_in n s r (net_assigned_all n s r us) bs) (conditions_before w k bs) (chosen (write_branches n w y k (k + conditions_temps bs) bs) ss) turns m q.wrote
@@ -317,7 +317,7 @@ module _ (n : Net) (s : State) (r : ℤ) (vars : List StVar) (w : Naming) (y : N
           (branches-wrote bs k (k + conditions_temps bs) turns q.wrote.after (net_assigned_all n s r us) (λ l i. exec_other vars (otherwise ss) l i) all.0 q.held (omega (arith, room)) q.wrote.keeps
           (wrote-as (net_assigned_all n s r us) (exec_other vars (otherwise ss) turns q.wrote.after) (exec vars ss turns q.wrote.after) turns q.wrote.after (exec-otherwise vars ss turns q.wrote.after) last)))
 
-      branches-wrote : (bs : NetUpdateBranches) (k j turns : ℕ) (m : Memory) (other_pairs : List (ℕ × ℤ)) (last : Act) → OfBranches Sets Tells bs → HeldConditions k bs m → j + bodies_temps bs ≤ count → P m
+      branches-wrote : (bs : NetUpdateBranches) (k j turns : ℕ) (m : Memory) (other_pairs : List (ℕ × ℤ)) (last : Act) → OfBranches Sets Tells k j bs → HeldConditions k bs m → j + bodies_temps bs ≤ count → P m
           → Wrote other_pairs (last turns m) turns m → Wrote (net_assigned_in n s r other_pairs bs) (exec_choice vars (write_branches n w y k j bs) last turns m) turns m
       branches-wrote no_net_update_branches k j turns m other_pairs last all held room keeps a = a
       branches-wrote (net_update_branches c us bs) k j turns m other_pairs last all held room keeps a =

@@ -1,30 +1,33 @@
 -- What is asked of the updates of a choice in a state, so that their statements do what they are to do.
-use Rattle.std.specs.Prelude.{◌≡◌, ℕ, ℤ, pos, Bool, true, false, Option, Some, None, length, slice_get}
+use Rattle.std.specs.Prelude.{◌≡◌, ℕ, ◌+◌, ℤ, pos, Bool, true, false, Option, Some, None, length, slice_get}
 use Rattle.cif_system.specs.System.{State, Range, in_range}
 use Rattle.cif_term.specs.Tree.{NetExpr, NetUpdate, net_set, net_choose, NetUpdates, no_net_updates, net_updates, NetUpdateBranches, no_net_update_branches, net_update_branches}
 use Rattle.cif_model.specs.Net.{NetStored, Net}
 use Rattle.cif_model.specs.Unfolding.{at_or}
 use Rattle.cif_model.specs.Meaning.{alg_values, type_range}
 use Rattle.plc_expr.specs.Safe.{Setting, value_at, IsTruth, HasBits, IsSafe}
-use Rattle.plc_act.specs.Writes.{is_tested}
+use Rattle.plc_expr.specs.Texts.{temps}
+use Rattle.plc_act.specs.Writes.{is_tested, conditions_temps, updates_temps, bodies_temps}
 
 -- the setting of a net in a state, where r is received
 abbrev pub setting_of : Net → State → ℤ → Setting
 setting_of n s r = record { algs = at_or (pos 0) (alg_values n s r (length n.algs)); state = s; received = r }
 
--- each assignment is as S says, and each condition as C says
+-- Each assignment is as S says, and each condition as C says, with the number of the first own variable of its expression:
+-- those of the updates are numbered from k in the order of their statements, and those of branches from k for the
+-- conditions and from j for the updates.
 abbrev mutual
-  pub AllUpdates : (S : ℕ → NetExpr → Type 0) (C : NetExpr → Type 0) → NetUpdates → Type 0
-  AllUpdates S C no_net_updates = Unit {0}
-  AllUpdates S C (net_updates u us) = OfUpdate S C u × AllUpdates S C us
+  pub AllUpdates : (S : ℕ → ℕ → NetExpr → Type 0) (C : ℕ → NetExpr → Type 0) → ℕ → NetUpdates → Type 0
+  AllUpdates S C k no_net_updates = Unit {0}
+  AllUpdates S C k (net_updates u us) = OfUpdate S C (k + updates_temps us) u × AllUpdates S C k us
 
-  pub OfUpdate : (S : ℕ → NetExpr → Type 0) (C : NetExpr → Type 0) → NetUpdate → Type 0
-  OfUpdate S C (net_set v e) = S v e
-  OfUpdate S C (net_choose bs us) = OfBranches S C bs × AllUpdates S C us
+  pub OfUpdate : (S : ℕ → ℕ → NetExpr → Type 0) (C : ℕ → NetExpr → Type 0) → ℕ → NetUpdate → Type 0
+  OfUpdate S C k (net_set v e) = S k v e
+  OfUpdate S C k (net_choose bs us) = OfBranches S C k (k + conditions_temps bs) bs × AllUpdates S C (k + conditions_temps bs + bodies_temps bs) us
 
-  pub OfBranches : (S : ℕ → NetExpr → Type 0) (C : NetExpr → Type 0) → NetUpdateBranches → Type 0
-  OfBranches S C no_net_update_branches = Unit {0}
-  OfBranches S C (net_update_branches c us bs) = C c × AllUpdates S C us × OfBranches S C bs
+  pub OfBranches : (S : ℕ → ℕ → NetExpr → Type 0) (C : ℕ → NetExpr → Type 0) → (k j : ℕ) → NetUpdateBranches → Type 0
+  OfBranches S C k j no_net_update_branches = Unit {0}
+  OfBranches S C k j (net_update_branches c us bs) = C k c × AllUpdates S C j us × OfBranches S C (k + temps c) (j + updates_temps us) bs
 
 -- a value that is tested has 64 bits before, and another one is in the range
 abbrev pub IsFit : (tested : Bool) → Range → ℤ → Type 0
@@ -43,5 +46,5 @@ abbrev pub IsSafeCondition : Setting → NetExpr → Type 0
 IsSafeCondition x c = IsSafe x c × IsTruth (value_at x c)
 
 -- the expressions of the updates are safe, and the variables can take the values
-abbrev pub AreSafe : Net → Setting → NetUpdates → Type 0
-AreSafe n x us = AllUpdates (IsSafeSet n x) (IsSafeCondition x) us
+abbrev pub AreSafe : Net → Setting → ℕ → NetUpdates → Type 0
+AreSafe n x k us = AllUpdates (λ i v e. IsSafeSet n x v e) (λ i c. IsSafeCondition x c) k us
