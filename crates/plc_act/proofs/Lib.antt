@@ -2,3 +2,4 @@ pub mod Numbers
 pub mod Pairs
 pub mod Writing
 pub mod Targets
+pub mod Memories

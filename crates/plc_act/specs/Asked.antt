@@ -1,12 +1,17 @@
 -- What is asked of the updates of a choice in a state, so that their statements do what they are to do.
-use Rattle.std.specs.Prelude.{◌≡◌, ℕ, ◌+◌, ℤ, pos, Bool, true, false, Option, Some, None, length, slice_get}
+use Rattle.std.specs.Prelude.{◌≡◌, ℕ, ◌+◌, ◌≤◌, ◌<◌, IsTrue, List, Ok, ℤ, pos, Bool, true, false, Option, Some, None, length, slice_get}
 use Rattle.cif_system.specs.System.{State, Range, in_range}
 use Rattle.cif_term.specs.Tree.{NetExpr, NetUpdate, net_set, net_choose, NetUpdates, no_net_updates, net_updates, NetUpdateBranches, no_net_update_branches, net_update_branches}
 use Rattle.cif_model.specs.Net.{NetStored, Net}
 use Rattle.cif_model.specs.Unfolding.{at_or}
 use Rattle.cif_model.specs.Meaning.{alg_values, type_range}
 use Rattle.plc_expr.specs.Safe.{Setting, value_at, IsTruth, HasBits, IsSafe}
-use Rattle.plc_expr.specs.Texts.{temps}
+use Rattle.std.specs.List.{AllZip}
+use Rattle.st_ast.specs.Values.{Memory, value_of}
+use Rattle.st_ast.specs.declared.tree.StVar.{StVar}
+use Rattle.plc_face.specs.Face.{range_of}
+use Rattle.plc_expr.specs.Texts.{Naming, temps, text}
+use Rattle.plc_expr.specs.Held.{Reads, Held, Prepares}
 use Rattle.plc_act.specs.Writes.{is_tested, conditions_temps, updates_temps, bodies_temps}
 
 -- the setting of a net in a state, where r is received
@@ -48,3 +53,21 @@ IsSafeCondition x c = IsSafe x c × IsTruth (value_at x c)
 -- the expressions of the updates are safe, and the variables can take the values
 abbrev pub AreSafe : Net → Setting → ℕ → NetUpdates → Type 0
 AreSafe n x k us = AllUpdates (λ i v e. IsSafeSet n x v e) (λ i c. IsSafeCondition x c) k us
+
+-- ---- what is promised of expressions
+
+-- each variable holds a number of its type
+abbrev pub AreTyped : List StVar → Memory → Type 0
+AreTyped vars m = AllZip (λ (v : StVar) z. IsTrue (in_range (range_of v.ty) z)) vars m
+
+-- the statements before the expression leave no variable outside its type
+abbrev pub KeepsTypes : List StVar → Naming → Setting → ℕ → ℕ → NetExpr → Type 0
+KeepsTypes vars w x base k e = (turns : ℕ) (m : Memory) → AreTyped vars m → Reads vars w x m e → (q : Prepares vars w x base k e turns m) → AreTyped vars q.after
+
+-- Of each safe expression: the statements before it do what they are to do, its own variables keep what they hold where their
+-- places do, and its text has its value.
+pub record Promises (vars : List StVar) (w : Naming) (x : Setting) (base count : ℕ) : Type 0 where
+  pub prepares : (e : NetExpr) (k turns : ℕ) (m : Memory) → Reads vars w x m e → IsSafe x e → k + temps e ≤ count → Prepares vars w x base k e turns m
+  pub held_kept : (e : NetExpr) (k : ℕ) (m after : Memory) → k + temps e ≤ count
+      → ((j : ℕ) → base + k ≤ j → j < base + k + temps e → slice_get after j ≡ slice_get m j) → Held vars w x m k e → Held vars w x after k e
+  pub valued : (e : NetExpr) (k : ℕ) (m : Memory) → Reads vars w x m e → IsSafe x e → Held vars w x m k e → value_of vars (text w k e) m ≡ Ok (value_at x e)

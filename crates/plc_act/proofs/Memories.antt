@@ -1,0 +1,225 @@
+-- The memories between the statements of a choice: only its own variables have changed, and all variables are in their types.
+use Rattle.std.proofs.Common.{◌≡◌, ◌≢◌, ℕ, ◌+◌, ◌-◌, ◌^◌, ◌<◌, ◌≤◌, ℤ, pos, Bool, true, false, not, ◌&&◌, List, [], ◌∷◌, map, length, Option, Some, None, Ok, inr, refl, sym, ap, subst, ◌∙◌, arith, if◌then◌else◌}
+use Rattle.std.specs.Prelude.{IsTrue, slice_get, slice_set, slice_index_or}
+use Rattle.std.specs.List.{list_all, list_any}
+use Rattle.std.proofs.lemmas.Int.{ints}
+use Rattle.grammar.specs.Pieces.{Text}
+use Rattle.cif_base.specs.Bounds.{in_64_bits}
+use Rattle.cif_base.specs.declared.types.Ty.{Ty}
+use Rattle.cif_base.specs.declared.types.Ty.TheVariants as cif_ty
+use Rattle.cif_system.specs.System.{State, Range, in_range}
+use Rattle.cif_term.specs.Tree.{NetExpr, NetUpdates}
+use Rattle.cif_model.specs.Net.{NetStored, Net}
+use Rattle.cif_model.specs.Kinds.{in_32_bits}
+use Rattle.cif_model.specs.Exprs.{targets}
+use Rattle.cif_model.specs.Facts.{has, is_type, literals_fit, stored_stands}
+use Rattle.cif_model.specs.Meaning.{type_range, system_of_net}
+use Rattle.cif_model.proofs.Passing.{all-member, and-left, and-right}
+use Rattle.cif_system.proofs.Picks.{at-member}
+use Rattle.st_ast.specs.Tree.{Program}
+use Rattle.st_ast.specs.Names.{same_name, place_of, declared}
+use Rattle.st_ast.specs.Values.{Memory, of_bool, value_of}
+use Rattle.st_ast.specs.Exec.{is_within, type_at}
+use Rattle.st_ast.specs.declared.tree.StVar.{StVar}
+use Rattle.st_ast.specs.declared.tree.StTy.{StTy}
+use Rattle.st_ast.specs.declared.tree.StTy.TheVariants as ty
+use Rattle.plc_face.specs.declared.letter.Letter.{Letter}
+use Rattle.plc_face.specs.declared.letter.Letter.TheVariants as letter
+use Rattle.plc_face.specs.Names.{name_for}
+use Rattle.plc_face.specs.Face.{Face, IsDeclared, StateOf, range_of}
+use Rattle.plc_face.specs.Frame.{WritesOnly, fired, writable}
+use Rattle.plc_face.proofs.NameLaws.{false-true, letters-differ, names-differ}
+use Rattle.plc_face.proofs.FaceLaws.{Kept, Typed, below, declared-name, declared-of, declared-type, pairwise-length, places-differ, slice_get-set_other, state-kept, typed-written}
+use Rattle.plc_face.proofs.Framed.{truth_in_type}
+use Rattle.plc_gen.specs.Faces.{face_of_net, st_type}
+use Rattle.plc_gen.proofs.Writing.{Among}
+use Rattle.plc_expr.specs.Texts.{Naming, temps, text, before}
+use Rattle.plc_expr.specs.Safe.{Setting, value_at, IsTruth, IsSafe}
+use Rattle.plc_expr.specs.Held.{held_at, Reads, Held, OwnPlaces, Prepares}
+use Rattle.plc_act.specs.Writes.{NewNames, is_tested, tests, any_tested, updates_temps}
+use Rattle.plc_act.specs.Asked.{setting_of, AllUpdates, IsFit, CanTake, IsSafeSet, IsSafeCondition, KeepsTypes, Promises}
+use Rattle.plc_act.specs.Own.{new_type}
+use Rattle.plc_act.proofs.Writing.{Grounds}
+use Rattle.plc_act.proofs.Targets.{tested-any}
+
+-- ---- types of new values
+
+new-within : (t : Ty) (z : ℤ) → IsFit (is_tested t) (type_range t) z → is_within (new_type t) z ≡ true
+new-within cif_ty.Bool z h = refl
+new-within (cif_ty.Int lo hi) z h = refl
+new-within (cif_ty.Enum size) z h = h
+
+new-typed : (t : Ty) (z : ℤ) → IsFit (is_tested t) (type_range t) z → IsTrue (in_range (range_of (new_type t)) z)
+new-typed cif_ty.Bool z h = h
+new-typed (cif_ty.Int lo hi) z h = h
+new-typed (cif_ty.Enum size) z h = h
+
+bounds-stand : (d : NetStored) → stored_stands d ≡ true → is_tested d.type_of ≡ true → (in_32_bits (type_range d.type_of).lo ≡ true) × (in_32_bits (type_range d.type_of).hi ≡ true)
+bounds-stand d h is = go d.type_of (and-left _ _ (and-left _ _ h)) is
+  where
+    go : (t : Ty) → is_type t ≡ true → is_tested t ≡ true → (in_32_bits (type_range t).lo ≡ true) × (in_32_bits (type_range t).hi ≡ true)
+    go cif_ty.Bool h is = absurd cc
+    go (cif_ty.Int lo hi) h is = (and-left _ _ (and-left _ _ h), and-right _ _ (and-left _ _ h))
+    go (cif_ty.Enum size) h is = absurd cc
+
+-- ---- the own variables of a choice
+
+module _ (n : Net) (p : Program) (own : List Text) (w : Naming) (y : NewNames) (base count : ℕ) (us : NetUpdates) where
+  -- one of the generator's own variables: its number is neither that of the mark nor that of the counter
+  pub record IsTemp (x : Text) (t : StTy) : Type 0 where
+    pub number : ℕ
+    pub path : Text
+    pub above : 2 ≤ number
+    pub small : number < 2 ^ 32
+    pub name : x ≡ name_for letter.T number path
+    pub is_declared : IsDeclared p.vars x t
+    pub among : Among x (writable (face_of_net n) own)
+
+  pub record IsNew (v : ℕ) : Type 0 where
+    pub stored : NetStored
+    pub at : slice_get n.vars v ≡ Some stored
+    pub temp : IsTemp (y.next v) (new_type stored.type_of)
+
+  abbrev pub Assigned : ℕ → Type 0
+  Assigned v = has (targets us) v ≡ true
+
+  abbrev pub Tested : Type 0
+  Tested = any_tested n us ≡ true
+
+  -- The own variables are declared, each under a name of its own.
+  pub record OwnStand : Type 0 where
+    pub next : (v : ℕ) → Assigned v → IsNew v
+    pub next_apart : (v u : ℕ) → Assigned v → Assigned u → v ≢ u → same_name (y.next v) (y.next u) ≡ false
+    pub next_own : (v k : ℕ) → Assigned v → k < count → same_name (y.next v) (w.own k) ≡ false
+    pub mark : Tested → IsTemp y.in_range ty.Bool
+    pub mark_apart : (v : ℕ) → Tested → Assigned v → same_name y.in_range (y.next v) ≡ false
+    pub mark_own : (k : ℕ) → Tested → k < count → same_name y.in_range (w.own k) ≡ false
+    pub own_type : ℕ → StTy
+    pub own_temp : (k : ℕ) → k < count → IsTemp (w.own k) (own_type k)
+    pub own_places : OwnPlaces p.vars w base count
+
+  -- none of them stands at this place
+  pub record IsOther (j : ℕ) : Type 0 where
+    pub no_mark : Tested → j ≢ place_of p.vars y.in_range
+    pub no_next : (v : ℕ) → Assigned v → j ≢ place_of p.vars (y.next v)
+    pub no_own : (k : ℕ) → k < count → j ≢ base + k
+
+  -- a memory after the first one
+  pub record IsLater (m0 m : Memory) : Type 0 where
+    pub typed : Typed p.vars m
+    pub others : (j : ℕ) → IsOther j → slice_get m j ≡ slice_get m0 j
+
+  module _ (o : OwnStand) where
+    -- the place of a variable of another name
+    pub other-at : (x : Text) (v : StVar) → declared p.vars x ≡ Some v → (Tested → same_name x y.in_range ≡ false) → ((u : ℕ) → Assigned u → same_name x (y.next u) ≡ false)
+        → ((k : ℕ) → k < count → same_name x (w.own k) ≡ false) → IsOther (place_of p.vars x)
+    other-at x v at a b c = record {
+      no_mark = λ t. places-differ p.vars x y.in_range v at (a t);
+      no_next = λ u i. places-differ p.vars x (y.next u) v at (b u i);
+      no_own = λ k below e. places-differ p.vars x (w.own k) v at (c k below) (e ∙ sym (o.own_places.place k below));
+    }
+
+    temp-apart : (l : Letter) → (l ≡ letter.T → ⊥) → (i : ℕ) (path x : Text) (t : StTy) → IsTemp x t → same_name (name_for l i path) x ≡ false
+    temp-apart l other i path x t h = subst (λ z. same_name (name_for l i path) z ≡ false) (sym h.name) (letters-differ l letter.T i h.number path h.path other)
+
+    -- variables of other letters are others
+    pub other-letter : (l : Letter) → (l ≡ letter.T → ⊥) → (i : ℕ) (path : Text) (t : StTy) → IsDeclared p.vars (name_for l i path) t → IsOther (place_of p.vars (name_for l i path))
+    other-letter l apart i path t is =
+        let d = declared-of p.vars (name_for l i path) t is in
+        other-at (name_for l i path) d.variable d.at (λ q. temp-apart l apart i path y.in_range ty.Bool (o.mark q))
+        (λ u q. temp-apart l apart i path (y.next u) (new_type (o.next u q).stored.type_of) (o.next u q).temp)
+        (λ k below. temp-apart l apart i path (w.own k) (o.own_type k) (o.own_temp k below))
+
+    -- what may be written has been written alone
+    pub writes-own : (m0 m : Memory) → IsLater m0 m → WritesOnly (writable (face_of_net n) own) p.vars m0 m
+    writes-own m0 m h k v at free = h.others k record {
+      no_mark = λ t e. not-named k v y.in_range ty.Bool (o.mark t) at free e;
+      no_next = λ u q e. not-named k v (y.next u) (new_type (o.next u q).stored.type_of) (o.next u q).temp at free e;
+      no_own = λ i below e. not-named k v (w.own i) (o.own_type i) (o.own_temp i below) at free (e ∙ sym (o.own_places.place i below));
+    }
+      where
+        not-named : (k : ℕ) (v : StVar) (x : Text) (t : StTy) → IsTemp x t → slice_get p.vars k ≡ Some v → list_any (same_name v.name) (writable (face_of_net n) own) ≡ false
+            → k ≢ place_of p.vars x
+        not-named k v x t h at free e =
+            false-true (same_name v.name x) (h.among v.name free) (declared-name p.vars x v (ap (slice_get p.vars) (sym e) ∙ at))
+
+    pub later-kept : (m0 m : Memory) → IsLater m0 m → (l : Letter) → (l ≡ letter.T → ⊥) → Kept p m0 m l
+    later-kept m0 m h l apart i path t is = h.others (place_of p.vars (name_for l i path)) (other-letter l apart i path t is)
+
+    -- a later memory stands for the same state
+    pub later-state : (m0 m : Memory) (s : State) → IsLater m0 m → StateOf (face_of_net n) (system_of_net n) p m0 s → StateOf (face_of_net n) (system_of_net n) p m s
+    later-state m0 m s h st =
+        state-kept (face_of_net n) (system_of_net n) p m0 m s (later-kept m0 m h letter.L (λ e. cc)) (later-kept m0 m h letter.V (λ e. cc)) (later-kept m0 m h letter.H (λ e. cc)) st
+
+    room : (x : Text) (t : StTy) (m : Memory) → IsTemp x t → Typed p.vars m → place_of p.vars x < length m
+    room x t m h typed =
+        let d = declared-of p.vars x t h.is_declared in
+        let inside = below p.vars (place_of p.vars x) d.variable d.at in
+        let long = pairwise-length (λ (v : StVar) z. IsTrue (in_range (range_of v.ty) z)) p.vars m typed in omega (arith, inside, long)
+
+    apart-places : (x z : Text) (t : StTy) → IsTemp x t → same_name x z ≡ false → place_of p.vars x ≢ place_of p.vars z
+    apart-places x z t h apart = let d = declared-of p.vars x t h.is_declared in places-differ p.vars x z d.variable d.at apart
+
+    -- ---- what is promised of expressions
+
+    module _ (s : State) (r : ℤ) (m0 : Memory) (st : StateOf (face_of_net n) (system_of_net n) p m0 s) (stored_stand : list_all stored_stands n.vars ≡ true)
+        (promised : Promises p.vars w (setting_of n s r) base count) where
+      abbrev x : Setting
+      x = setting_of n s r
+
+      -- The expression is safe, its names are read from each memory that stands for the state, and its own variables keep
+      -- their types.
+      abbrev pub IsReady : ℕ → NetExpr → Type 0
+      IsReady k e = IsSafe x e × ((m : Memory) → StateOf (face_of_net n) (system_of_net n) p m s → Reads p.vars w x m e) × KeepsTypes p.vars w x base k e
+
+      reads-later : (m : Memory) (k : ℕ) (e : NetExpr) → IsLater m0 m → IsReady k e → Reads p.vars w x m e
+      reads-later m k e h is = is.1 m (later-state m0 m s h st)
+
+      prepared-later : (e : NetExpr) (k turns : ℕ) (m : Memory) → IsReady k e → k + temps e ≤ count → IsLater m0 m → (q : Prepares p.vars w x base k e turns m) → IsLater m0 q.after
+      prepared-later e k turns m is few h q = record {
+        typed = is.2 turns m h.typed (reads-later m k e h is) q;
+        others = λ j apart. q.beside.others j (λ above. beyond j apart above) ∙ h.others j apart;
+      }
+        where
+          beyond : (j : ℕ) → IsOther j → base + k ≤ j → base + k + temps e ≤ j
+          beyond j apart above = let a : j - base < count → j ≢ base + (j - base) = apart.no_own (j - base) in grind (arith, a, above, few)
+
+      next-later : (v : ℕ) (z : ℤ) (m : Memory) → Assigned v → CanTake (slice_get n.vars v) z → IsLater m0 m → IsLater m0 (slice_set m (place_of p.vars (y.next v)) z)
+      next-later v z m i takes h =
+          let new = o.next v i in
+          record {
+            typed = typed-written p.vars m (y.next v) (new_type new.stored.type_of) z new.temp.is_declared
+                (new-typed new.stored.type_of z (subst (λ c. CanTake c z) new.at takes)) h.typed;
+            others = λ j apart. slice_get-set_other m (place_of p.vars (y.next v)) j z (apart.no_next v i) ∙ h.others j apart;
+          }
+
+      mark-later : (b : Bool) (m : Memory) → Tested → IsLater m0 m → IsLater m0 (slice_set m (place_of p.vars y.in_range) (of_bool b))
+      mark-later b m t h = record {
+        typed = typed-written p.vars m y.in_range ty.Bool (of_bool b) (o.mark t).is_declared (truth_in_type b) h.typed;
+        others = λ j apart. slice_get-set_other m (place_of p.vars y.in_range) j (of_bool b) (apart.no_mark t) ∙ h.others j apart;
+      }
+
+      pub grounds : Grounds n s r p.vars w y base count (IsLater m0) IsReady Assigned Tested
+      grounds = record {
+        prepares = λ e k turns m is few h. promised.prepares e k turns m (reads-later m k e h is) is.0 few;
+        prepared_kept = prepared-later;
+        held_kept = λ e k m after is few same held. promised.held_kept e k m after few same held;
+        valued = λ e k m is h held. promised.valued e k m (reads-later m k e h is) is.0 held;
+        next_room = λ v m i h. let new = o.next v i in room (y.next v) (new_type new.stored.type_of) m new.temp h.typed;
+        next_apart = λ v u i j other. let new = o.next v i in apart-places (y.next v) (y.next u) (new_type new.stored.type_of) new.temp (o.next_apart v u i j other);
+        next_own = λ v k i below e.
+            let new = o.next v i in
+            apart-places (y.next v) (w.own k) (new_type new.stored.type_of) new.temp (o.next_own v k i below) (e ∙ sym (o.own_places.place k below));
+        next_type = λ v z i takes.
+            let new = o.next v i in
+            ap (λ t. is_within t z) (declared-type p.vars (y.next v) (new_type new.stored.type_of) new.temp.is_declared)
+            ∙ new-within new.stored.type_of z (subst (λ c. CanTake c z) new.at takes);
+        next_kept = next-later;
+        marked = λ v i is. tested-any n v is us i;
+        mark_room = λ m t h. room y.in_range ty.Bool m (o.mark t) h.typed;
+        mark_apart = λ v t i. apart-places y.in_range (y.next v) ty.Bool (o.mark t) (o.mark_apart v t i);
+        mark_own = λ k t below e. apart-places y.in_range (w.own k) ty.Bool (o.mark t) (o.mark_own k t below) (e ∙ sym (o.own_places.place k below));
+        mark_type = λ b t. ap (λ q. is_within q (of_bool b)) (declared-type p.vars y.in_range ty.Bool (o.mark t).is_declared);
+        mark_kept = mark-later;
+        bounds = λ v d at is. bounds-stand d (all-member stored_stands n.vars d stored_stand (at-member n.vars v d at)) is;
+      }
