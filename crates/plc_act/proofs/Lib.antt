@@ -3,3 +3,4 @@ pub mod Pairs
 pub mod Writing
 pub mod Targets
 pub mod Memories
+pub mod Taking
