@@ -4,3 +4,4 @@ pub mod Writing
 pub mod Targets
 pub mod Memories
 pub mod Taking
+pub mod Storing

@@ -51,12 +51,12 @@ use Rattle.plc_act.proofs.Targets.{or-left, or-right}
 
 -- ---- types
 
-range-is : (t : Ty) (z : ℤ) → in_range (range_of (st_type t)) z ≡ in_range (type_range t) z
+pub range-is : (t : Ty) (z : ℤ) → in_range (range_of (st_type t)) z ≡ in_range (type_range t) z
 range-is cif_ty.Bool z = refl
 range-is (cif_ty.Int lo hi) z = refl
 range-is (cif_ty.Enum size) z = refl
 
-within-is : (t : Ty) (z : ℤ) → in_range (type_range t) z ≡ true → is_within (st_type t) z ≡ true
+pub within-is : (t : Ty) (z : ℤ) → in_range (type_range t) z ≡ true → is_within (st_type t) z ≡ true
 within-is cif_ty.Bool z h = refl
 within-is (cif_ty.Int lo hi) z h = h
 within-is (cif_ty.Enum size) z h = h
@@ -94,10 +94,10 @@ module _ (n : Net) (p : Program) (s : State) where
 
 -- ---- tests of lists
 
-has-first : (u : ℕ) (vs : List ℕ) (v : ℕ) → nat_eq v u ≡ true → has (u ∷ vs) v ≡ true
+pub has-first : (u : ℕ) (vs : List ℕ) (v : ℕ) → nat_eq v u ≡ true → has (u ∷ vs) v ≡ true
 has-first u vs v e = ap (λ b. b || has vs v) e
 
-has-rest : (u : ℕ) (vs : List ℕ) (v : ℕ) → has vs v ≡ true → has (u ∷ vs) v ≡ true
+pub has-rest : (u : ℕ) (vs : List ℕ) (v : ℕ) → has vs v ≡ true → has (u ∷ vs) v ≡ true
 has-rest u vs v e = go (nat_eq v u)
   where
     go : (b : Bool) → (b || has vs v) ≡ true
@@ -107,7 +107,7 @@ has-rest u vs v e = go (nat_eq v u)
 has-none : (u : ℕ) (vs : List ℕ) (v : ℕ) → nat_eq v u ≡ false → has vs v ≡ false → has (u ∷ vs) v ≡ false
 has-none u vs v e h = ap (λ b. b || has vs v) e ∙ h
 
-self : (v : ℕ) → nat_eq v v ≡ true
+pub self : (v : ℕ) → nat_eq v v ≡ true
 self v = eq-eqb v v refl
 
 module _ (n : Net) (p : Program) (own : List Text) (w : Naming) (y : NewNames) (base count : ℕ) (us : NetUpdates) (o : OwnStand n p own w y base count us)
