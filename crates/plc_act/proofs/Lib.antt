@@ -5,3 +5,4 @@ pub mod Targets
 pub mod Memories
 pub mod Taking
 pub mod Storing
+pub mod Acting

@@ -96,7 +96,7 @@ module _ (n : Net) (p : Program) (own : List Text) (w : Naming) (y : NewNames) (
       (subst (λ a. same_name (name_for letter.V v e.path) a ≡ false) (sym x.name)
       (names-differ letter.V letter.V v u e.path d.path (omega (arith, small_v, few)) (omega (arith, small_u, few)) (inr (λ h. other (sym h))))))
 
-  stores-run : (vs : List ℕ) → ((v : ℕ) → has vs v ≡ true → has (targets us) v ≡ true) → (turns : ℕ) (b : Memory) → Typed p.vars b → HaveNew b → Stored vs turns b
+  pub stores-run : (vs : List ℕ) → ((v : ℕ) → has vs v ≡ true → has (targets us) v ≡ true) → (turns : ℕ) (b : Memory) → Typed p.vars b → HaveNew b → Stored vs turns b
   stores-run [] all turns b typed new = record {
     after = b;
     ends = refl;

@@ -1,0 +1,274 @@
+-- What a choice with data does whose test holds: where all new values are in range it leads to the state after its step, and
+-- where one is not it leaves the state as it is.
+use Rattle.std.proofs.Common.{◌≡◌, ◌≢◌, ℕ, zero, suc, ◌+◌, ◌^◌, ◌<◌, ◌≤◌, ℤ, pos, Bool, true, false, not, ◌&&◌, ◌||◌, List, [], ◌∷◌, ◌++◌, map, filter, find, length, Option, Some, None, Ok, get_or, nat_eq, cond, inr, refl, sym, ap, subst, ◌∙◌, arith, eq-eqb, eqb-true, unwrap_or, if◌then◌else◌}
+use Rattle.std.specs.Prelude.{IsTrue, slice_get, slice_set, slice_index_or, option_map, option_to_list}
+use Rattle.std.specs.List.{AllByRecursion, AllZip, list_all, list_any, enumerate_from, range_with_len}
+use Rattle.std.proofs.lemmas.List.{get_or-set_same, get_or-set_other}
+use Rattle.std.proofs.lemmas.Map.Views.{any-filter_same}
+use Rattle.std.proofs.lemmas.Option.{slice_get-map}
+use Rattle.grammar.specs.Pieces.{Text}
+use Rattle.cif_system.specs.System.{State, System, in_range}
+use Rattle.cif_system.specs.Step.{after, agrees, assigned, assigned_fits, fits_channel, fits_variable, is_permitted, makes_step, meets_invariants, new_value, new_values, sent, sent_fits}
+use Rattle.cif_system.proofs.Lists.{map-length, none-some, some-same}
+use Rattle.cif_system.proofs.StateLaws.{step-state}
+use Rattle.cif_term.specs.Tree.{NetExpr, NetUpdates}
+use Rattle.cif_model.specs.Net.{NetAuto, NetInvariant, NetStored, Net}
+use Rattle.cif_model.specs.Exprs.{targets}
+use Rattle.cif_model.specs.Facts.{has, stored_stands}
+use Rattle.cif_model.specs.Listing.{NetChoice, edge_in}
+use Rattle.cif_model.specs.Meaning.{invariant_in, net_assigned_all, stored_in, system_of_net, true_in, type_range, value_in}
+use Rattle.cif_model.specs.Table.{MovesParties, SendsAndAssigns, agrees_in, permitted_in}
+use Rattle.st_ast.specs.Tree.{Expr, Program, Stm, Stms, append, assign, branches, choice, named, no_branches, no_other, no_stms, stms, stms_of, truth}
+use Rattle.st_ast.specs.Names.{same_name, place_of}
+use Rattle.st_ast.specs.Values.{Memory, is_true, of_bool, value_of, with_value}
+use Rattle.st_ast.specs.Exec.{Outcome, Ended, Faulted, exec, is_within}
+use Rattle.st_ast.specs.declared.tree.StVar.{StVar}
+use Rattle.st_ast.specs.declared.tree.StTy.TheVariants as ty
+use Rattle.st_ast.proofs.Runs.{append_runs, assign_runs, cons_runs}
+use Rattle.plc_face.specs.declared.letter.Letter.{Letter}
+use Rattle.plc_face.specs.declared.letter.Letter.TheVariants as letter
+use Rattle.plc_face.specs.Names.{name_for}
+use Rattle.plc_face.specs.Face.{HoldsAt, IsDeclared, StateOf, places_of}
+use Rattle.plc_face.specs.Frame.{Follows, Stands, WritesOnly, fired, mark_in, names_of, writable}
+use Rattle.plc_face.proofs.NameLaws.{letters-differ}
+use Rattle.plc_face.proofs.FaceLaws.{Kept, Typed, declared-of, get_or-of, hold-kept, places-differ}
+use Rattle.plc_gen.specs.Faces.{face_of_net, st_type, stored_face}
+use Rattle.plc_gen.specs.Events.{moves_text}
+use Rattle.plc_gen.proofs.Choosing.{choice_in}
+use Rattle.plc_gen.proofs.Making.{Closed, Does, Ready, range-length}
+use Rattle.plc_gen.proofs.Moving.{Moved, all-moved, faces}
+use Rattle.plc_gen.proofs.Writing.{AllAmong, among-left, names-among, writes-then}
+use Rattle.plc_expr.specs.Texts.{Naming}
+use Rattle.plc_expr.specs.Safe.{IsTruth, value_at}
+use Rattle.plc_expr.specs.Held.{held_at}
+use Rattle.plc_act.specs.Writes.{NewNames, any_tested, chosen, updates_temps, writes}
+use Rattle.plc_act.specs.Acts.{act, assigned_vars, computed, may_stay, stored, store, surely_set}
+use Rattle.plc_act.specs.Asked.{setting_of, AllUpdates, CanTake, Promises}
+use Rattle.plc_act.specs.Own.{variable_name}
+use Rattle.plc_act.proofs.Numbers.{truth-of}
+use Rattle.plc_act.proofs.Pairs.{all_fit, fits_pair, fit-one}
+use Rattle.plc_act.proofs.Writing.{Grounds, Wrote, updates-wrote}
+use Rattle.plc_act.proofs.Targets.{all-updates, assigned-has, decides, or-left, others-stay, untested-fit}
+use Rattle.plc_act.proofs.Memories.{IsLater, IsOther, IsReady, OwnStand, grounds, later-kept, later-state, writes-own}
+use Rattle.plc_act.proofs.Taking.{Copied, copies-run, old, old-in, variable-at}
+use Rattle.plc_act.proofs.Storing.{HaveNew, Stored as Storage, place_v, stores-run}
+
+-- ---- new values
+
+-- a new value is in range, be it assigned or the old one
+fit-new : (n : Net) (pairs : List (ℕ × ℤ)) (v : ℕ) (d : NetStored) (z : ℤ) → slice_get n.vars v ≡ Some d → all_fit n pairs ≡ true → in_range (type_range d.type_of) z ≡ true
+    → in_range (type_range d.type_of) (new_value pairs v z) ≡ true
+fit-new n [] v d z at all fit = fit
+fit-new n ((k, q) ∷ pairs) v d z at all fit = go (nat_eq k v) refl (fit-new n pairs v d z at (second (fits_pair n (k, q)) (all_fit n pairs) all) fit)
+  where
+    first : (a b : Bool) → (a && b) ≡ true → a ≡ true
+    first true b h = refl
+    first false b h = absurd cc
+
+    second : (a b : Bool) → (a && b) ≡ true → b ≡ true
+    second true b h = h
+    second false b h = absurd cc
+
+    go : (b : Bool) → nat_eq k v ≡ b → in_range (type_range d.type_of) (new_value pairs v z) ≡ true
+        → in_range (type_range d.type_of) (unwrap_or (option_map (λ (c : ℕ × ℤ). c.1) (cond b (Some (k, q)) (find (λ (c : ℕ × ℤ). nat_eq c.0 v) pairs))) z) ≡ true
+    go true is rest =
+        sym (fit-one n k d q (ap (slice_get n.vars) (eqb-true k v is) ∙ at)) ∙ ap (λ b. b && true) (first (fits_pair n (k, q)) (all_fit n pairs) all)
+    go false is rest = rest
+
+-- the variables hold new values
+hold-new : (p : Program) (m end : Memory) (pairs : List (ℕ × ℤ)) (i : ℕ) (ds : List NetStored) (zs : List ℤ) → AllZip (HoldsAt p m letter.V) (enumerate_from i (map stored_face ds)) zs
+    → ((j : ℕ) (d : NetStored) (z : ℤ) → slice_get ds j ≡ Some d → slice_get zs j ≡ Some z → slice_get end (place_of p.vars (name_for letter.V (i + j) d.path)) ≡ Some (new_value pairs (i + j) z))
+    → AllZip (HoldsAt p end letter.V) (enumerate_from i (map stored_face ds)) (new_values pairs i zs)
+hold-new p m end pairs i [] [] hold new = tt
+hold-new p m end pairs i [] (z ∷ zs) hold new = absurd hold
+hold-new p m end pairs i (d ∷ ds) [] hold new = absurd hold
+hold-new p m end pairs i (d ∷ ds) (z ∷ zs) hold new = (
+  record {
+    is_declared = hold.0.is_declared;
+    holds = subst (λ j. slice_get end (place_of p.vars (name_for letter.V j d.path)) ≡ Some (new_value pairs j z)) (omega arith) (new 0 d z refl refl);
+  },
+  subst (λ j. AllZip (HoldsAt p end letter.V) (enumerate_from (i + 1) (map stored_face ds)) (new_values pairs j zs)) (omega arith)
+      (hold-new p m end pairs (i + 1) ds zs hold.1
+      (λ j e q at_d at_z. subst (λ k. slice_get end (place_of p.vars (name_for letter.V k e.path)) ≡ Some (new_value pairs k q)) (omega arith) (new (suc j) e q at_d at_z))),
+)
+
+-- ---- choices
+
+-- What is known of a choice in the table that sends nothing.
+pub record IsData (n : Net) (c : NetChoice) : Type 0 where
+  pub parties : MovesParties n c
+  pub tests : (s : State) → true_in n s c.test ≡ (agrees_in n s c && permitted_in n s c)
+  pub values : (s : State) → SendsAndAssigns n s c
+  pub sends_none : c.sent ≡ None
+
+abbrev pub pairs_of : Net → NetChoice → State → List (ℕ × ℤ)
+pairs_of n c s = net_assigned_all n s (pos 0) c.writes
+
+five : (a sf af q mi : Bool) → sf ≡ true → mi ≡ true → (a && sf && af && q && mi) ≡ ((a && q) && af)
+five a sf af q mi x y = rw (x, y) (cut a af q)
+  where
+    cut : (a af q : Bool) → (a && true && af && q && true) ≡ ((a && q) && af)
+    cut true true true = refl
+    cut true true false = refl
+    cut true false true = refl
+    cut true false false = refl
+    cut false true true = refl
+    cut false true false = refl
+    cut false false true = refl
+    cut false false false = refl
+
+module _ (n : Net) (c : NetChoice) (s : State) (h : IsData n c) where
+  pub pairs-are : pairs_of n c s ≡ assigned (system_of_net n) s (choice_in n c)
+  pairs-are =
+      ap (λ (o : Option NetExpr). net_assigned_all n s (elim (option_map (value_in n s (pos 0)) o) [ None ↦ pos 0 | Some z ↦ z ]) c.writes) (sym h.sends_none)
+      ∙ (h.values s).1
+
+  sent-none : sent (system_of_net n) s (choice_in n c) ≡ []
+  sent-none = sym (h.values s).0 ∙ ap (λ (o : Option NetExpr). option_to_list (option_map (value_in n s (pos 0)) o)) h.sends_none
+
+  -- it makes a step where its test holds and its new values are in range
+  pub makes-is : n.invariants ≡ [] → makes_step (system_of_net n) s c.event (choice_in n c) ≡ (true_in n s c.test && all_fit n (pairs_of n c s))
+  makes-is none =
+      five (agrees_in n s c) (sent_fits (system_of_net n) s c.event (choice_in n c)) (assigned_fits (system_of_net n) s (choice_in n c)) (permitted_in n s c)
+      (meets_invariants (system_of_net n) (after (system_of_net n) s (choice_in n c)))
+      (ap (λ zs. list_all (fits_channel (slice_get (system_of_net n).events c.event)) zs) sent-none)
+      (ap (λ (is : List NetInvariant). list_all (λ (f : State → Bool). f (after (system_of_net n) s (choice_in n c))) (map (invariant_in n) is)) none)
+      ∙ ap (λ b. b && assigned_fits (system_of_net n) s (choice_in n c)) (sym (h.tests s))
+      ∙ ap (λ ws. true_in n s c.test && all_fit n ws) (sym pairs-are)
+
+-- ---- the stores and the moves
+
+module _ (n : Net) (p : Program) (own : List Text) (w : Naming) (y : NewNames) (base count : ℕ) (c : NetChoice) (o : OwnStand n p own w y base count c.writes)
+    (named_so : (v : ℕ) → w.variable v ≡ variable_name n v) (stored_stand : list_all stored_stands n.vars ≡ true) (few : length n.vars < 2 ^ 32) (h : IsData n c) (ready : Ready n p)
+    (s : State) (m0 : Memory) (st : Stands (face_of_net n) (system_of_net n) p m0 s) where
+  abbrev pub IsAfter : Memory → Type 0
+  IsAfter m = IsLater n p own w y base count c.writes m0 m
+
+  -- the new value of a variable
+  abbrev pub new_of : ℕ → ℤ
+  new_of v = new_value (pairs_of n c s) v (old n p s v)
+
+  abbrev pub next_state : State
+  next_state = after (system_of_net n) s (choice_in n c)
+
+  pub new-in : all_fit n (pairs_of n c s) ≡ true → (v : ℕ) (d : NetStored) → slice_get n.vars v ≡ Some d → in_range (type_range d.type_of) (new_of v) ≡ true
+  new-in fit v d at = fit-new n (pairs_of n c s) v d (old n p s v) at fit (old-in n p s m0 v d at st.state)
+
+  choice-length : length (choice_in n c) ≡ length n.autos
+  choice-length = map-length (edge_in c.moves) (range_with_len 0 (length n.autos)) ∙ range-length 0 (length n.autos)
+
+  faces-length : (xs : List NetAuto) → length (faces xs) ≡ length xs
+  faces-length [] = refl
+  faces-length (a ∷ xs) = ap suc (faces-length xs)
+
+  places-among : AllAmong letter.L (writable (face_of_net n) own) 0 (faces n.autos)
+  places-among =
+      names-among letter.L (faces n.autos) (writable (face_of_net n) own)
+      (λ x a. among-left x (names_of letter.L (places_of (face_of_net n)) ++ names_of letter.V (face_of_net n).variables) (fired ∷ own)
+      (among-left x (names_of letter.L (places_of (face_of_net n))) (names_of letter.V (face_of_net n).variables) a))
+
+  -- What is known of the memory after the updates, where all new values are in range.
+  module _ (fit : all_fit n (pairs_of n c s) ≡ true) (turns : ℕ) (a : Memory) (later : IsAfter a) (new : HaveNew n p own w y base count c.writes o named_so few s m0 st.state new_of (new-in fit) a) (ss : Stms) where
+    state-a : StateOf (face_of_net n) (system_of_net n) p a s
+    state-a = later-state n p own w y base count c.writes o m0 a s later st.state
+
+    pub storage : Storage n p own w y base count c.writes o named_so few s m0 st.state new_of (new-in fit) (assigned_vars c.writes) turns a
+    storage =
+        stores-run n p own w y base count c.writes o named_so few s m0 st.state new_of (new-in fit) (assigned_vars c.writes)
+        (λ v e. sym (assigned-has c.writes v) ∙ e) turns a later.typed new
+
+    -- variables of other letters than those that are stored
+    kept-b : (l : Letter) → (letter.V ≡ l → ⊥) → Kept p a storage.after l
+    kept-b l other i path t is = storage.others (name_for l i path) (λ k way. letters-differ letter.V l k i way path other)
+
+    pub moved : Moved n p s c.event ss (writable (face_of_net n) own) 0 n.autos (choice_in n c) turns storage.after
+    moved =
+        let long = faces-length n.autos in
+        let small = ready.few in
+        all-moved n p s c.event ss (writable (face_of_net n) own) ready.within (choice_in n c) turns storage.after choice-length (omega (arith, long, small)) places-among
+        (hold-kept p a storage.after letter.L (kept-b letter.L (λ e. cc)) 0 (places_of (face_of_net n)) (map pos s.locs) state-a.places) storage.typed
+
+    module _ (closed : Closed n p ready own ss turns moved.after) where
+      kept-c : (l : Letter) → (letter.L ≡ l → ⊥) → (l ≡ letter.T → ⊥) → Kept p storage.after closed.after l
+      kept-c l other_l other_t i path t is =
+          closed.kept l other_t i path t is
+          ∙ moved.others (name_for l i path) (λ k way above small. letters-differ letter.L l k i way path other_l)
+
+      -- each variable holds its new value
+      new-at : (v : ℕ) (d : NetStored) → slice_get n.vars v ≡ Some d → slice_get storage.after (place_of p.vars (variable_name n v)) ≡ Some (new_of v)
+      new-at v d at = storage.taken v d at ∙ go (has (assigned_vars c.writes) v) refl
+        where
+          go : (b : Bool) → has (assigned_vars c.writes) v ≡ b → (if b then Some (new_of v) else slice_get a (place_of p.vars (variable_name n v))) ≡ Some (new_of v)
+          go true is = refl
+          go false is =
+              (variable-at n p s a v d at state-a).holds
+              ∙ ap Some (sym (others-stay n s (pos 0) v c.writes (sym (assigned-has c.writes v) ∙ is) (old n p s v)))
+
+      new-held : (j : ℕ) (d : NetStored) (z : ℤ) → slice_get n.vars j ≡ Some d → slice_get s.vals j ≡ Some z
+          → slice_get closed.after (place_of p.vars (name_for letter.V (0 + j) d.path)) ≡ Some (new_value (pairs_of n c s) (0 + j) z)
+      new-held j d z at at_z =
+          let zero-plus : 0 + j ≡ j = omega arith in
+          let x = variable-at n p s m0 j d at st.state in
+          subst (λ i. slice_get closed.after (place_of p.vars (name_for letter.V i d.path)) ≡ Some (new_value (pairs_of n c s) i z)) (sym zero-plus)
+          (kept-c letter.V (λ e. cc) (λ e. cc) j d.path (st_type d.type_of) (subst (λ q. IsDeclared p.vars q (st_type d.type_of)) x.name x.is_declared)
+          ∙ ap (λ q. slice_get storage.after (place_of p.vars q)) (sym x.name)
+          ∙ new-at j d at
+          ∙ ap (λ q. Some (new_value (pairs_of n c s) j q)) (get_or-of s.vals j z (pos 0) at_z))
+
+      state-after : makes_step (system_of_net n) s c.event (choice_in n c) ≡ true → StateOf (face_of_net n) (system_of_net n) p closed.after next_state
+      state-after makes = record {
+        places = hold-kept p moved.after closed.after letter.L (closed.kept letter.L (λ e. cc)) 0 _ _ moved.hold;
+        values = subst (λ ws. AllZip (HoldsAt p closed.after letter.V) (enumerate_from 0 (face_of_net n).variables) (new_values ws 0 s.vals)) (pairs-are n c s h)
+            (hold-new p m0 closed.after (pairs_of n c s) 0 n.vars s.vals st.state.values new-held);
+        inputs = hold-kept p m0 closed.after letter.H
+            (λ i path t is. kept-c letter.H (λ e. cc) (λ e. cc) i path t is ∙ kept-b letter.H (λ e. cc) i path t is ∙ later-kept n p own w y base count c.writes o m0 a later letter.H (λ e. cc) i path t is)
+            0 _ _ st.state.inputs;
+        is_state = step-state (system_of_net n) ready.inside s c.event next_state st.state.is_state record { choice = choice_in n c; makes = makes; is_after = refl };
+      }
+
+      -- the stores, the moves, and what follows them
+      pub took : makes_step (system_of_net n) s c.event (choice_in n c) ≡ true → Does n p own (Some next_state) (exec p.vars (stored w y c.writes (moves_text n c.moves ss)) turns a) turns m0 s
+      took makes = record {
+        after = closed.after;
+        ends = append_runs p.vars (stms_of (map (store w y) (assigned_vars c.writes))) (moves_text n c.moves ss) turns turns a storage.after storage.ends
+            ∙ ap (λ ms. exec p.vars (moves_text n ms ss) turns storage.after) h.parties ∙ moved.ends ∙ closed.ends;
+        writes = writes-then (writable (face_of_net n) own) p.vars m0 a closed.after (writes-own n p own w y base count c.writes o m0 a later)
+            (writes-then (writable (face_of_net n) own) p.vars a storage.after closed.after storage.writes
+            (writes-then (writable (face_of_net n) own) p.vars storage.after moved.after closed.after moved.writes closed.writes));
+        typed = closed.typed;
+        follows = (state-after makes, closed.mark);
+      }
+
+      pub took-last : (makes : makes_step (system_of_net n) s c.event (choice_in n c) ≡ true) → (took makes).after ≡ closed.after
+      unfolding took
+      took-last makes = refl
+
+  -- ---- the whole
+
+  -- how a choice leaves the memory: after a step as Q says, and else only its own variables have changed
+  abbrev pub Leaves : (Q : Memory → Type 0) → Option State → Memory → Type 0
+  Leaves Q None end = IsAfter end
+  Leaves Q (Some t) end = Q end
+
+  pub record Acts (Q : Memory → Type 0) (d : Option State) (out : Outcome) (turns : ℕ) : Type 0 where
+    pub does : Does n p own d out turns m0 s
+    pub leaves : Leaves Q d does.after
+
+  same-act : (Q : Memory → Type 0) (d : Option State) (out from : Outcome) (turns : ℕ) → out ≡ from → Acts Q d from turns → Acts Q d out turns
+  same-act Q d out from turns same a = record {
+    does = record { after = a.does.after; ends = same ∙ a.does.ends; writes = a.does.writes; typed = a.does.typed; follows = a.does.follows };
+    leaves = a.leaves;
+  }
+
+  -- nothing that is seen has changed
+  quiet : (Q : Memory → Type 0) (turns : ℕ) (a : Memory) → IsAfter a → Acts Q None (Ended turns a) turns
+  quiet Q turns a later = record {
+    does = record {
+      after = a;
+      ends = refl;
+      writes = writes-own n p own w y base count c.writes o m0 a later;
+      typed = later.typed;
+      follows = (later-state n p own w y base count c.writes o m0 a s later st.state, ?);
+    };
+    leaves = later;
+  }
