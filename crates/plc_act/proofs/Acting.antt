@@ -1,37 +1,34 @@
 -- What a choice with data does whose test holds: where all new values are in range it leads to the state after its step, and
 -- where one is not it leaves the state as it is.
-use Rattle.std.proofs.Common.{◌≡◌, ◌≢◌, ℕ, zero, suc, ◌+◌, ◌^◌, ◌<◌, ◌≤◌, ℤ, pos, Bool, true, false, not, ◌&&◌, ◌||◌, List, [], ◌∷◌, ◌++◌, map, filter, find, length, Option, Some, None, Ok, get_or, nat_eq, cond, inr, refl, sym, ap, subst, ◌∙◌, arith, eq-eqb, eqb-true, unwrap_or, if◌then◌else◌}
-use Rattle.std.specs.Prelude.{IsTrue, slice_get, slice_set, slice_index_or, option_map, option_to_list}
-use Rattle.std.specs.List.{AllByRecursion, AllZip, list_all, list_any, enumerate_from, range_with_len}
-use Rattle.std.proofs.lemmas.List.{get_or-set_same, get_or-set_other}
+use Rattle.std.proofs.Common.{◌≡◌, ℕ, suc, ◌+◌, ◌^◌, ◌<◌, ◌≤◌, ℤ, pos, Bool, true, false, not, ◌&&◌, List, [], ◌∷◌, ◌++◌, map, find, length, Option, Some, None, nat_eq, cond, refl, sym, ap, subst, ◌∙◌, arith, eqb-true, unwrap_or, if◌then◌else◌}
+use Rattle.std.specs.Prelude.{slice_get, slice_set, option_map, option_to_list}
+use Rattle.std.specs.List.{AllZip, list_all, enumerate_from, range_with_len}
+use Rattle.std.proofs.lemmas.List.{get_or-set_same}
 use Rattle.std.proofs.lemmas.Map.Views.{any-filter_same}
-use Rattle.std.proofs.lemmas.Option.{slice_get-map}
 use Rattle.grammar.specs.Pieces.{Text}
-use Rattle.cif_system.specs.System.{State, System, in_range}
-use Rattle.cif_system.specs.Step.{after, agrees, assigned, assigned_fits, fits_channel, fits_variable, is_permitted, makes_step, meets_invariants, new_value, new_values, sent, sent_fits}
-use Rattle.cif_system.proofs.Lists.{map-length, none-some, some-same}
+use Rattle.cif_system.specs.System.{State, in_range}
+use Rattle.cif_system.specs.Step.{after, assigned, assigned_fits, fits_channel, makes_step, meets_invariants, new_value, new_values, sent, sent_fits}
+use Rattle.cif_system.proofs.Lists.{map-length}
 use Rattle.cif_system.proofs.StateLaws.{step-state}
-use Rattle.cif_term.specs.Tree.{NetExpr, NetUpdates}
+use Rattle.cif_term.specs.Tree.{NetExpr}
 use Rattle.cif_model.specs.Net.{NetAuto, NetInvariant, NetStored, Net}
 use Rattle.cif_model.specs.Exprs.{targets}
 use Rattle.cif_model.specs.Facts.{has, stored_stands}
 use Rattle.cif_model.specs.Listing.{NetChoice, edge_in}
-use Rattle.cif_model.specs.Meaning.{invariant_in, net_assigned_all, stored_in, system_of_net, true_in, type_range, value_in}
+use Rattle.cif_model.specs.Meaning.{invariant_in, net_assigned_all, system_of_net, true_in, type_range, value_in}
 use Rattle.cif_model.specs.Table.{MovesParties, SendsAndAssigns, agrees_in, permitted_in}
-use Rattle.st_ast.specs.Tree.{Expr, Program, Stm, Stms, append, assign, branches, choice, named, no_branches, no_other, no_stms, stms, stms_of, truth}
-use Rattle.st_ast.specs.Names.{same_name, place_of}
-use Rattle.st_ast.specs.Values.{Memory, is_true, of_bool, value_of, with_value}
-use Rattle.st_ast.specs.Exec.{Outcome, Ended, Faulted, exec, is_within}
-use Rattle.st_ast.specs.declared.tree.StVar.{StVar}
-use Rattle.st_ast.specs.declared.tree.StTy.TheVariants as ty
+use Rattle.st_ast.specs.Tree.{Program, Stms, append, assign, branches, choice, named, no_branches, no_other, no_stms, stms, stms_of, truth}
+use Rattle.st_ast.specs.Names.{place_of}
+use Rattle.st_ast.specs.Values.{Memory, is_true, of_bool}
+use Rattle.st_ast.specs.Exec.{Outcome, Ended, exec}
 use Rattle.st_ast.proofs.Runs.{append_runs, assign_runs, cons_runs}
 use Rattle.plc_face.specs.declared.letter.Letter.{Letter}
 use Rattle.plc_face.specs.declared.letter.Letter.TheVariants as letter
 use Rattle.plc_face.specs.Names.{name_for}
 use Rattle.plc_face.specs.Face.{HoldsAt, IsDeclared, StateOf, places_of}
-use Rattle.plc_face.specs.Frame.{Follows, Stands, WritesOnly, fired, mark_in, names_of, writable}
+use Rattle.plc_face.specs.Frame.{Stands, fired, names_of, writable}
 use Rattle.plc_face.proofs.NameLaws.{letters-differ}
-use Rattle.plc_face.proofs.FaceLaws.{Kept, Typed, declared-of, get_or-of, hold-kept, places-differ}
+use Rattle.plc_face.proofs.FaceLaws.{Kept, Typed, get_or-of, hold-kept}
 use Rattle.plc_gen.specs.Faces.{face_of_net, st_type, stored_face}
 use Rattle.plc_gen.specs.Events.{moves_text}
 use Rattle.plc_gen.proofs.Choosing.{choice_in}
@@ -42,16 +39,15 @@ use Rattle.plc_expr.specs.Texts.{Naming}
 use Rattle.plc_expr.specs.Safe.{IsTruth, value_at}
 use Rattle.plc_expr.specs.Held.{held_at}
 use Rattle.plc_act.specs.Writes.{NewNames, any_tested, chosen, updates_temps, writes}
-use Rattle.plc_act.specs.Acts.{act, assigned_vars, computed, may_stay, stored, store, surely_set}
-use Rattle.plc_act.specs.Asked.{setting_of, AllUpdates, CanTake, Promises}
+use Rattle.plc_act.specs.Acts.{act, assigned_vars, computed, copy, may_stay, stored, store, surely_set}
+use Rattle.plc_act.specs.Asked.{setting_of, AllUpdates, CanTake, IsSafeSet, IsSafeCondition, Promises}
 use Rattle.plc_act.specs.Own.{variable_name}
-use Rattle.plc_act.proofs.Numbers.{truth-of}
 use Rattle.plc_act.proofs.Pairs.{all_fit, fits_pair, fit-one}
-use Rattle.plc_act.proofs.Writing.{Grounds, Wrote, updates-wrote}
-use Rattle.plc_act.proofs.Targets.{all-updates, assigned-has, decides, or-left, others-stay, untested-fit}
-use Rattle.plc_act.proofs.Memories.{IsLater, IsOther, IsReady, OwnStand, grounds, later-kept, later-state, writes-own}
+use Rattle.plc_act.proofs.Writing.{Grounds, same-at, updates-wrote}
+use Rattle.plc_act.proofs.Targets.{all-updates, assigned-has, decides, others-stay, untested-fit}
+use Rattle.plc_act.proofs.Memories.{IsLater, IsReady, OwnStand, grounds, later-kept, later-state, writes-own, Assigned, Tested, fired-other}
 use Rattle.plc_act.proofs.Taking.{Copied, copies-run, old, old-in, variable-at}
-use Rattle.plc_act.proofs.Storing.{HaveNew, Stored as Storage, place_v, stores-run}
+use Rattle.plc_act.proofs.Storing.{HaveNew, Stored as Storage, stores-run}
 
 -- ---- new values
 
@@ -268,7 +264,131 @@ module _ (n : Net) (p : Program) (own : List Text) (w : Naming) (y : NewNames) (
       ends = refl;
       writes = writes-own n p own w y base count c.writes o m0 a later;
       typed = later.typed;
-      follows = (later-state n p own w y base count c.writes o m0 a s later st.state, ?);
+      follows = (
+        later-state n p own w y base count c.writes o m0 a s later st.state,
+        same-at a m0 (place_of p.vars fired) (pos 0) (later.others (place_of p.vars fired) (fired-other n p own w y base count c.writes o ready.mark)),
+      );
     };
     leaves = later;
   }
+
+  may-stay-has : (v : ℕ) → has (may_stay c.writes) v ≡ (not (has (surely_set c.writes) v) && has (assigned_vars c.writes) v)
+  may-stay-has v =
+      any-filter_same (nat_eq v) (λ u. not (has (surely_set c.writes) u)) (not (has (surely_set c.writes) v))
+      (λ k e. ap (λ u. not (has (surely_set c.writes) u)) (sym (eqb-true v k e))) (assigned_vars c.writes)
+
+  module _ (promised : Promises p.vars w (setting_of n s (pos 0)) base count) where
+    -- the premises of an assignment and of a condition
+    abbrev pub Ready_at : ℕ → NetExpr → Type 0
+    Ready_at k e = IsReady n p own w y base count c.writes o s (pos 0) m0 st.state stored_stand promised k e
+
+    abbrev pub ReadySet : ℕ → ℕ → NetExpr → Type 0
+    ReadySet k v e = Ready_at k e × CanTake (slice_get n.vars v) (value_at (setting_of n s (pos 0)) e)
+
+    abbrev pub ReadyCondition : ℕ → NetExpr → Type 0
+    ReadyCondition k e = Ready_at k e × IsTruth (value_at (setting_of n s (pos 0)) e)
+
+    abbrev g : Grounds n s (pos 0) p.vars w y base count IsAfter Ready_at (Assigned n p own w y base count c.writes) (Tested n p own w y base count c.writes)
+    g = grounds n p own w y base count c.writes o s (pos 0) m0 st.state stored_stand promised
+
+    module _ (k turns : ℕ) (all : AllUpdates ReadySet ReadyCondition k c.writes) (room : k + updates_temps c.writes ≤ count) where
+      record Computed (m1 : Memory) : Type 0 where
+        pub after : Memory
+        pub ends : exec p.vars (computed n w y k c.writes) turns m1 ≡ Ended turns after
+        pub later : IsAfter after
+        pub new : (v : ℕ) → has (targets c.writes) v ≡ true → held_at p.vars after (y.next v) ≡ new_of v
+        pub mark : any_tested n c.writes ≡ true → (b : Bool) → held_at p.vars m1 y.in_range ≡ of_bool b → held_at p.vars after y.in_range ≡ of_bool (b && all_fit n (pairs_of n c s))
+
+      computed-run : (m1 : Memory) → IsAfter m1 → Computed m1
+      computed-run m1 later =
+          let copies = copies-run n p own w y base count c.writes o named_so stored_stand s m0 st.state (pos 0) promised (may_stay c.writes) may-stay-in turns m1 later in
+          let wrote = updates-wrote n s (pos 0) p.vars w y base count IsAfter Ready_at (Assigned n p own w y base count c.writes) (Tested n p own w y base count c.writes) g c.writes k turns copies.after
+          (all-updates ReadySet (λ i v e. (has (targets c.writes) v ≡ true) × Ready_at i e × CanTake (slice_get n.vars v) (value_at (setting_of n s (pos 0)) e)) ReadyCondition ReadyCondition
+          (λ v. has (targets c.writes) v ≡ true) (λ i v e in_it q. (in_it, q.0, q.1)) (λ i e q. q) c.writes k (λ v e. e) all) room copies.later in
+          record {
+            after = wrote.after;
+            ends = append_runs p.vars (stms_of (map (copy w y) (may_stay c.writes))) (writes n w y k c.writes) turns turns m1 copies.after copies.ends ∙ wrote.ends;
+            later = wrote.keeps;
+            new = λ v i. wrote.news v i ∙ told v i copies (has (may_stay c.writes) v) refl;
+            mark = λ t b e. wrote.mark t b (copies.mark t ∙ e);
+          }
+        where
+          may-stay-in : (v : ℕ) → has (may_stay c.writes) v ≡ true → has (targets c.writes) v ≡ true
+          may-stay-in v e = sym (assigned-has c.writes v) ∙ second (not (has (surely_set c.writes) v)) (has (assigned_vars c.writes) v) (sym (may-stay-has v) ∙ e)
+            where
+              second : (a b : Bool) → (a && b) ≡ true → b ≡ true
+              second true b h = h
+              second false b h = absurd cc
+
+          told : (v : ℕ) → has (targets c.writes) v ≡ true → (q : Copied n p own w y base count c.writes o named_so stored_stand s m0 st.state (may_stay c.writes) turns m1)
+              → (b : Bool) → has (may_stay c.writes) v ≡ b → new_value (pairs_of n c s) v (held_at p.vars q.after (y.next v)) ≡ new_of v
+          told v i q true e = ap (new_value (pairs_of n c s) v) (q.copied v i e)
+          told v i q false e = decides n s (pos 0) v c.writes (sure (has (surely_set c.writes) v) (has (assigned_vars c.writes) v) (sym (may-stay-has v) ∙ e) (assigned-has c.writes v ∙ i)) _ _
+            where
+              sure : (a b : Bool) → (not a && b) ≡ false → b ≡ true → a ≡ true
+              sure true b h e = refl
+              sure false b h e = absurd cc
+
+      module _ (Q : Memory → Type 0) (ss : Stms) (close : (b : Memory) → Typed p.vars b → (z : Closed n p ready own ss turns b) × Q z.after) where
+        abbrev rest : Stms
+        rest = stored w y c.writes (moves_text n c.moves ss)
+
+        -- the values are in range, so it makes a step
+        taking : (a : Memory) → IsAfter a → ((v : ℕ) → has (targets c.writes) v ≡ true → held_at p.vars a (y.next v) ≡ new_of v) → (fit : all_fit n (pairs_of n c s) ≡ true)
+            → makes_step (system_of_net n) s c.event (choice_in n c) ≡ true → Acts Q (Some next_state) (exec p.vars rest turns a) turns
+        taking a later new fit makes =
+            let all_moved = moved fit turns a later new ss in
+            let z = close all_moved.after all_moved.typed in
+            record { does = took fit turns a later new ss z.0 makes; leaves = subst Q (sym (took-last fit turns a later new ss z.0 makes)) z.1 }
+
+        -- an IF with the mark
+        if-marked : (a : Memory) (b : Bool) (t : State) → IsAfter a → held_at p.vars a y.in_range ≡ of_bool b → (b ≡ true → Acts Q (Some t) (exec p.vars rest turns a) turns)
+            → Acts Q (if b then Some t else None) (exec p.vars (chosen (branches (named y.in_range) rest no_branches) no_stms) turns a) turns
+        if-marked a true t later e inside =
+            same-act Q (Some t) (exec p.vars (chosen (branches (named y.in_range) rest no_branches) no_stms) turns a) (exec p.vars rest turns a) turns
+            (cons_runs p.vars (choice (branches (named y.in_range) rest no_branches) no_other) no_stms turns turns a (inside refl).does.after
+            (ap (λ z. if is_true z then exec p.vars rest turns a else Ended turns a) e ∙ (inside refl).does.ends) ∙ sym (inside refl).does.ends)
+            (inside refl)
+        if-marked a false t later e inside =
+            same-act Q None (exec p.vars (chosen (branches (named y.in_range) rest no_branches) no_stms) turns a) (Ended turns a) turns
+            (cons_runs p.vars (choice (branches (named y.in_range) rest no_branches) no_other) no_stms turns turns a a
+            (ap (λ z. if is_true z then exec p.vars rest turns a else Ended turns a) e))
+            (quiet Q turns a later)
+
+        -- The choice makes its step where all new values are in range, and else nothing that is seen has changed.
+        pub act-does : true_in n s c.test ≡ true
+            → Acts Q (if makes_step (system_of_net n) s c.event (choice_in n c) then Some next_state else None) (exec p.vars (act n w y k c.writes (moves_text n c.moves ss)) turns m0) turns
+        act-does test = go (any_tested n c.writes) refl
+          where
+            start : IsAfter m0
+            start = record { typed = st.typed; others = λ j apart. refl }
+
+            makes-fit : makes_step (system_of_net n) s c.event (choice_in n c) ≡ all_fit n (pairs_of n c s)
+            makes-fit = makes-is n c s h ready.none ∙ ap (λ b. b && all_fit n (pairs_of n c s)) test
+
+            go : (b : Bool) → any_tested n c.writes ≡ b
+                → Acts Q (if makes_step (system_of_net n) s c.event (choice_in n c) then Some next_state else None)
+                (exec p.vars (if b then stms (assign y.in_range (truth true)) (append (computed n w y k c.writes) (chosen (branches (named y.in_range) rest no_branches) no_stms))
+                else append (computed n w y k c.writes) rest) turns m0) turns
+            go true t =
+                let m1 : Memory = slice_set m0 (place_of p.vars y.in_range) (pos 1) in
+                let later : IsAfter m1 = g.mark_kept true m0 t start in
+                let q = computed-run m1 later in
+                same-act Q (if makes_step (system_of_net n) s c.event (choice_in n c) then Some next_state else None)
+                (exec p.vars (stms (assign y.in_range (truth true)) (append (computed n w y k c.writes) (chosen (branches (named y.in_range) rest no_branches) no_stms))) turns m0)
+                (exec p.vars (chosen (branches (named y.in_range) rest no_branches) no_stms) turns q.after) turns
+                (cons_runs p.vars (assign y.in_range (truth true)) (append (computed n w y k c.writes) (chosen (branches (named y.in_range) rest no_branches) no_stms)) turns turns m0 m1
+                (assign_runs p.vars y.in_range (truth true) (place_of p.vars y.in_range) (pos 1) turns m0 refl refl (g.mark_type true t))
+                ∙ append_runs p.vars (computed n w y k c.writes) (chosen (branches (named y.in_range) rest no_branches) no_stms) turns turns m1 q.after q.ends)
+                (subst (λ b. Acts Q (if b then Some next_state else None) (exec p.vars (chosen (branches (named y.in_range) rest no_branches) no_stms) turns q.after) turns) (sym makes-fit)
+                (if-marked q.after (all_fit n (pairs_of n c s)) next_state q.later
+                (q.mark t true (get_or-set_same m0 (place_of p.vars y.in_range) (pos 1) (pos 0) (g.mark_room m0 t start)))
+                (λ fit. taking q.after q.later q.new fit (makes-fit ∙ fit))))
+            go false t =
+                let q = computed-run m0 start in
+                let fit : all_fit n (pairs_of n c s) ≡ true = untested-fit n s (pos 0) c.writes k t
+                (all-updates ReadySet (λ i v e. IsSafeSet n (setting_of n s (pos 0)) v e) ReadyCondition (λ i e. IsSafeCondition (setting_of n s (pos 0)) e)
+                (λ v. has (targets c.writes) v ≡ true) (λ i v e in_it r. (r.0.0, r.1)) (λ i e r. (r.0.0, r.1)) c.writes k (λ v e. e) all) in
+                same-act Q (if makes_step (system_of_net n) s c.event (choice_in n c) then Some next_state else None) (exec p.vars (append (computed n w y k c.writes) rest) turns m0) (exec p.vars rest turns q.after) turns
+                (append_runs p.vars (computed n w y k c.writes) rest turns turns m0 q.after q.ends)
+                (subst (λ b. Acts Q (if b then Some next_state else None) (exec p.vars rest turns q.after) turns) (sym (makes-fit ∙ fit)) (taking q.after q.later q.new fit (makes-fit ∙ fit)))

@@ -1,43 +1,42 @@
 -- The memories between the statements of a choice: only its own variables have changed, and all variables are in their types.
-use Rattle.std.proofs.Common.{◌≡◌, ◌≢◌, ℕ, ◌+◌, ◌-◌, ◌^◌, ◌<◌, ◌≤◌, ℤ, pos, Bool, true, false, not, ◌&&◌, List, [], ◌∷◌, map, length, Option, Some, None, Ok, inr, refl, sym, ap, subst, ◌∙◌, arith, if◌then◌else◌}
-use Rattle.std.specs.Prelude.{IsTrue, slice_get, slice_set, slice_index_or}
+use Rattle.std.proofs.Common.{◌≡◌, ◌≢◌, ℕ, ◌+◌, ◌-◌, ◌^◌, ◌<◌, ◌≤◌, ℤ, Bool, true, false, List, length, Some, inr, refl, sym, ap, subst, ◌∙◌, arith}
+use Rattle.std.specs.Prelude.{IsTrue, codes, slice_get, slice_set}
 use Rattle.std.specs.List.{list_all, list_any}
-use Rattle.std.proofs.lemmas.Int.{ints}
 use Rattle.grammar.specs.Pieces.{Text}
-use Rattle.cif_base.specs.Bounds.{in_64_bits}
 use Rattle.cif_base.specs.declared.types.Ty.{Ty}
 use Rattle.cif_base.specs.declared.types.Ty.TheVariants as cif_ty
-use Rattle.cif_system.specs.System.{State, Range, in_range}
+use Rattle.cif_system.specs.System.{State, in_range}
 use Rattle.cif_term.specs.Tree.{NetExpr, NetUpdates}
 use Rattle.cif_model.specs.Net.{NetStored, Net}
 use Rattle.cif_model.specs.Kinds.{in_32_bits}
 use Rattle.cif_model.specs.Exprs.{targets}
-use Rattle.cif_model.specs.Facts.{has, is_type, literals_fit, stored_stands}
+use Rattle.cif_model.specs.Facts.{has, is_type, stored_stands}
 use Rattle.cif_model.specs.Meaning.{type_range, system_of_net}
 use Rattle.cif_model.proofs.Passing.{all-member, and-left, and-right}
 use Rattle.cif_system.proofs.Picks.{at-member}
 use Rattle.st_ast.specs.Tree.{Program}
 use Rattle.st_ast.specs.Names.{same_name, place_of, declared}
-use Rattle.st_ast.specs.Values.{Memory, of_bool, value_of}
-use Rattle.st_ast.specs.Exec.{is_within, type_at}
+use Rattle.st_ast.specs.Values.{Memory, of_bool}
+use Rattle.st_ast.specs.Exec.{is_within}
 use Rattle.st_ast.specs.declared.tree.StVar.{StVar}
 use Rattle.st_ast.specs.declared.tree.StTy.{StTy}
 use Rattle.st_ast.specs.declared.tree.StTy.TheVariants as ty
 use Rattle.plc_face.specs.declared.letter.Letter.{Letter}
 use Rattle.plc_face.specs.declared.letter.Letter.TheVariants as letter
 use Rattle.plc_face.specs.Names.{name_for}
-use Rattle.plc_face.specs.Face.{Face, IsDeclared, StateOf, range_of}
+use Rattle.plc_face.specs.Face.{IsDeclared, StateOf, range_of}
 use Rattle.plc_face.specs.Frame.{WritesOnly, fired, writable}
 use Rattle.plc_face.proofs.NameLaws.{false-true, letters-differ, names-differ}
 use Rattle.plc_face.proofs.FaceLaws.{Kept, Typed, below, declared-name, declared-of, declared-type, pairwise-length, places-differ, slice_get-set_other, state-kept, typed-written}
 use Rattle.plc_face.proofs.Framed.{truth_in_type}
-use Rattle.plc_gen.specs.Faces.{face_of_net, st_type}
+use Rattle.plc_gen.specs.Faces.{face_of_net}
+use Rattle.plc_gen.proofs.Making.{fired_is}
 use Rattle.plc_gen.proofs.Writing.{Among}
-use Rattle.plc_expr.specs.Texts.{Naming, temps, text, before}
-use Rattle.plc_expr.specs.Safe.{Setting, value_at, IsTruth, IsSafe}
-use Rattle.plc_expr.specs.Held.{held_at, Reads, Held, OwnPlaces, Prepares}
-use Rattle.plc_act.specs.Writes.{NewNames, is_tested, tests, any_tested, updates_temps}
-use Rattle.plc_act.specs.Asked.{setting_of, AllUpdates, IsFit, CanTake, IsSafeSet, IsSafeCondition, KeepsTypes, Promises}
+use Rattle.plc_expr.specs.Texts.{Naming, temps}
+use Rattle.plc_expr.specs.Safe.{Setting, IsSafe}
+use Rattle.plc_expr.specs.Held.{Reads, OwnPlaces, Prepares}
+use Rattle.plc_act.specs.Writes.{NewNames, is_tested, any_tested}
+use Rattle.plc_act.specs.Asked.{setting_of, IsFit, CanTake, KeepsTypes, Promises}
 use Rattle.plc_act.specs.Own.{new_type}
 use Rattle.plc_act.proofs.Writing.{Grounds}
 use Rattle.plc_act.proofs.Targets.{tested-any}
@@ -129,6 +128,20 @@ module _ (n : Net) (p : Program) (own : List Text) (w : Naming) (y : NewNames) (
         other-at (name_for l i path) d.variable d.at (λ q. temp-apart l apart i path y.in_range ty.Bool (o.mark q))
         (λ u q. temp-apart l apart i path (y.next u) (new_type (o.next u q).stored.type_of) (o.next u q).temp)
         (λ k below. temp-apart l apart i path (w.own k) (o.own_type k) (o.own_temp k below))
+
+    -- the marks of the generator have other numbers
+    number-apart : (i : ℕ) (path x : Text) (t : StTy) (h : IsTemp x t) → i < 2 ^ 64 → i ≢ h.number → same_name (name_for letter.T i path) x ≡ false
+    number-apart i path x t h small other =
+        let less = h.small in
+        subst (λ z. same_name (name_for letter.T i path) z ≡ false) (sym h.name) (names-differ letter.T letter.T i h.number path h.path small (omega (arith, less)) (inr other))
+
+    pub fired-other : IsDeclared p.vars fired ty.Bool → IsOther (place_of p.vars fired)
+    fired-other is =
+        let d = declared-of p.vars fired ty.Bool is in
+        let apart = λ (x : Text) (t : StTy) (h : IsTemp x t). let high = h.above in
+        subst (λ z. same_name z x ≡ false) fired_is (number-apart 0 (codes "fired") x t h (omega arith) (λ e. omega (arith, e, high))) in
+        other-at fired d.variable d.at (λ q. apart y.in_range ty.Bool (o.mark q)) (λ u q. apart (y.next u) (new_type (o.next u q).stored.type_of) (o.next u q).temp)
+        (λ k below. apart (w.own k) (o.own_type k) (o.own_temp k below))
 
     -- what may be written has been written alone
     pub writes-own : (m0 m : Memory) → IsLater m0 m → WritesOnly (writable (face_of_net n) own) p.vars m0 m

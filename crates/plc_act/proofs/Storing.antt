@@ -1,41 +1,38 @@
 -- The new values are stored: each assigned variable takes over its new value, and the others keep theirs.
-use Rattle.std.proofs.Common.{◌≡◌, ◌≢◌, ℕ, zero, suc, ◌+◌, ◌^◌, ◌<◌, ◌≤◌, ℤ, pos, Bool, true, false, ◌&&◌, ◌||◌, List, [], ◌∷◌, ◌++◌, map, length, Option, Some, None, Ok, get_or, nat_eq, inr, refl, sym, ap, subst, ◌∙◌, arith, eq-eqb, eqb-true, if◌then◌else◌}
-use Rattle.std.specs.Prelude.{IsTrue, slice_get, slice_set, slice_index_or, option_map}
-use Rattle.std.specs.List.{AllByRecursion, AllZip, list_all, list_any, enumerate_from}
+use Rattle.std.proofs.Common.{◌≡◌, ◌≢◌, ℕ, zero, suc, ◌+◌, ◌^◌, ◌<◌, ℤ, pos, Bool, true, false, ◌||◌, List, [], ◌∷◌, ◌++◌, map, length, Option, Some, Ok, nat_eq, inr, refl, sym, ap, subst, ◌∙◌, arith, eqb-true, if◌then◌else◌}
+use Rattle.std.specs.Prelude.{IsTrue, slice_get, slice_set, option_map}
+use Rattle.std.specs.List.{AllByRecursion, enumerate_from}
 use Rattle.std.proofs.lemmas.Bool.{eqb-false}
 use Rattle.std.proofs.lemmas.List.{get_or-set_other}
 use Rattle.std.proofs.lemmas.Option.{slice_get-map}
 use Rattle.grammar.specs.Pieces.{Text}
-use Rattle.cif_system.specs.System.{State, Range, in_range}
-use Rattle.cif_system.specs.Step.{new_value, new_values}
+use Rattle.cif_system.specs.System.{State, in_range}
 use Rattle.cif_system.proofs.Lists.{none-some, some-same}
 use Rattle.cif_term.specs.Tree.{NetUpdates}
 use Rattle.cif_model.specs.Net.{NetStored, Net}
 use Rattle.cif_model.specs.Exprs.{targets}
-use Rattle.cif_model.specs.Facts.{has, stored_stands}
+use Rattle.cif_model.specs.Facts.{has}
 use Rattle.cif_model.specs.Meaning.{type_range, system_of_net}
-use Rattle.st_ast.specs.Tree.{Program, Stm, Stms, assign, named, no_stms, stms, stms_of}
+use Rattle.st_ast.specs.Tree.{Program, named, stms_of}
 use Rattle.st_ast.specs.Names.{same_name, place_of}
-use Rattle.st_ast.specs.Values.{Memory, value_of}
-use Rattle.st_ast.specs.Exec.{Ended, exec, is_within, type_at}
+use Rattle.st_ast.specs.Values.{Memory}
+use Rattle.st_ast.specs.Exec.{Ended, exec, is_within}
 use Rattle.st_ast.specs.declared.tree.StVar.{StVar}
 use Rattle.st_ast.proofs.Runs.{assign_runs, cons_runs}
-use Rattle.plc_face.specs.declared.letter.Letter.{Letter}
 use Rattle.plc_face.specs.declared.letter.Letter.TheVariants as letter
 use Rattle.plc_face.specs.Names.{name_for}
-use Rattle.plc_face.specs.Face.{VariableFace, HoldsAt, IsDeclared, StateOf, range_of, places_of}
+use Rattle.plc_face.specs.Face.{VariableFace, StateOf, range_of, places_of}
 use Rattle.plc_face.specs.Frame.{WritesOnly, fired, names_of, writable}
 use Rattle.plc_face.proofs.NameLaws.{letters-differ, names-differ}
 use Rattle.plc_face.proofs.FaceLaws.{Typed, below, declared-of, declared-type, pairwise-length, places-differ, slice_get-set_other, slice_get-set_same, typed-written}
 use Rattle.plc_gen.specs.Faces.{face_of_net, st_type, stored_face}
-use Rattle.plc_gen.proofs.Writing.{Among, AllAmong, name_of, among-left, among-right, names-among, writes-none, writes-one, writes-then}
+use Rattle.plc_gen.proofs.Writing.{Among, name_of, among-left, among-right, names-among, writes-none, writes-one, writes-then}
 use Rattle.plc_expr.specs.Texts.{Naming}
 use Rattle.plc_expr.specs.Held.{held_at}
 use Rattle.plc_act.specs.Writes.{NewNames}
 use Rattle.plc_act.specs.Acts.{store}
 use Rattle.plc_act.specs.Own.{variable_name}
-use Rattle.plc_act.proofs.Memories.{IsNew, IsTemp, OwnStand}
-use Rattle.plc_act.proofs.Targets.{or-left, or-right}
+use Rattle.plc_act.proofs.Memories.{OwnStand}
 use Rattle.plc_act.proofs.Taking.{variable-at, range-is, within-is, has-first, has-rest, self}
 
 all-at : (P : ℕ × VariableFace → Type 0) (i : ℕ) (xs : List VariableFace) (k : ℕ) (x : VariableFace) → AllByRecursion P (enumerate_from i xs) → slice_get xs k ≡ Some x → P (i + k, x)

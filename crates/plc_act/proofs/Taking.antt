@@ -1,8 +1,8 @@
 -- How old values become new ones: they are copied into the variables of the new values beforehand, and the new values are
 -- stored at last.
-use Rattle.std.proofs.Common.{◌≡◌, ◌≢◌, ℕ, zero, suc, ◌+◌, ◌^◌, ◌<◌, ◌≤◌, ℤ, pos, Bool, true, false, ◌&&◌, ◌||◌, List, [], ◌∷◌, map, length, Option, Some, None, Ok, get_or, nat_eq, inr, refl, sym, ap, subst, ◌∙◌, arith, eq-eqb, eqb-true, if◌then◌else◌}
-use Rattle.std.specs.Prelude.{IsTrue, slice_get, slice_set, slice_index_or, option_map}
-use Rattle.std.specs.List.{AllZip, list_all, list_any, enumerate_from}
+use Rattle.std.proofs.Common.{◌≡◌, ℕ, ◌+◌, ℤ, pos, Bool, true, false, ◌||◌, List, [], ◌∷◌, map, Option, Some, None, Ok, nat_eq, refl, sym, ap, subst, ◌∙◌, arith, eq-eqb, eqb-true}
+use Rattle.std.specs.Prelude.{slice_get, slice_set, slice_index_or, option_map}
+use Rattle.std.specs.List.{list_all}
 use Rattle.std.proofs.lemmas.Int.{ints}
 use Rattle.std.proofs.lemmas.Bool.{eqb-false}
 use Rattle.std.proofs.lemmas.List.{get_or-set_same, get_or-set_other}
@@ -10,9 +10,7 @@ use Rattle.std.proofs.lemmas.Option.{slice_get-map}
 use Rattle.grammar.specs.Pieces.{Text}
 use Rattle.cif_base.specs.declared.types.Ty.{Ty}
 use Rattle.cif_base.specs.declared.types.Ty.TheVariants as cif_ty
-use Rattle.cif_system.specs.System.{State, Range, in_range}
-use Rattle.cif_system.specs.Step.{new_value, new_values}
-use Rattle.cif_system.proofs.Lists.{none-some, some-same}
+use Rattle.cif_system.specs.System.{State, in_range}
 use Rattle.cif_system.proofs.Picks.{at-member}
 use Rattle.cif_term.specs.Tree.{NetUpdates}
 use Rattle.cif_model.specs.Net.{NetStored, Net}
@@ -21,30 +19,25 @@ use Rattle.cif_model.specs.Facts.{has, is_type, stored_stands}
 use Rattle.cif_model.specs.Interval.{stored_range}
 use Rattle.cif_model.specs.Meaning.{type_range, system_of_net}
 use Rattle.cif_model.proofs.Orders.{Lies, test-from_lies}
-use Rattle.cif_model.proofs.Passing.{all-member, and-left, and-right}
+use Rattle.cif_model.proofs.Passing.{all-member, and-left}
 use Rattle.cif_model.proofs.PlainLaws.{fit-at}
-use Rattle.st_ast.specs.Tree.{Program, Stm, Stms, assign, named, no_stms, stms, stms_of}
-use Rattle.st_ast.specs.Names.{same_name, place_of}
+use Rattle.st_ast.specs.Tree.{Program, named, stms_of}
+use Rattle.st_ast.specs.Names.{place_of}
 use Rattle.st_ast.specs.Values.{Memory, value_of}
-use Rattle.st_ast.specs.Exec.{Ended, exec, is_within, type_at}
-use Rattle.st_ast.specs.declared.tree.StVar.{StVar}
-use Rattle.st_ast.specs.declared.tree.StTy.{StTy}
+use Rattle.st_ast.specs.Exec.{Ended, exec, is_within}
 use Rattle.st_ast.proofs.Runs.{assign_runs, cons_runs}
-use Rattle.plc_face.specs.declared.letter.Letter.{Letter}
 use Rattle.plc_face.specs.declared.letter.Letter.TheVariants as letter
 use Rattle.plc_face.specs.Names.{name_for}
-use Rattle.plc_face.specs.Face.{VariableFace, HoldsAt, IsDeclared, StateOf, range_of, places_of}
-use Rattle.plc_face.specs.Frame.{WritesOnly, fired, names_of, writable}
-use Rattle.plc_face.proofs.NameLaws.{letters-differ, names-differ}
-use Rattle.plc_face.proofs.FaceLaws.{Typed, below, declared-of, declared-type, get_or-of, pairwise-length, places-differ, slice_get-of, slice_get-set_other, slice_get-set_same, typed-written}
+use Rattle.plc_face.specs.Face.{IsDeclared, StateOf, range_of}
+use Rattle.plc_face.proofs.FaceLaws.{get_or-of}
 use Rattle.plc_gen.specs.Faces.{face_of_net, st_type, stored_face}
-use Rattle.plc_gen.proofs.Writing.{Among, AllAmong, among-left, among-right, hold-at, names-among, writes-none, writes-one, writes-then}
+use Rattle.plc_gen.proofs.Writing.{hold-at}
 use Rattle.plc_expr.specs.Texts.{Naming}
 use Rattle.plc_expr.specs.Held.{held_at}
 use Rattle.plc_act.specs.Writes.{NewNames, is_tested, any_tested}
-use Rattle.plc_act.specs.Acts.{copy, store}
+use Rattle.plc_act.specs.Acts.{copy}
 use Rattle.plc_act.specs.Asked.{setting_of, IsFit, CanTake, Promises}
-use Rattle.plc_act.specs.Own.{path_of, variable_name}
+use Rattle.plc_act.specs.Own.{variable_name}
 use Rattle.plc_act.proofs.Memories.{IsNew, Assigned, Tested, OwnStand, IsLater, later-state, IsReady, grounds}
 use Rattle.plc_act.proofs.Writing.{Grounds}
 use Rattle.plc_act.proofs.Targets.{or-left, or-right}

@@ -14,7 +14,7 @@ use Rattle.cif_model.specs.Facts.{has}
 use Rattle.plc_act.specs.Writes.{tests_stored, tests, any_tested, update_tested, branches_tested, conditions_temps, updates_temps, bodies_temps}
 use Rattle.plc_expr.specs.Texts.{temps}
 use Rattle.plc_act.specs.Acts.{once, assigned_vars, surely_set}
-use Rattle.plc_act.specs.Asked.{setting_of, AllUpdates, OfUpdate, OfBranches, IsFit, CanTake, IsSafeSet, IsSafeCondition, AreSafe}
+use Rattle.plc_act.specs.Asked.{setting_of, AllUpdates, OfUpdate, OfBranches, IsFit, CanTake, IsSafeSet, IsSafeCondition}
 use Rattle.plc_act.proofs.Pairs.{new_value-append, all_fit, fit-append, fit-one}
 
 -- ---- tests

@@ -27,7 +27,7 @@ use Rattle.plc_act.proofs.Pairs.{new_value-append, and-true, all_fit, fit-append
 use Rattle.plc_act.specs.Asked.{setting_of, AllUpdates, OfUpdate, OfBranches, IsFit, CanTake}
 
 -- two memories hold the same at a place
-same-at : (a b : Memory) (j : ℕ) (z : ℤ) → slice_get a j ≡ slice_get b j → slice_index_or a j z ≡ slice_index_or b j z
+pub same-at : (a b : Memory) (j : ℕ) (z : ℤ) → slice_get a j ≡ slice_get b j → slice_index_or a j z ≡ slice_index_or b j z
 same-at a b j z e = sym (unwrap_or-slice_get a j z) ∙ ap (λ o. unwrap_or o z) e ∙ unwrap_or-slice_get b j z
 
 exec-otherwise : (vars : List StVar) (ss : Stms) (turns : ℕ) (m : Memory) → exec_other vars (otherwise ss) turns m ≡ exec vars ss turns m
