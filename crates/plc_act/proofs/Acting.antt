@@ -134,11 +134,11 @@ module _ (n : Net) (c : NetChoice) (s : State) (h : IsData n c) where
 
 -- ---- the stores and the moves
 
-module _ (n : Net) (p : Program) (own : List Text) (w : Naming) (y : NewNames) (base count : ℕ) (c : NetChoice) (o : OwnStand n p own w y base count c.writes)
+module _ (n : Net) (p : Program) (own : List Text) (w : Naming) (y : NewNames) (base low count : ℕ) (c : NetChoice) (o : OwnStand n p own w y base low count c.writes)
     (named_so : (v : ℕ) → w.variable v ≡ variable_name n v) (stored_stand : list_all stored_stands n.vars ≡ true) (few : length n.vars < 2 ^ 32) (h : IsData n c) (ready : Ready n p)
     (s : State) (m0 : Memory) (st : Stands (face_of_net n) (system_of_net n) p m0 s) where
   abbrev pub IsAfter : Memory → Type 0
-  IsAfter m = IsLater n p own w y base count c.writes m0 m
+  IsAfter m = IsLater n p own w y base low count c.writes m0 m
 
   -- the new value of a variable
   abbrev pub new_of : ℕ → ℤ
@@ -164,13 +164,13 @@ module _ (n : Net) (p : Program) (own : List Text) (w : Naming) (y : NewNames) (
       (among-left x (names_of letter.L (places_of (face_of_net n))) (names_of letter.V (face_of_net n).variables) a))
 
   -- What is known of the memory after the updates, where all new values are in range.
-  module _ (fit : all_fit n (pairs_of n c s) ≡ true) (turns : ℕ) (a : Memory) (later : IsAfter a) (new : HaveNew n p own w y base count c.writes o named_so few s m0 st.state new_of (new-in fit) a) (ss : Stms) where
+  module _ (fit : all_fit n (pairs_of n c s) ≡ true) (turns : ℕ) (a : Memory) (later : IsAfter a) (new : HaveNew n p own w y base low count c.writes o named_so few s m0 st.state new_of (new-in fit) a) (ss : Stms) where
     state-a : StateOf (face_of_net n) (system_of_net n) p a s
-    state-a = later-state n p own w y base count c.writes o m0 a s later st.state
+    state-a = later-state n p own w y base low count c.writes o m0 a s later st.state
 
-    pub storage : Storage n p own w y base count c.writes o named_so few s m0 st.state new_of (new-in fit) (assigned_vars c.writes) turns a
+    pub storage : Storage n p own w y base low count c.writes o named_so few s m0 st.state new_of (new-in fit) (assigned_vars c.writes) turns a
     storage =
-        stores-run n p own w y base count c.writes o named_so few s m0 st.state new_of (new-in fit) (assigned_vars c.writes)
+        stores-run n p own w y base low count c.writes o named_so few s m0 st.state new_of (new-in fit) (assigned_vars c.writes)
         (λ v e. sym (assigned-has c.writes v) ∙ e) turns a later.typed new
 
     -- variables of other letters than those that are stored
@@ -217,7 +217,7 @@ module _ (n : Net) (p : Program) (own : List Text) (w : Naming) (y : NewNames) (
         values = subst (λ ws. AllZip (HoldsAt p closed.after letter.V) (enumerate_from 0 (face_of_net n).variables) (new_values ws 0 s.vals)) (pairs-are n c s h)
             (hold-new p m0 closed.after (pairs_of n c s) 0 n.vars s.vals st.state.values new-held);
         inputs = hold-kept p m0 closed.after letter.H
-            (λ i path t is. kept-c letter.H (λ e. cc) (λ e. cc) i path t is ∙ kept-b letter.H (λ e. cc) i path t is ∙ later-kept n p own w y base count c.writes o m0 a later letter.H (λ e. cc) i path t is)
+            (λ i path t is. kept-c letter.H (λ e. cc) (λ e. cc) i path t is ∙ kept-b letter.H (λ e. cc) i path t is ∙ later-kept n p own w y base low count c.writes o m0 a later letter.H (λ e. cc) i path t is)
             0 _ _ st.state.inputs;
         is_state = step-state (system_of_net n) ready.inside s c.event next_state st.state.is_state record { choice = choice_in n c; makes = makes; is_after = refl };
       }
@@ -228,7 +228,7 @@ module _ (n : Net) (p : Program) (own : List Text) (w : Naming) (y : NewNames) (
         after = closed.after;
         ends = append_runs p.vars (stms_of (map (store w y) (assigned_vars c.writes))) (moves_text n c.moves ss) turns turns a storage.after storage.ends
             ∙ ap (λ ms. exec p.vars (moves_text n ms ss) turns storage.after) h.parties ∙ moved.ends ∙ closed.ends;
-        writes = writes-then (writable (face_of_net n) own) p.vars m0 a closed.after (writes-own n p own w y base count c.writes o m0 a later)
+        writes = writes-then (writable (face_of_net n) own) p.vars m0 a closed.after (writes-own n p own w y base low count c.writes o m0 a later)
             (writes-then (writable (face_of_net n) own) p.vars a storage.after closed.after storage.writes
             (writes-then (writable (face_of_net n) own) p.vars storage.after moved.after closed.after moved.writes closed.writes));
         typed = closed.typed;
@@ -262,11 +262,11 @@ module _ (n : Net) (p : Program) (own : List Text) (w : Naming) (y : NewNames) (
     does = record {
       after = a;
       ends = refl;
-      writes = writes-own n p own w y base count c.writes o m0 a later;
+      writes = writes-own n p own w y base low count c.writes o m0 a later;
       typed = later.typed;
       follows = (
-        later-state n p own w y base count c.writes o m0 a s later st.state,
-        same-at a m0 (place_of p.vars fired) (pos 0) (later.others (place_of p.vars fired) (fired-other n p own w y base count c.writes o ready.mark)),
+        later-state n p own w y base low count c.writes o m0 a s later st.state,
+        same-at a m0 (place_of p.vars fired) (pos 0) (later.others (place_of p.vars fired) (fired-other n p own w y base low count c.writes o ready.mark)),
       );
     };
     leaves = later;
@@ -277,10 +277,10 @@ module _ (n : Net) (p : Program) (own : List Text) (w : Naming) (y : NewNames) (
       any-filter_same (nat_eq v) (λ u. not (has (surely_set c.writes) u)) (not (has (surely_set c.writes) v))
       (λ k e. ap (λ u. not (has (surely_set c.writes) u)) (sym (eqb-true v k e))) (assigned_vars c.writes)
 
-  module _ (promised : Promises p.vars w (setting_of n s (pos 0)) base count) where
+  module _ (promised : Promises p.vars w (setting_of n s (pos 0)) base low count) where
     -- the premises of an assignment and of a condition
     abbrev pub Ready_at : ℕ → NetExpr → Type 0
-    Ready_at k e = IsReady n p own w y base count c.writes o s (pos 0) m0 st.state stored_stand promised k e
+    Ready_at k e = IsReady n p own w y base low count c.writes o s (pos 0) m0 st.state stored_stand promised k e
 
     abbrev pub ReadySet : ℕ → ℕ → NetExpr → Type 0
     ReadySet k v e = Ready_at k e × CanTake (slice_get n.vars v) (value_at (setting_of n s (pos 0)) e)
@@ -288,10 +288,10 @@ module _ (n : Net) (p : Program) (own : List Text) (w : Naming) (y : NewNames) (
     abbrev pub ReadyCondition : ℕ → NetExpr → Type 0
     ReadyCondition k e = Ready_at k e × IsTruth (value_at (setting_of n s (pos 0)) e)
 
-    abbrev g : Grounds n s (pos 0) p.vars w y base count IsAfter Ready_at (Assigned n p own w y base count c.writes) (Tested n p own w y base count c.writes)
-    g = grounds n p own w y base count c.writes o s (pos 0) m0 st.state stored_stand promised
+    abbrev g : Grounds n s (pos 0) p.vars w y base low count IsAfter Ready_at (Assigned n p own w y base low count c.writes) (Tested n p own w y base low count c.writes)
+    g = grounds n p own w y base low count c.writes o s (pos 0) m0 st.state stored_stand promised
 
-    module _ (k turns : ℕ) (all : AllUpdates ReadySet ReadyCondition k c.writes) (room : k + updates_temps c.writes ≤ count) where
+    module _ (k turns : ℕ) (all : AllUpdates ReadySet ReadyCondition k c.writes) (room : (low ≤ k) × (k + updates_temps c.writes ≤ count)) where
       record Computed (m1 : Memory) : Type 0 where
         pub after : Memory
         pub ends : exec p.vars (computed n w y k c.writes) turns m1 ≡ Ended turns after
@@ -301,8 +301,8 @@ module _ (n : Net) (p : Program) (own : List Text) (w : Naming) (y : NewNames) (
 
       computed-run : (m1 : Memory) → IsAfter m1 → Computed m1
       computed-run m1 later =
-          let copies = copies-run n p own w y base count c.writes o named_so stored_stand s m0 st.state (pos 0) promised (may_stay c.writes) may-stay-in turns m1 later in
-          let wrote = updates-wrote n s (pos 0) p.vars w y base count IsAfter Ready_at (Assigned n p own w y base count c.writes) (Tested n p own w y base count c.writes) g c.writes k turns copies.after
+          let copies = copies-run n p own w y base low count c.writes o named_so stored_stand s m0 st.state (pos 0) promised (may_stay c.writes) may-stay-in turns m1 later in
+          let wrote = updates-wrote n s (pos 0) p.vars w y base low count IsAfter Ready_at (Assigned n p own w y base low count c.writes) (Tested n p own w y base low count c.writes) g c.writes k turns copies.after
           (all-updates ReadySet (λ i v e. (has (targets c.writes) v ≡ true) × Ready_at i e × CanTake (slice_get n.vars v) (value_at (setting_of n s (pos 0)) e)) ReadyCondition ReadyCondition
           (λ v. has (targets c.writes) v ≡ true) (λ i v e in_it q. (in_it, q.0, q.1)) (λ i e q. q) c.writes k (λ v e. e) all) room copies.later in
           record {
@@ -320,7 +320,7 @@ module _ (n : Net) (p : Program) (own : List Text) (w : Naming) (y : NewNames) (
               second true b h = h
               second false b h = absurd cc
 
-          told : (v : ℕ) → has (targets c.writes) v ≡ true → (q : Copied n p own w y base count c.writes o named_so stored_stand s m0 st.state (may_stay c.writes) turns m1)
+          told : (v : ℕ) → has (targets c.writes) v ≡ true → (q : Copied n p own w y base low count c.writes o named_so stored_stand s m0 st.state (may_stay c.writes) turns m1)
               → (b : Bool) → has (may_stay c.writes) v ≡ b → new_value (pairs_of n c s) v (held_at p.vars q.after (y.next v)) ≡ new_of v
           told v i q true e = ap (new_value (pairs_of n c s) v) (q.copied v i e)
           told v i q false e = decides n s (pos 0) v c.writes (sure (has (surely_set c.writes) v) (has (assigned_vars c.writes) v) (sym (may-stay-has v) ∙ e) (assigned-has c.writes v ∙ i)) _ _

@@ -63,7 +63,7 @@ bounds-stand d h is = go d.type_of (and-left _ _ (and-left _ _ h)) is
 
 -- ---- the own variables of a choice
 
-module _ (n : Net) (p : Program) (own : List Text) (w : Naming) (y : NewNames) (base count : ℕ) (us : NetUpdates) where
+module _ (n : Net) (p : Program) (own : List Text) (w : Naming) (y : NewNames) (base low count : ℕ) (us : NetUpdates) where
   -- one of the generator's own variables: its number is neither that of the mark nor that of the counter
   pub record IsTemp (x : Text) (t : StTy) : Type 0 where
     pub number : ℕ
@@ -89,19 +89,19 @@ module _ (n : Net) (p : Program) (own : List Text) (w : Naming) (y : NewNames) (
   pub record OwnStand : Type 0 where
     pub next : (v : ℕ) → Assigned v → IsNew v
     pub next_apart : (v u : ℕ) → Assigned v → Assigned u → v ≢ u → same_name (y.next v) (y.next u) ≡ false
-    pub next_own : (v k : ℕ) → Assigned v → k < count → same_name (y.next v) (w.own k) ≡ false
+    pub next_own : (v k : ℕ) → Assigned v → low ≤ k → k < count → same_name (y.next v) (w.own k) ≡ false
     pub mark : Tested → IsTemp y.in_range ty.Bool
     pub mark_apart : (v : ℕ) → Tested → Assigned v → same_name y.in_range (y.next v) ≡ false
-    pub mark_own : (k : ℕ) → Tested → k < count → same_name y.in_range (w.own k) ≡ false
+    pub mark_own : (k : ℕ) → Tested → low ≤ k → k < count → same_name y.in_range (w.own k) ≡ false
     pub own_type : ℕ → StTy
-    pub own_temp : (k : ℕ) → k < count → IsTemp (w.own k) (own_type k)
-    pub own_places : OwnPlaces p.vars w base count
+    pub own_temp : (k : ℕ) → low ≤ k → k < count → IsTemp (w.own k) (own_type k)
+    pub own_places : (k : ℕ) → low ≤ k → k < count → place_of p.vars (w.own k) ≡ base + k
 
   -- none of them stands at this place
   pub record IsOther (j : ℕ) : Type 0 where
     pub no_mark : Tested → j ≢ place_of p.vars y.in_range
     pub no_next : (v : ℕ) → Assigned v → j ≢ place_of p.vars (y.next v)
-    pub no_own : (k : ℕ) → k < count → j ≢ base + k
+    pub no_own : (k : ℕ) → low ≤ k → k < count → j ≢ base + k
 
   -- a memory after the first one
   pub record IsLater (m0 m : Memory) : Type 0 where
@@ -111,11 +111,11 @@ module _ (n : Net) (p : Program) (own : List Text) (w : Naming) (y : NewNames) (
   module _ (o : OwnStand) where
     -- the place of a variable of another name
     pub other-at : (x : Text) (v : StVar) → declared p.vars x ≡ Some v → (Tested → same_name x y.in_range ≡ false) → ((u : ℕ) → Assigned u → same_name x (y.next u) ≡ false)
-        → ((k : ℕ) → k < count → same_name x (w.own k) ≡ false) → IsOther (place_of p.vars x)
+        → ((k : ℕ) → low ≤ k → k < count → same_name x (w.own k) ≡ false) → IsOther (place_of p.vars x)
     other-at x v at a b c = record {
       no_mark = λ t. places-differ p.vars x y.in_range v at (a t);
       no_next = λ u i. places-differ p.vars x (y.next u) v at (b u i);
-      no_own = λ k below e. places-differ p.vars x (w.own k) v at (c k below) (e ∙ sym (o.own_places.place k below));
+      no_own = λ k from below e. places-differ p.vars x (w.own k) v at (c k from below) (e ∙ sym (o.own_places k from below));
     }
 
     temp-apart : (l : Letter) → (l ≡ letter.T → ⊥) → (i : ℕ) (path x : Text) (t : StTy) → IsTemp x t → same_name (name_for l i path) x ≡ false
@@ -127,7 +127,7 @@ module _ (n : Net) (p : Program) (own : List Text) (w : Naming) (y : NewNames) (
         let d = declared-of p.vars (name_for l i path) t is in
         other-at (name_for l i path) d.variable d.at (λ q. temp-apart l apart i path y.in_range ty.Bool (o.mark q))
         (λ u q. temp-apart l apart i path (y.next u) (new_type (o.next u q).stored.type_of) (o.next u q).temp)
-        (λ k below. temp-apart l apart i path (w.own k) (o.own_type k) (o.own_temp k below))
+        (λ k from below. temp-apart l apart i path (w.own k) (o.own_type k) (o.own_temp k from below))
 
     -- the marks of the generator have other numbers
     number-apart : (i : ℕ) (path x : Text) (t : StTy) (h : IsTemp x t) → i < 2 ^ 64 → i ≢ h.number → same_name (name_for letter.T i path) x ≡ false
@@ -141,14 +141,14 @@ module _ (n : Net) (p : Program) (own : List Text) (w : Naming) (y : NewNames) (
         let apart = λ (x : Text) (t : StTy) (h : IsTemp x t). let high = h.above in
         subst (λ z. same_name z x ≡ false) fired_is (number-apart 0 (codes "fired") x t h (omega arith) (λ e. omega (arith, e, high))) in
         other-at fired d.variable d.at (λ q. apart y.in_range ty.Bool (o.mark q)) (λ u q. apart (y.next u) (new_type (o.next u q).stored.type_of) (o.next u q).temp)
-        (λ k below. apart (w.own k) (o.own_type k) (o.own_temp k below))
+        (λ k from below. apart (w.own k) (o.own_type k) (o.own_temp k from below))
 
     -- what may be written has been written alone
     pub writes-own : (m0 m : Memory) → IsLater m0 m → WritesOnly (writable (face_of_net n) own) p.vars m0 m
     writes-own m0 m h k v at free = h.others k record {
       no_mark = λ t e. not-named k v y.in_range ty.Bool (o.mark t) at free e;
       no_next = λ u q e. not-named k v (y.next u) (new_type (o.next u q).stored.type_of) (o.next u q).temp at free e;
-      no_own = λ i below e. not-named k v (w.own i) (o.own_type i) (o.own_temp i below) at free (e ∙ sym (o.own_places.place i below));
+      no_own = λ i from below e. not-named k v (w.own i) (o.own_type i) (o.own_temp i from below) at free (e ∙ sym (o.own_places i from below));
     }
       where
         not-named : (k : ℕ) (v : StVar) (x : Text) (t : StTy) → IsTemp x t → slice_get p.vars k ≡ Some v → list_any (same_name v.name) (writable (face_of_net n) own) ≡ false
@@ -176,7 +176,7 @@ module _ (n : Net) (p : Program) (own : List Text) (w : Naming) (y : NewNames) (
     -- ---- what is promised of expressions
 
     module _ (s : State) (r : ℤ) (m0 : Memory) (st : StateOf (face_of_net n) (system_of_net n) p m0 s) (stored_stand : list_all stored_stands n.vars ≡ true)
-        (promised : Promises p.vars w (setting_of n s r) base count) where
+        (promised : Promises p.vars w (setting_of n s r) base low count) where
       abbrev x : Setting
       x = setting_of n s r
 
@@ -188,14 +188,14 @@ module _ (n : Net) (p : Program) (own : List Text) (w : Naming) (y : NewNames) (
       reads-later : (m : Memory) (k : ℕ) (e : NetExpr) → IsLater m0 m → IsReady k e → Reads p.vars w x m e
       reads-later m k e h is = is.1 m (later-state m0 m s h st)
 
-      prepared-later : (e : NetExpr) (k turns : ℕ) (m : Memory) → IsReady k e → k + temps e ≤ count → IsLater m0 m → (q : Prepares p.vars w x base k e turns m) → IsLater m0 q.after
+      prepared-later : (e : NetExpr) (k turns : ℕ) (m : Memory) → IsReady k e → (low ≤ k) × (k + temps e ≤ count) → IsLater m0 m → (q : Prepares p.vars w x base k e turns m) → IsLater m0 q.after
       prepared-later e k turns m is few h q = record {
         typed = is.2 turns m h.typed (reads-later m k e h is) q;
         others = λ j apart. q.beside.others j (λ above. beyond j apart above) ∙ h.others j apart;
       }
         where
           beyond : (j : ℕ) → IsOther j → base + k ≤ j → base + k + temps e ≤ j
-          beyond j apart above = let a : j - base < count → j ≢ base + (j - base) = apart.no_own (j - base) in grind (arith, a, above, few)
+          beyond j apart above = let a : low ≤ j - base → j - base < count → j ≢ base + (j - base) = apart.no_own (j - base) in grind (arith, a, above, few.0, few.1)
 
       next-later : (v : ℕ) (z : ℤ) (m : Memory) → Assigned v → CanTake (slice_get n.vars v) z → IsLater m0 m → IsLater m0 (slice_set m (place_of p.vars (y.next v)) z)
       next-later v z m i takes h =
@@ -212,17 +212,17 @@ module _ (n : Net) (p : Program) (own : List Text) (w : Naming) (y : NewNames) (
         others = λ j apart. slice_get-set_other m (place_of p.vars y.in_range) j (of_bool b) (apart.no_mark t) ∙ h.others j apart;
       }
 
-      pub grounds : Grounds n s r p.vars w y base count (IsLater m0) IsReady Assigned Tested
+      pub grounds : Grounds n s r p.vars w y base low count (IsLater m0) IsReady Assigned Tested
       grounds = record {
-        prepares = λ e k turns m is few h. promised.prepares e k turns m (reads-later m k e h is) is.0 few;
+        prepares = λ e k turns m is few h. promised.prepares e k turns m (reads-later m k e h is) is.0 few.0 few.1;
         prepared_kept = prepared-later;
-        held_kept = λ e k m after is few same held. promised.held_kept e k m after few same held;
+        held_kept = λ e k m after is few same held. promised.held_kept e k m after few.0 few.1 same held;
         valued = λ e k m is h held. promised.valued e k m (reads-later m k e h is) is.0 held;
         next_room = λ v m i h. let new = o.next v i in room (y.next v) (new_type new.stored.type_of) m new.temp h.typed;
         next_apart = λ v u i j other. let new = o.next v i in apart-places (y.next v) (y.next u) (new_type new.stored.type_of) new.temp (o.next_apart v u i j other);
-        next_own = λ v k i below e.
+        next_own = λ v k i from below e.
             let new = o.next v i in
-            apart-places (y.next v) (w.own k) (new_type new.stored.type_of) new.temp (o.next_own v k i below) (e ∙ sym (o.own_places.place k below));
+            apart-places (y.next v) (w.own k) (new_type new.stored.type_of) new.temp (o.next_own v k i from below) (e ∙ sym (o.own_places k from below));
         next_type = λ v z i takes.
             let new = o.next v i in
             ap (λ t. is_within t z) (declared-type p.vars (y.next v) (new_type new.stored.type_of) new.temp.is_declared)
@@ -231,7 +231,7 @@ module _ (n : Net) (p : Program) (own : List Text) (w : Naming) (y : NewNames) (
         marked = λ v i is. tested-any n v is us i;
         mark_room = λ m t h. room y.in_range ty.Bool m (o.mark t) h.typed;
         mark_apart = λ v t i. apart-places y.in_range (y.next v) ty.Bool (o.mark t) (o.mark_apart v t i);
-        mark_own = λ k t below e. apart-places y.in_range (w.own k) ty.Bool (o.mark t) (o.mark_own k t below) (e ∙ sym (o.own_places.place k below));
+        mark_own = λ k t from below e. apart-places y.in_range (w.own k) ty.Bool (o.mark t) (o.mark_own k t from below) (e ∙ sym (o.own_places k from below));
         mark_type = λ b t. ap (λ q. is_within q (of_bool b)) (declared-type p.vars y.in_range ty.Bool (o.mark t).is_declared);
         mark_kept = mark-later;
         bounds = λ v d at is. bounds-stand d (all-member stored_stands n.vars d stored_stand (at-member n.vars v d at)) is;

@@ -34,31 +34,35 @@ exec-otherwise : (vars : List StVar) (ss : Stms) (turns : ℕ) (m : Memory) → 
 exec-otherwise vars no_stms turns m = refl
 exec-otherwise vars (stms s ss) turns m = refl
 
-module _ (n : Net) (s : State) (r : ℤ) (vars : List StVar) (w : Naming) (y : NewNames) (base count : ℕ)
+module _ (n : Net) (s : State) (r : ℤ) (vars : List StVar) (w : Naming) (y : NewNames) (base low count : ℕ)
     (P : Memory → Type 0) (E : ℕ → NetExpr → Type 0) (V : ℕ → Type 0) (M : Type 0) where
   abbrev x : Setting
   x = setting_of n s r
+
+  -- the own variables of an expression are among those from the number low on
+  abbrev pub Room : ℕ → ℕ → Type 0
+  Room k c = (low ≤ k) × (k + c ≤ count)
 
   -- What is known of the memories between the statements, of the expressions, of the variables, and of the mark where it is
   -- there.
   pub record Grounds : Type 0 where
     -- the statements before an expression, and its text
-    pub prepares : (e : NetExpr) (k turns : ℕ) (m : Memory) → E k e → k + temps e ≤ count → P m → Prepares vars w x base k e turns m
-    pub prepared_kept : (e : NetExpr) (k turns : ℕ) (m : Memory) → E k e → k + temps e ≤ count → P m → (q : Prepares vars w x base k e turns m) → P q.after
-    pub held_kept : (e : NetExpr) (k : ℕ) (m after : Memory) → E k e → k + temps e ≤ count
+    pub prepares : (e : NetExpr) (k turns : ℕ) (m : Memory) → E k e → Room k (temps e) → P m → Prepares vars w x base k e turns m
+    pub prepared_kept : (e : NetExpr) (k turns : ℕ) (m : Memory) → E k e → Room k (temps e) → P m → (q : Prepares vars w x base k e turns m) → P q.after
+    pub held_kept : (e : NetExpr) (k : ℕ) (m after : Memory) → E k e → Room k (temps e)
         → ((j : ℕ) → base + k ≤ j → j < base + k + temps e → slice_get after j ≡ slice_get m j) → Held vars w x m k e → Held vars w x after k e
     pub valued : (e : NetExpr) (k : ℕ) (m : Memory) → E k e → P m → Held vars w x m k e → value_of vars (text w k e) m ≡ Ok (value_at x e)
     -- a new value
     pub next_room : (v : ℕ) (m : Memory) → V v → P m → place_of vars (y.next v) < length m
     pub next_apart : (v u : ℕ) → V v → V u → v ≢ u → place_of vars (y.next v) ≢ place_of vars (y.next u)
-    pub next_own : (v k : ℕ) → V v → k < count → place_of vars (y.next v) ≢ base + k
+    pub next_own : (v k : ℕ) → V v → low ≤ k → k < count → place_of vars (y.next v) ≢ base + k
     pub next_type : (v : ℕ) (z : ℤ) → V v → CanTake (slice_get n.vars v) z → is_within (type_at vars (place_of vars (y.next v))) z ≡ true
     pub next_kept : (v : ℕ) (z : ℤ) (m : Memory) → V v → CanTake (slice_get n.vars v) z → P m → P (slice_set m (place_of vars (y.next v)) z)
     -- the mark
     pub marked : (v : ℕ) → V v → tests n v ≡ true → M
     pub mark_room : (m : Memory) → M → P m → place_of vars y.in_range < length m
     pub mark_apart : (v : ℕ) → M → V v → place_of vars y.in_range ≢ place_of vars (y.next v)
-    pub mark_own : (k : ℕ) → M → k < count → place_of vars y.in_range ≢ base + k
+    pub mark_own : (k : ℕ) → M → low ≤ k → k < count → place_of vars y.in_range ≢ base + k
     pub mark_type : (b : Bool) → M → is_within (type_at vars (place_of vars y.in_range)) (of_bool b) ≡ true
     pub mark_kept : (b : Bool) (m : Memory) → M → P m → P (slice_set m (place_of vars y.in_range) (of_bool b))
     -- literals of bounds
@@ -106,12 +110,12 @@ module _ (n : Net) (s : State) (r : ℤ) (vars : List StVar) (w : Naming) (y : N
     -- ---- before an expression
 
     -- places of other variables keep what they hold
-    beyond : (e : NetExpr) (k turns : ℕ) (m : Memory) (q : Prepares vars w x base k e turns m) (j : ℕ) → k + temps e ≤ count → ((i : ℕ) → i < count → j ≢ base + i)
+    beyond : (e : NetExpr) (k turns : ℕ) (m : Memory) (q : Prepares vars w x base k e turns m) (j : ℕ) → Room k (temps e) → ((i : ℕ) → low ≤ i → i < count → j ≢ base + i)
         → slice_index_or q.after j (pos 0) ≡ slice_index_or m j (pos 0)
     beyond e k turns m q j room apart = same-at q.after m j (pos 0) (q.beside.others j after)
       where
         after : base + k ≤ j → base + k + temps e ≤ j
-        after above = let o : j - base < count → j ≢ base + (j - base) = apart (j - base) in grind (arith, o, above, room)
+        after above = let o : low ≤ j - base → j - base < count → j ≢ base + (j - base) = apart (j - base) in grind (arith, o, above, room.0, room.1)
 
     pub record Known (e : NetExpr) (k turns : ℕ) (m : Memory) : Type 0 where
       pub wrote : Wrote [] (exec vars (before w k e) turns m) turns m
@@ -119,7 +123,7 @@ module _ (n : Net) (s : State) (r : ℤ) (vars : List StVar) (w : Naming) (y : N
       pub same_length : length wrote.after ≡ length m
       pub others : (j : ℕ) → (base + k ≤ j → base + k + temps e ≤ j) → slice_get wrote.after j ≡ slice_get m j
 
-    known : (e : NetExpr) (k turns : ℕ) (m : Memory) → E k e → k + temps e ≤ count → P m → Known e k turns m
+    known : (e : NetExpr) (k turns : ℕ) (m : Memory) → E k e → Room k (temps e) → P m → Known e k turns m
     known e k turns m is room keeps =
         let q = g.prepares e k turns m is room keeps in
         record {
@@ -127,8 +131,8 @@ module _ (n : Net) (s : State) (r : ℤ) (vars : List StVar) (w : Naming) (y : N
             after = q.after;
             ends = q.runs;
             keeps = g.prepared_kept e k turns m is room keeps q;
-            news = λ v i. beyond e k turns m q (place_of vars (y.next v)) room (λ j below. g.next_own v j i below);
-            mark = λ t b h. beyond e k turns m q (place_of vars y.in_range) room (λ j below. g.mark_own j t below) ∙ h ∙ ap of_bool (and-true b);
+            news = λ v i. beyond e k turns m q (place_of vars (y.next v)) room (λ j from below. g.next_own v j i from below);
+            mark = λ t b h. beyond e k turns m q (place_of vars y.in_range) room (λ j from below. g.mark_own j t from below) ∙ h ∙ ap of_bool (and-true b);
           };
           held = q.held;
           same_length = q.beside.same_length;
@@ -232,7 +236,7 @@ module _ (n : Net) (s : State) (r : ℤ) (vars : List StVar) (w : Naming) (y : N
       set-tested false is fit = untested fit
 
     -- an assignment of an expression
-    set-wrote : (v : ℕ) (e : NetExpr) (k turns : ℕ) (m : Memory) → V v → E k e → CanTake (slice_get n.vars v) (value_at x e) → k + temps e ≤ count → P m
+    set-wrote : (v : ℕ) (e : NetExpr) (k turns : ℕ) (m : Memory) → V v → E k e → CanTake (slice_get n.vars v) (value_at x e) → Room k (temps e) → P m
         → Wrote ((v, value_at x e) ∷ []) (exec vars (write n w y k (net_set v e)) turns m) turns m
     set-wrote v e k turns m i is takes room keeps =
         let q = known e k turns m is room keeps in
@@ -265,16 +269,16 @@ module _ (n : Net) (s : State) (r : ℤ) (vars : List StVar) (w : Naming) (y : N
       pub held : HeldConditions k bs wrote.after
       pub others : (j : ℕ) → (base + k ≤ j → base + k + conditions_temps bs ≤ j) → slice_get wrote.after j ≡ slice_get m j
 
-    known-conditions : (bs : NetUpdateBranches) (k j turns : ℕ) (m : Memory) → OfBranches Sets Tells k j bs → k + conditions_temps bs ≤ count → P m → KnownConditions bs k turns m
+    known-conditions : (bs : NetUpdateBranches) (k j turns : ℕ) (m : Memory) → OfBranches Sets Tells k j bs → Room k (conditions_temps bs) → P m → KnownConditions bs k turns m
     unfolding wrote-none wrote-then
     known-conditions no_net_update_branches k j turns m all room keeps = record { wrote = wrote-none turns m keeps; held = tt; others = λ j h. refl }
     known-conditions (net_update_branches c us bs) k j turns m all room keeps =
-        let q = known c k turns m all.0.0 (omega (arith, room)) keeps in
-        let t = known-conditions bs (k + temps c) (j + updates_temps us) turns q.wrote.after all.2 (omega (arith, room)) q.wrote.keeps in
+        let q = known c k turns m all.0.0 (omega (arith, room), omega (arith, room)) keeps in
+        let t = known-conditions bs (k + temps c) (j + updates_temps us) turns q.wrote.after all.2 (omega (arith, room), omega (arith, room)) q.wrote.keeps in
         record {
           wrote = wrote-then [] [] (before w k c) (conditions_before w (k + temps c) bs) turns m q.wrote t.wrote;
           held = (
-            g.held_kept c k q.wrote.after t.wrote.after all.0.0 (omega (arith, room)) (λ j above below. t.others j (λ h. omega (arith, h, below))) q.held,
+            g.held_kept c k q.wrote.after t.wrote.after all.0.0 (omega (arith, room), omega (arith, room)) (λ j above below. t.others j (λ h. omega (arith, h, below))) q.held,
             t.held,
           );
           others = λ i h. t.others i (λ a. omega (arith, a, h)) ∙ q.others i (λ a. omega (arith, a, h));
@@ -297,27 +301,27 @@ module _ (n : Net) (s : State) (r : ℤ) (vars : List StVar) (w : Naming) (y : N
     picked false xs ys o out turns m a c = c
 
     mutual
-      pub updates-wrote : (us : NetUpdates) (k turns : ℕ) (m : Memory) → AllUpdates Sets Tells k us → k + updates_temps us ≤ count → P m
+      pub updates-wrote : (us : NetUpdates) (k turns : ℕ) (m : Memory) → AllUpdates Sets Tells k us → Room k (updates_temps us) → P m
           → Wrote (net_assigned_all n s r us) (exec vars (writes n w y k us) turns m) turns m
       updates-wrote no_net_updates k turns m all room keeps = wrote-none turns m keeps
       updates-wrote (net_updates u us) k turns m all room keeps =
-          let a = updates-wrote us k turns m all.1 (omega (arith, room)) keeps in
+          let a = updates-wrote us k turns m all.1 (omega (arith, room), omega (arith, room)) keeps in
           wrote-then (net_assigned_by n s r u) (net_assigned_all n s r us) (writes n w y k us) (write n w y (k + updates_temps us) u) turns m a
-          (update-wrote u (k + updates_temps us) turns a.after all.0 (omega (arith, room)) a.keeps)
+          (update-wrote u (k + updates_temps us) turns a.after all.0 (omega (arith, room), omega (arith, room)) a.keeps)
 
-      update-wrote : (u : NetUpdate) (k turns : ℕ) (m : Memory) → OfUpdate Sets Tells k u → k + update_temps u ≤ count → P m
+      update-wrote : (u : NetUpdate) (k turns : ℕ) (m : Memory) → OfUpdate Sets Tells k u → Room k (update_temps u) → P m
           → Wrote (net_assigned_by n s r u) (exec vars (write n w y k u) turns m) turns m
       update-wrote (net_set v e) k turns m all room keeps = set-wrote v e k turns m all.0 all.1 all.2 room keeps
       update-wrote (net_choose bs us) k turns m all room keeps =
-          let q = known-conditions bs k (k + conditions_temps bs) turns m all.0 (omega (arith, room)) keeps in
+          let q = known-conditions bs k (k + conditions_temps bs) turns m all.0 (omega (arith, room), omega (arith, room)) keeps in
           let ss : Stms = writes n w y (k + conditions_temps bs + bodies_temps bs) us in
-          let last = updates-wrote us (k + conditions_temps bs + bodies_temps bs) turns q.wrote.after all.1 (omega (arith, room)) q.wrote.keeps in
+          let last = updates-wrote us (k + conditions_temps bs + bodies_temps bs) turns q.wrote.after all.1 (omega (arith, room), omega (arith, room)) q.wrote.keeps in
           wrote-after (net_assigned_in n s r (net_assigned_all n s r us) bs) (conditions_before w k bs) (chosen (write_branches n w y k (k + conditions_temps bs) bs) ss) turns m q.wrote
           (chosen-wrote (write_branches n w y k (k + conditions_temps bs) bs) ss (net_assigned_in n s r (net_assigned_all n s r us) bs) turns q.wrote.after
-          (branches-wrote bs k (k + conditions_temps bs) turns q.wrote.after (net_assigned_all n s r us) (λ l i. exec_other vars (otherwise ss) l i) all.0 q.held (omega (arith, room)) q.wrote.keeps
+          (branches-wrote bs k (k + conditions_temps bs) turns q.wrote.after (net_assigned_all n s r us) (λ l i. exec_other vars (otherwise ss) l i) all.0 q.held (omega (arith, room), omega (arith, room)) q.wrote.keeps
           (wrote-as (net_assigned_all n s r us) (exec_other vars (otherwise ss) turns q.wrote.after) (exec vars ss turns q.wrote.after) turns q.wrote.after (exec-otherwise vars ss turns q.wrote.after) last)))
 
-      branches-wrote : (bs : NetUpdateBranches) (k j turns : ℕ) (m : Memory) (other_pairs : List (ℕ × ℤ)) (last : Act) → OfBranches Sets Tells k j bs → HeldConditions k bs m → j + bodies_temps bs ≤ count → P m
+      branches-wrote : (bs : NetUpdateBranches) (k j turns : ℕ) (m : Memory) (other_pairs : List (ℕ × ℤ)) (last : Act) → OfBranches Sets Tells k j bs → HeldConditions k bs m → Room j (bodies_temps bs) → P m
           → Wrote other_pairs (last turns m) turns m → Wrote (net_assigned_in n s r other_pairs bs) (exec_choice vars (write_branches n w y k j bs) last turns m) turns m
       branches-wrote no_net_update_branches k j turns m other_pairs last all held room keeps a = a
       branches-wrote (net_update_branches c us bs) k j turns m other_pairs last all held room keeps a =
@@ -329,5 +333,5 @@ module _ (n : Net) (s : State) (r : ℤ) (vars : List StVar) (w : Naming) (y : N
           (sym (truth-is (value_at x c) all.0.1))
           (picked (v.is_true (value_at x c)) (net_assigned_all n s r us) (net_assigned_in n s r other_pairs bs) (exec vars (writes n w y j us) turns m)
           (exec_choice vars (write_branches n w y (k + temps c) (j + updates_temps us) bs) last turns m) turns m
-          (updates-wrote us j turns m all.1 (omega (arith, room)) keeps)
-          (branches-wrote bs (k + temps c) (j + updates_temps us) turns m other_pairs last all.2 held.1 (omega (arith, room)) keeps a)))
+          (updates-wrote us j turns m all.1 (omega (arith, room), omega (arith, room)) keeps)
+          (branches-wrote bs (k + temps c) (j + updates_temps us) turns m other_pairs last all.2 held.1 (omega (arith, room), omega (arith, room)) keeps a)))
