@@ -63,22 +63,23 @@ bounds-stand d h is = go d.type_of (and-left _ _ (and-left _ _ h)) is
 
 -- ---- the own variables of a choice
 
+-- one of the generator's own variables: its number is neither that of the mark nor that of the counter
+pub record IsTemp (n : Net) (p : Program) (own : List Text) (x : Text) (t : StTy) : Type 0 where
+  pub number : ℕ
+  pub path : Text
+  pub above : 2 ≤ number
+  pub small : number < 2 ^ 32
+  pub name : x ≡ name_for letter.T number path
+  pub is_declared : IsDeclared p.vars x t
+  pub among : Among x (writable (face_of_net n) own)
+
+-- the new value of a variable has such a variable
+pub record IsNew (n : Net) (p : Program) (own : List Text) (y : NewNames) (v : ℕ) : Type 0 where
+  pub stored : NetStored
+  pub at : slice_get n.vars v ≡ Some stored
+  pub temp : IsTemp n p own (y.next v) (new_type stored.type_of)
+
 module _ (n : Net) (p : Program) (own : List Text) (w : Naming) (y : NewNames) (base low count : ℕ) (us : NetUpdates) where
-  -- one of the generator's own variables: its number is neither that of the mark nor that of the counter
-  pub record IsTemp (x : Text) (t : StTy) : Type 0 where
-    pub number : ℕ
-    pub path : Text
-    pub above : 2 ≤ number
-    pub small : number < 2 ^ 32
-    pub name : x ≡ name_for letter.T number path
-    pub is_declared : IsDeclared p.vars x t
-    pub among : Among x (writable (face_of_net n) own)
-
-  pub record IsNew (v : ℕ) : Type 0 where
-    pub stored : NetStored
-    pub at : slice_get n.vars v ≡ Some stored
-    pub temp : IsTemp (y.next v) (new_type stored.type_of)
-
   abbrev pub Assigned : ℕ → Type 0
   Assigned v = has (targets us) v ≡ true
 
@@ -87,15 +88,16 @@ module _ (n : Net) (p : Program) (own : List Text) (w : Naming) (y : NewNames) (
 
   -- The own variables are declared, each under a name of its own.
   pub record OwnStand : Type 0 where
-    pub next : (v : ℕ) → Assigned v → IsNew v
+    pub next : (v : ℕ) → Assigned v → IsNew n p own y v
     pub next_apart : (v u : ℕ) → Assigned v → Assigned u → v ≢ u → same_name (y.next v) (y.next u) ≡ false
     pub next_own : (v k : ℕ) → Assigned v → low ≤ k → k < count → same_name (y.next v) (w.own k) ≡ false
-    pub mark : Tested → IsTemp y.in_range ty.Bool
+    pub mark : Tested → IsTemp n p own y.in_range ty.Bool
     pub mark_apart : (v : ℕ) → Tested → Assigned v → same_name y.in_range (y.next v) ≡ false
     pub mark_own : (k : ℕ) → Tested → low ≤ k → k < count → same_name y.in_range (w.own k) ≡ false
     pub own_type : ℕ → StTy
-    pub own_temp : (k : ℕ) → low ≤ k → k < count → IsTemp (w.own k) (own_type k)
+    pub own_temp : (k : ℕ) → low ≤ k → k < count → IsTemp n p own (w.own k) (own_type k)
     pub own_places : (k : ℕ) → low ≤ k → k < count → place_of p.vars (w.own k) ≡ base + k
+    pub own_inside : base + count ≤ length p.vars
 
   -- none of them stands at this place
   pub record IsOther (j : ℕ) : Type 0 where
@@ -118,7 +120,7 @@ module _ (n : Net) (p : Program) (own : List Text) (w : Naming) (y : NewNames) (
       no_own = λ k from below e. places-differ p.vars x (w.own k) v at (c k from below) (e ∙ sym (o.own_places k from below));
     }
 
-    temp-apart : (l : Letter) → (l ≡ letter.T → ⊥) → (i : ℕ) (path x : Text) (t : StTy) → IsTemp x t → same_name (name_for l i path) x ≡ false
+    temp-apart : (l : Letter) → (l ≡ letter.T → ⊥) → (i : ℕ) (path x : Text) (t : StTy) → IsTemp n p own x t → same_name (name_for l i path) x ≡ false
     temp-apart l other i path x t h = subst (λ z. same_name (name_for l i path) z ≡ false) (sym h.name) (letters-differ l letter.T i h.number path h.path other)
 
     -- variables of other letters are others
@@ -130,7 +132,7 @@ module _ (n : Net) (p : Program) (own : List Text) (w : Naming) (y : NewNames) (
         (λ k from below. temp-apart l apart i path (w.own k) (o.own_type k) (o.own_temp k from below))
 
     -- the marks of the generator have other numbers
-    number-apart : (i : ℕ) (path x : Text) (t : StTy) (h : IsTemp x t) → i < 2 ^ 64 → i ≢ h.number → same_name (name_for letter.T i path) x ≡ false
+    number-apart : (i : ℕ) (path x : Text) (t : StTy) (h : IsTemp n p own x t) → i < 2 ^ 64 → i ≢ h.number → same_name (name_for letter.T i path) x ≡ false
     number-apart i path x t h small other =
         let less = h.small in
         subst (λ z. same_name (name_for letter.T i path) z ≡ false) (sym h.name) (names-differ letter.T letter.T i h.number path h.path small (omega (arith, less)) (inr other))
@@ -138,7 +140,7 @@ module _ (n : Net) (p : Program) (own : List Text) (w : Naming) (y : NewNames) (
     pub fired-other : IsDeclared p.vars fired ty.Bool → IsOther (place_of p.vars fired)
     fired-other is =
         let d = declared-of p.vars fired ty.Bool is in
-        let apart = λ (x : Text) (t : StTy) (h : IsTemp x t). let high = h.above in
+        let apart = λ (x : Text) (t : StTy) (h : IsTemp n p own x t). let high = h.above in
         subst (λ z. same_name z x ≡ false) fired_is (number-apart 0 (codes "fired") x t h (omega arith) (λ e. omega (arith, e, high))) in
         other-at fired d.variable d.at (λ q. apart y.in_range ty.Bool (o.mark q)) (λ u q. apart (y.next u) (new_type (o.next u q).stored.type_of) (o.next u q).temp)
         (λ k from below. apart (w.own k) (o.own_type k) (o.own_temp k from below))
@@ -151,7 +153,7 @@ module _ (n : Net) (p : Program) (own : List Text) (w : Naming) (y : NewNames) (
       no_own = λ i from below e. not-named k v (w.own i) (o.own_type i) (o.own_temp i from below) at free (e ∙ sym (o.own_places i from below));
     }
       where
-        not-named : (k : ℕ) (v : StVar) (x : Text) (t : StTy) → IsTemp x t → slice_get p.vars k ≡ Some v → list_any (same_name v.name) (writable (face_of_net n) own) ≡ false
+        not-named : (k : ℕ) (v : StVar) (x : Text) (t : StTy) → IsTemp n p own x t → slice_get p.vars k ≡ Some v → list_any (same_name v.name) (writable (face_of_net n) own) ≡ false
             → k ≢ place_of p.vars x
         not-named k v x t h at free e =
             false-true (same_name v.name x) (h.among v.name free) (declared-name p.vars x v (ap (slice_get p.vars) (sym e) ∙ at))
@@ -164,13 +166,13 @@ module _ (n : Net) (p : Program) (own : List Text) (w : Naming) (y : NewNames) (
     later-state m0 m s h st =
         state-kept (face_of_net n) (system_of_net n) p m0 m s (later-kept m0 m h letter.L (λ e. cc)) (later-kept m0 m h letter.V (λ e. cc)) (later-kept m0 m h letter.H (λ e. cc)) st
 
-    room : (x : Text) (t : StTy) (m : Memory) → IsTemp x t → Typed p.vars m → place_of p.vars x < length m
+    room : (x : Text) (t : StTy) (m : Memory) → IsTemp n p own x t → Typed p.vars m → place_of p.vars x < length m
     room x t m h typed =
         let d = declared-of p.vars x t h.is_declared in
         let inside = below p.vars (place_of p.vars x) d.variable d.at in
         let long = pairwise-length (λ (v : StVar) z. IsTrue (in_range (range_of v.ty) z)) p.vars m typed in omega (arith, inside, long)
 
-    apart-places : (x z : Text) (t : StTy) → IsTemp x t → same_name x z ≡ false → place_of p.vars x ≢ place_of p.vars z
+    apart-places : (x z : Text) (t : StTy) → IsTemp n p own x t → same_name x z ≡ false → place_of p.vars x ≢ place_of p.vars z
     apart-places x z t h apart = let d = declared-of p.vars x t h.is_declared in places-differ p.vars x z d.variable d.at apart
 
     -- ---- what is promised of expressions
@@ -187,6 +189,22 @@ module _ (n : Net) (p : Program) (own : List Text) (w : Naming) (y : NewNames) (
 
       reads-later : (m : Memory) (k : ℕ) (e : NetExpr) → IsLater m0 m → IsReady k e → Reads p.vars w x m e
       reads-later m k e h is = is.1 m (later-state m0 m s h st)
+
+      -- whatever the own variables of expressions hold
+      reads-beside : (m a : Memory) (k : ℕ) (e : NetExpr) → IsLater m0 m → IsReady k e → ((j : ℕ) → (base + low ≤ j → base + count ≤ j) → slice_get a j ≡ slice_get m j) → Reads p.vars w x a e
+      reads-beside m a k e h is same =
+          is.1 a (state-kept (face_of_net n) (system_of_net n) p m a s (kept letter.L (λ q. cc)) (kept letter.V (λ q. cc)) (kept letter.H (λ q. cc)) (later-state m0 m s h st))
+        where
+          past : (j : ℕ) → IsOther j → base + low ≤ j → base + count ≤ j
+          past j apart above = let b : low ≤ j - base → j - base < count → j ≢ base + (j - base) = apart.no_own (j - base) in grind (arith, b, above)
+
+          kept : (l : Letter) → (l ≡ letter.T → ⊥) → Kept p m a l
+          kept l other i path t at = same (place_of p.vars (name_for l i path)) (past (place_of p.vars (name_for l i path)) (other-letter l other i path t at))
+
+      inside : (m : Memory) → IsLater m0 m → base + count ≤ length m
+      inside m h =
+          let few = o.own_inside in
+          let long = pairwise-length (λ (v : StVar) z. IsTrue (in_range (range_of v.ty) z)) p.vars m h.typed in omega (arith, few, long)
 
       prepared-later : (e : NetExpr) (k turns : ℕ) (m : Memory) → IsReady k e → (low ≤ k) × (k + temps e ≤ count) → IsLater m0 m → (q : Prepares p.vars w x base k e turns m) → IsLater m0 q.after
       prepared-later e k turns m is few h q = record {
@@ -214,7 +232,7 @@ module _ (n : Net) (p : Program) (own : List Text) (w : Naming) (y : NewNames) (
 
       pub grounds : Grounds n s r p.vars w y base low count (IsLater m0) IsReady Assigned Tested
       grounds = record {
-        prepares = λ e k turns m is few h. promised.prepares e k turns m (reads-later m k e h is) is.0 few.0 few.1;
+        prepares = λ e k turns m is few h. promised.prepares e k turns m (λ a same. reads-beside m a k e h is same) (inside m h) is.0 few.0 few.1;
         prepared_kept = prepared-later;
         held_kept = λ e k m after is few same held. promised.held_kept e k m after few.0 few.1 same held;
         valued = λ e k m is h held. promised.valued e k m (reads-later m k e h is) is.0 held;

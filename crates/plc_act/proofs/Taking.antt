@@ -105,9 +105,6 @@ self v = eq-eqb v v refl
 
 module _ (n : Net) (p : Program) (own : List Text) (w : Naming) (y : NewNames) (base low count : ℕ) (us : NetUpdates) (o : OwnStand n p own w y base low count us)
     (named_so : (v : ℕ) → w.variable v ≡ variable_name n v) (stored_stand : list_all stored_stands n.vars ≡ true) where
-  abbrev New : ℕ → Type 0
-  New v = IsNew n p own w y base low count us v
-
   -- ---- copies
 
   module _ (s : State) (m0 : Memory) (st : StateOf (face_of_net n) (system_of_net n) p m0 s) where

@@ -64,10 +64,12 @@ AreTyped vars m = AllZip (λ (v : StVar) z. IsTrue (in_range (range_of v.ty) z))
 abbrev pub KeepsTypes : List StVar → Naming → Setting → ℕ → ℕ → NetExpr → Type 0
 KeepsTypes vars w x base k e = (turns : ℕ) (m : Memory) → AreTyped vars m → Reads vars w x m e → (q : Prepares vars w x base k e turns m) → AreTyped vars q.after
 
--- Of each safe expression: the statements before it do what they are to do, its own variables keep what they hold where their
+-- Of each safe expression: where its names are read whatever the own variables hold, the statements before it do what they
+-- are to do, its own variables keep what they hold where their
 -- places do, and its text has its value.
 pub record Promises (vars : List StVar) (w : Naming) (x : Setting) (base low count : ℕ) : Type 0 where
-  pub prepares : (e : NetExpr) (k turns : ℕ) (m : Memory) → Reads vars w x m e → IsSafe x e → low ≤ k → k + temps e ≤ count → Prepares vars w x base k e turns m
+  pub prepares : (e : NetExpr) (k turns : ℕ) (m : Memory) → ((o : Memory) → ((j : ℕ) → (base + low ≤ j → base + count ≤ j) → slice_get o j ≡ slice_get m j) → Reads vars w x o e)
+      → base + count ≤ length m → IsSafe x e → low ≤ k → k + temps e ≤ count → Prepares vars w x base k e turns m
   pub held_kept : (e : NetExpr) (k : ℕ) (m after : Memory) → low ≤ k → k + temps e ≤ count
       → ((j : ℕ) → base + k ≤ j → j < base + k + temps e → slice_get after j ≡ slice_get m j) → Held vars w x m k e → Held vars w x after k e
   pub valued : (e : NetExpr) (k : ℕ) (m : Memory) → Reads vars w x m e → IsSafe x e → Held vars w x m k e → value_of vars (text w k e) m ≡ Ok (value_at x e)
