@@ -41,11 +41,12 @@ use Rattle.plc_expr.specs.Held.{held_at}
 use Rattle.plc_act.specs.Writes.{NewNames, any_tested, chosen, updates_temps, writes}
 use Rattle.plc_act.specs.Acts.{act, assigned_vars, computed, copy, may_stay, stored, store, surely_set}
 use Rattle.plc_act.specs.Asked.{setting_of, AllUpdates, CanTake, IsSafeSet, IsSafeCondition, Promises}
+use Rattle.plc_act.specs.Declared.{OwnStand}
 use Rattle.plc_act.specs.Own.{variable_name}
 use Rattle.plc_act.proofs.Pairs.{all_fit, fits_pair, fit-one}
 use Rattle.plc_act.proofs.Writing.{Grounds, same-at, updates-wrote}
 use Rattle.plc_act.proofs.Targets.{all-updates, assigned-has, decides, others-stay, untested-fit}
-use Rattle.plc_act.proofs.Memories.{IsLater, IsReady, OwnStand, grounds, later-kept, later-state, writes-own, Assigned, Tested, fired-other}
+use Rattle.plc_act.proofs.Memories.{IsLater, IsReady, grounds, later-kept, later-state, writes-own, Assigned, Tested, fired-other}
 use Rattle.plc_act.proofs.Taking.{Copied, copies-run, old, old-in, variable-at}
 use Rattle.plc_act.proofs.Storing.{HaveNew, Stored as Storage, stores-run}
 

@@ -1,5 +1,5 @@
 -- The memories between the statements of a choice: only its own variables have changed, and all variables are in their types.
-use Rattle.std.proofs.Common.{◌≡◌, ◌≢◌, ℕ, ◌+◌, ◌-◌, ◌^◌, ◌<◌, ◌≤◌, ℤ, Bool, true, false, List, length, Some, inr, refl, sym, ap, subst, ◌∙◌, arith}
+use Rattle.std.proofs.Common.{◌≡◌, ◌≢◌, ℕ, ◌+◌, ◌-◌, ◌^◌, ◌<◌, ◌≤◌, ℤ, Bool, true, false, List, length, Some, inl, inr, refl, sym, ap, subst, ◌∙◌, arith, [], ◌∷◌, ◌++◌}
 use Rattle.std.specs.Prelude.{IsTrue, codes, slice_get, slice_set}
 use Rattle.std.specs.List.{list_all, list_any}
 use Rattle.grammar.specs.Pieces.{Text}
@@ -13,6 +13,7 @@ use Rattle.cif_model.specs.Exprs.{targets}
 use Rattle.cif_model.specs.Facts.{has, is_type, stored_stands}
 use Rattle.cif_model.specs.Meaning.{type_range, system_of_net}
 use Rattle.cif_model.proofs.Passing.{all-member, and-left, and-right}
+use Rattle.cif_system.specs.Words.{Member}
 use Rattle.cif_system.proofs.Picks.{at-member}
 use Rattle.st_ast.specs.Tree.{Program}
 use Rattle.st_ast.specs.Names.{same_name, place_of, declared}
@@ -24,18 +25,19 @@ use Rattle.st_ast.specs.declared.tree.StTy.TheVariants as ty
 use Rattle.plc_face.specs.declared.letter.Letter.{Letter}
 use Rattle.plc_face.specs.declared.letter.Letter.TheVariants as letter
 use Rattle.plc_face.specs.Names.{name_for}
-use Rattle.plc_face.specs.Face.{IsDeclared, StateOf, range_of}
-use Rattle.plc_face.specs.Frame.{WritesOnly, fired, writable}
+use Rattle.plc_face.specs.Face.{IsDeclared, StateOf, range_of, places_of}
+use Rattle.plc_face.specs.Frame.{WritesOnly, fired, names_of, writable}
 use Rattle.plc_face.proofs.NameLaws.{false-true, letters-differ, names-differ}
 use Rattle.plc_face.proofs.FaceLaws.{Kept, Typed, below, declared-name, declared-of, declared-type, pairwise-length, places-differ, slice_get-set_other, state-kept, typed-written}
 use Rattle.plc_face.proofs.Framed.{truth_in_type}
 use Rattle.plc_gen.specs.Faces.{face_of_net}
 use Rattle.plc_gen.proofs.Making.{fired_is}
-use Rattle.plc_gen.proofs.Writing.{Among}
+use Rattle.plc_gen.proofs.Writing.{Among, among-first, among-rest, among-right}
 use Rattle.plc_expr.specs.Texts.{Naming, temps}
 use Rattle.plc_expr.specs.Safe.{Setting, IsSafe}
-use Rattle.plc_expr.specs.Held.{Reads, OwnPlaces, Prepares}
+use Rattle.plc_expr.specs.Held.{Reads, Prepares}
 use Rattle.plc_act.specs.Writes.{NewNames, is_tested, any_tested}
+use Rattle.plc_act.specs.Declared.{IsTemp, OwnStand}
 use Rattle.plc_act.specs.Asked.{setting_of, IsFit, CanTake, KeepsTypes, Promises}
 use Rattle.plc_act.specs.Own.{new_type}
 use Rattle.plc_act.proofs.Writing.{Grounds}
@@ -63,21 +65,12 @@ bounds-stand d h is = go d.type_of (and-left _ _ (and-left _ _ h)) is
 
 -- ---- the own variables of a choice
 
--- one of the generator's own variables: its number is neither that of the mark nor that of the counter
-pub record IsTemp (n : Net) (p : Program) (own : List Text) (x : Text) (t : StTy) : Type 0 where
-  pub number : ℕ
-  pub path : Text
-  pub above : 2 ≤ number
-  pub small : number < 2 ^ 32
-  pub name : x ≡ name_for letter.T number path
-  pub is_declared : IsDeclared p.vars x t
-  pub among : Among x (writable (face_of_net n) own)
+-- ---- names
 
--- the new value of a variable has such a variable
-pub record IsNew (n : Net) (p : Program) (own : List Text) (y : NewNames) (v : ℕ) : Type 0 where
-  pub stored : NetStored
-  pub at : slice_get n.vars v ≡ Some stored
-  pub temp : IsTemp n p own (y.next v) (new_type stored.type_of)
+among-own : (x : Text) (names : List Text) → Member x names → Among x names
+among-own x [] m = absurd m
+among-own x (z ∷ names) (inl e) = subst (λ q. Among q (z ∷ names)) (sym e) (among-first z names)
+among-own x (z ∷ names) (inr m) = among-rest x z names (among-own x names m)
 
 module _ (n : Net) (p : Program) (own : List Text) (w : Naming) (y : NewNames) (base low count : ℕ) (us : NetUpdates) where
   abbrev pub Assigned : ℕ → Type 0
@@ -85,19 +78,6 @@ module _ (n : Net) (p : Program) (own : List Text) (w : Naming) (y : NewNames) (
 
   abbrev pub Tested : Type 0
   Tested = any_tested n us ≡ true
-
-  -- The own variables are declared, each under a name of its own.
-  pub record OwnStand : Type 0 where
-    pub next : (v : ℕ) → Assigned v → IsNew n p own y v
-    pub next_apart : (v u : ℕ) → Assigned v → Assigned u → v ≢ u → same_name (y.next v) (y.next u) ≡ false
-    pub next_own : (v k : ℕ) → Assigned v → low ≤ k → k < count → same_name (y.next v) (w.own k) ≡ false
-    pub mark : Tested → IsTemp n p own y.in_range ty.Bool
-    pub mark_apart : (v : ℕ) → Tested → Assigned v → same_name y.in_range (y.next v) ≡ false
-    pub mark_own : (k : ℕ) → Tested → low ≤ k → k < count → same_name y.in_range (w.own k) ≡ false
-    pub own_type : ℕ → StTy
-    pub own_temp : (k : ℕ) → low ≤ k → k < count → IsTemp n p own (w.own k) (own_type k)
-    pub own_places : (k : ℕ) → low ≤ k → k < count → place_of p.vars (w.own k) ≡ base + k
-    pub own_inside : base + count ≤ length p.vars
 
   -- none of them stands at this place
   pub record IsOther (j : ℕ) : Type 0 where
@@ -110,7 +90,7 @@ module _ (n : Net) (p : Program) (own : List Text) (w : Naming) (y : NewNames) (
     pub typed : Typed p.vars m
     pub others : (j : ℕ) → IsOther j → slice_get m j ≡ slice_get m0 j
 
-  module _ (o : OwnStand) where
+  module _ (o : OwnStand n p own w y base low count us) where
     -- the place of a variable of another name
     pub other-at : (x : Text) (v : StVar) → declared p.vars x ≡ Some v → (Tested → same_name x y.in_range ≡ false) → ((u : ℕ) → Assigned u → same_name x (y.next u) ≡ false)
         → ((k : ℕ) → low ≤ k → k < count → same_name x (w.own k) ≡ false) → IsOther (place_of p.vars x)
@@ -120,7 +100,7 @@ module _ (n : Net) (p : Program) (own : List Text) (w : Naming) (y : NewNames) (
       no_own = λ k from below e. places-differ p.vars x (w.own k) v at (c k from below) (e ∙ sym (o.own_places k from below));
     }
 
-    temp-apart : (l : Letter) → (l ≡ letter.T → ⊥) → (i : ℕ) (path x : Text) (t : StTy) → IsTemp n p own x t → same_name (name_for l i path) x ≡ false
+    temp-apart : (l : Letter) → (l ≡ letter.T → ⊥) → (i : ℕ) (path x : Text) (t : StTy) → IsTemp p own x t → same_name (name_for l i path) x ≡ false
     temp-apart l other i path x t h = subst (λ z. same_name (name_for l i path) z ≡ false) (sym h.name) (letters-differ l letter.T i h.number path h.path other)
 
     -- variables of other letters are others
@@ -132,7 +112,7 @@ module _ (n : Net) (p : Program) (own : List Text) (w : Naming) (y : NewNames) (
         (λ k from below. temp-apart l apart i path (w.own k) (o.own_type k) (o.own_temp k from below))
 
     -- the marks of the generator have other numbers
-    number-apart : (i : ℕ) (path x : Text) (t : StTy) (h : IsTemp n p own x t) → i < 2 ^ 64 → i ≢ h.number → same_name (name_for letter.T i path) x ≡ false
+    number-apart : (i : ℕ) (path x : Text) (t : StTy) (h : IsTemp p own x t) → i < 2 ^ 64 → i ≢ h.number → same_name (name_for letter.T i path) x ≡ false
     number-apart i path x t h small other =
         let less = h.small in
         subst (λ z. same_name (name_for letter.T i path) z ≡ false) (sym h.name) (names-differ letter.T letter.T i h.number path h.path small (omega (arith, less)) (inr other))
@@ -140,10 +120,14 @@ module _ (n : Net) (p : Program) (own : List Text) (w : Naming) (y : NewNames) (
     pub fired-other : IsDeclared p.vars fired ty.Bool → IsOther (place_of p.vars fired)
     fired-other is =
         let d = declared-of p.vars fired ty.Bool is in
-        let apart = λ (x : Text) (t : StTy) (h : IsTemp n p own x t). let high = h.above in
+        let apart = λ (x : Text) (t : StTy) (h : IsTemp p own x t). let high = h.above in
         subst (λ z. same_name z x ≡ false) fired_is (number-apart 0 (codes "fired") x t h (omega arith) (λ e. omega (arith, e, high))) in
         other-at fired d.variable d.at (λ q. apart y.in_range ty.Bool (o.mark q)) (λ u q. apart (y.next u) (new_type (o.next u q).stored.type_of) (o.next u q).temp)
         (λ k from below. apart (w.own k) (o.own_type k) (o.own_temp k from below))
+
+    among-all : (x : Text) (t : StTy) → IsTemp p own x t → Among x (writable (face_of_net n) own)
+    among-all x t h =
+        among-right x (names_of letter.L (places_of (face_of_net n)) ++ names_of letter.V (face_of_net n).variables) (fired ∷ own) (among-rest x fired own (among-own x own h.among))
 
     -- what may be written has been written alone
     pub writes-own : (m0 m : Memory) → IsLater m0 m → WritesOnly (writable (face_of_net n) own) p.vars m0 m
@@ -153,10 +137,10 @@ module _ (n : Net) (p : Program) (own : List Text) (w : Naming) (y : NewNames) (
       no_own = λ i from below e. not-named k v (w.own i) (o.own_type i) (o.own_temp i from below) at free (e ∙ sym (o.own_places i from below));
     }
       where
-        not-named : (k : ℕ) (v : StVar) (x : Text) (t : StTy) → IsTemp n p own x t → slice_get p.vars k ≡ Some v → list_any (same_name v.name) (writable (face_of_net n) own) ≡ false
+        not-named : (k : ℕ) (v : StVar) (x : Text) (t : StTy) → IsTemp p own x t → slice_get p.vars k ≡ Some v → list_any (same_name v.name) (writable (face_of_net n) own) ≡ false
             → k ≢ place_of p.vars x
         not-named k v x t h at free e =
-            false-true (same_name v.name x) (h.among v.name free) (declared-name p.vars x v (ap (slice_get p.vars) (sym e) ∙ at))
+            false-true (same_name v.name x) (among-all x t h v.name free) (declared-name p.vars x v (ap (slice_get p.vars) (sym e) ∙ at))
 
     pub later-kept : (m0 m : Memory) → IsLater m0 m → (l : Letter) → (l ≡ letter.T → ⊥) → Kept p m0 m l
     later-kept m0 m h l apart i path t is = h.others (place_of p.vars (name_for l i path)) (other-letter l apart i path t is)
@@ -166,13 +150,13 @@ module _ (n : Net) (p : Program) (own : List Text) (w : Naming) (y : NewNames) (
     later-state m0 m s h st =
         state-kept (face_of_net n) (system_of_net n) p m0 m s (later-kept m0 m h letter.L (λ e. cc)) (later-kept m0 m h letter.V (λ e. cc)) (later-kept m0 m h letter.H (λ e. cc)) st
 
-    room : (x : Text) (t : StTy) (m : Memory) → IsTemp n p own x t → Typed p.vars m → place_of p.vars x < length m
+    room : (x : Text) (t : StTy) (m : Memory) → IsTemp p own x t → Typed p.vars m → place_of p.vars x < length m
     room x t m h typed =
         let d = declared-of p.vars x t h.is_declared in
         let inside = below p.vars (place_of p.vars x) d.variable d.at in
         let long = pairwise-length (λ (v : StVar) z. IsTrue (in_range (range_of v.ty) z)) p.vars m typed in omega (arith, inside, long)
 
-    apart-places : (x z : Text) (t : StTy) → IsTemp n p own x t → same_name x z ≡ false → place_of p.vars x ≢ place_of p.vars z
+    apart-places : (x z : Text) (t : StTy) → IsTemp p own x t → same_name x z ≡ false → place_of p.vars x ≢ place_of p.vars z
     apart-places x z t h apart = let d = declared-of p.vars x t h.is_declared in places-differ p.vars x z d.variable d.at apart
 
     -- ---- what is promised of expressions

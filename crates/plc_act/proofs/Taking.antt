@@ -37,8 +37,9 @@ use Rattle.plc_expr.specs.Held.{held_at}
 use Rattle.plc_act.specs.Writes.{NewNames, is_tested, any_tested}
 use Rattle.plc_act.specs.Acts.{copy}
 use Rattle.plc_act.specs.Asked.{setting_of, IsFit, CanTake, Promises}
+use Rattle.plc_act.specs.Declared.{OwnStand}
 use Rattle.plc_act.specs.Own.{variable_name}
-use Rattle.plc_act.proofs.Memories.{IsNew, Assigned, Tested, OwnStand, IsLater, later-state, IsReady, grounds}
+use Rattle.plc_act.proofs.Memories.{Assigned, Tested, IsLater, later-state, IsReady, grounds}
 use Rattle.plc_act.proofs.Writing.{Grounds}
 use Rattle.plc_act.proofs.Targets.{or-left, or-right}
 

@@ -2,4 +2,5 @@ pub mod Writes
 pub mod Acts
 pub mod Asked
 pub mod Own
+pub mod Declared
 pub mod Events
