@@ -6,3 +6,4 @@ pub mod Memories
 pub mod Taking
 pub mod Storing
 pub mod Acting
+pub mod Offering

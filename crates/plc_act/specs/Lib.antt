@@ -4,3 +4,4 @@ pub mod Asked
 pub mod Own
 pub mod Declared
 pub mod Events
+pub mod Ready
