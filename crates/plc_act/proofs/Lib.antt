@@ -7,3 +7,4 @@ pub mod Taking
 pub mod Storing
 pub mod Acting
 pub mod Offering
+pub mod Trying

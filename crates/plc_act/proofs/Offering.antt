@@ -5,6 +5,7 @@ use Rattle.std.specs.List.{list_all}
 use Rattle.grammar.specs.Pieces.{Text}
 use Rattle.cif_system.specs.System.{State, in_range}
 use Rattle.cif_system.specs.Step.{after, makes_step}
+use Rattle.cif_system.proofs.Lists.{some-same}
 use Rattle.cif_model.specs.Net.{Net}
 use Rattle.cif_model.specs.Facts.{stored_stands}
 use Rattle.cif_model.specs.Listing.{NetChoice}
@@ -50,6 +51,12 @@ made n c s = if makes_step (system_of_net n) s c.event (choice_in n c) then Some
 after-test : (t : State) (b f mk : Bool) → mk ≡ (b && f) → (if b then (if mk then Some t else None) else None) ≡ (if mk then Some t else None)
 after-test t true f mk e = refl
 after-test t false f mk e = rw e refl
+
+lists-same : (xs ys : Memory) → length xs ≡ length ys → ((j : ℕ) → slice_get xs j ≡ slice_get ys j) → xs ≡ ys
+lists-same [] [] long same = refl
+lists-same [] (z ∷ ys) long same = absurd (omega (arith, long))
+lists-same (x ∷ xs) [] long same = absurd (omega (arith, long))
+lists-same (x ∷ xs) (z ∷ ys) long same = ap (λ r. r ∷ xs) (some-same x z (same 0)) ∙ ap (λ r. z ∷ r) (lists-same xs ys (omega (arith, long)) (λ j. same (suc j)))
 
 module _ (n : Net) (p : Program) (own : List Text) (w : Naming) (y : NewNames) (base low count : ℕ) (named_so : (v : ℕ) → w.variable v ≡ variable_name n v)
     (stored_stand : list_all stored_stands n.vars ≡ true) (few : length n.vars < 2 ^ 32) (ready : Ready n p) (promised : (s : State) → Promises p.vars w (setting_of n s (pos 0)) base low count)
@@ -125,3 +132,10 @@ module _ (n : Net) (p : Program) (own : List Text) (w : Naming) (y : NewNames) (
         (subst (λ d. Chosen n p own done d (exec p.vars (tested (text w k c.test) act_text) turns q.after) turns q.after s)
         (after-test (after (system_of_net n) s (choice_in n c)) (true_in n s c.test) (all_fit n (pairs_of n c s)) (makes_step (system_of_net n) s c.event (choice_in n c)) (makes-is n c s h ready.none))
         (tested_does n p own done (text w k c.test) act_text (true_in n s c.test) (made n c s) turns q.after s (test-told q.after later q.held) stands (λ e. act-chosen turns q.after s stands close e)))
+
+    -- where nothing stands before the test, its text has its value at once
+    pub bare-told : temps c.test ≡ 0 → (turns : ℕ) → value_of p.vars (text w k c.test) m ≡ Ok (of_bool (true_in n s c.test))
+    bare-told none turns =
+        let q = test-prepared turns in
+        let same : q.after ≡ m = lists-same q.after m q.beside.same_length (λ j. q.beside.others j (λ above. omega (arith, none, above))) in
+        test-told m record { typed = st.typed; others = λ j apart. refl } (subst (λ a. Held p.vars w (setting_of n s (pos 0)) a k c.test) same q.held)
