@@ -72,6 +72,19 @@ among-own x [] m = absurd m
 among-own x (z ∷ names) (inl e) = subst (λ q. Among q (z ∷ names)) (sym e) (among-first z names)
 among-own x (z ∷ names) (inr m) = among-rest x z names (among-own x names m)
 
+pub among-temp : (n : Net) (p : Program) (own : List Text) (x : Text) (t : StTy) → IsTemp p own x t → Among x (writable (face_of_net n) own)
+among-temp n p own x t h =
+    among-right x (names_of letter.L (places_of (face_of_net n)) ++ names_of letter.V (face_of_net n).variables) (fired ∷ own) (among-rest x fired own (among-own x own h.among))
+
+-- the marks of the generator have other numbers
+pub number-apart : (p : Program) (own : List Text) (i : ℕ) (path x : Text) (t : StTy) (h : IsTemp p own x t) → i < 2 ^ 64 → i ≢ h.number → same_name (name_for letter.T i path) x ≡ false
+number-apart p own i path x t h small other =
+    let less = h.small in
+    subst (λ z. same_name (name_for letter.T i path) z ≡ false) (sym h.name) (names-differ letter.T letter.T i h.number path h.path small (omega (arith, less)) (inr other))
+
+pub fired-temp : (p : Program) (own : List Text) (x : Text) (t : StTy) → IsTemp p own x t → same_name fired x ≡ false
+fired-temp p own x t h = let high = h.above in subst (λ z. same_name z x ≡ false) fired_is (number-apart p own 0 (codes "fired") x t h (omega arith) (λ e. omega (arith, e, high)))
+
 module _ (n : Net) (p : Program) (own : List Text) (w : Naming) (y : NewNames) (base low count : ℕ) (us : NetUpdates) where
   abbrev pub Assigned : ℕ → Type 0
   Assigned v = has (targets us) v ≡ true
@@ -111,23 +124,11 @@ module _ (n : Net) (p : Program) (own : List Text) (w : Naming) (y : NewNames) (
         (λ u q. temp-apart l apart i path (y.next u) (new_type (o.next u q).stored.type_of) (o.next u q).temp)
         (λ k from below. temp-apart l apart i path (w.own k) (o.own_type k) (o.own_temp k from below))
 
-    -- the marks of the generator have other numbers
-    number-apart : (i : ℕ) (path x : Text) (t : StTy) (h : IsTemp p own x t) → i < 2 ^ 64 → i ≢ h.number → same_name (name_for letter.T i path) x ≡ false
-    number-apart i path x t h small other =
-        let less = h.small in
-        subst (λ z. same_name (name_for letter.T i path) z ≡ false) (sym h.name) (names-differ letter.T letter.T i h.number path h.path small (omega (arith, less)) (inr other))
-
     pub fired-other : IsDeclared p.vars fired ty.Bool → IsOther (place_of p.vars fired)
     fired-other is =
         let d = declared-of p.vars fired ty.Bool is in
-        let apart = λ (x : Text) (t : StTy) (h : IsTemp p own x t). let high = h.above in
-        subst (λ z. same_name z x ≡ false) fired_is (number-apart 0 (codes "fired") x t h (omega arith) (λ e. omega (arith, e, high))) in
-        other-at fired d.variable d.at (λ q. apart y.in_range ty.Bool (o.mark q)) (λ u q. apart (y.next u) (new_type (o.next u q).stored.type_of) (o.next u q).temp)
-        (λ k from below. apart (w.own k) (o.own_type k) (o.own_temp k from below))
-
-    among-all : (x : Text) (t : StTy) → IsTemp p own x t → Among x (writable (face_of_net n) own)
-    among-all x t h =
-        among-right x (names_of letter.L (places_of (face_of_net n)) ++ names_of letter.V (face_of_net n).variables) (fired ∷ own) (among-rest x fired own (among-own x own h.among))
+        other-at fired d.variable d.at (λ q. fired-temp p own y.in_range ty.Bool (o.mark q)) (λ u q. fired-temp p own (y.next u) (new_type (o.next u q).stored.type_of) (o.next u q).temp)
+        (λ k from below. fired-temp p own (w.own k) (o.own_type k) (o.own_temp k from below))
 
     -- what may be written has been written alone
     pub writes-own : (m0 m : Memory) → IsLater m0 m → WritesOnly (writable (face_of_net n) own) p.vars m0 m
@@ -140,7 +141,7 @@ module _ (n : Net) (p : Program) (own : List Text) (w : Naming) (y : NewNames) (
         not-named : (k : ℕ) (v : StVar) (x : Text) (t : StTy) → IsTemp p own x t → slice_get p.vars k ≡ Some v → list_any (same_name v.name) (writable (face_of_net n) own) ≡ false
             → k ≢ place_of p.vars x
         not-named k v x t h at free e =
-            false-true (same_name v.name x) (among-all x t h v.name free) (declared-name p.vars x v (ap (slice_get p.vars) (sym e) ∙ at))
+            false-true (same_name v.name x) (among-temp n p own x t h v.name free) (declared-name p.vars x v (ap (slice_get p.vars) (sym e) ∙ at))
 
     pub later-kept : (m0 m : Memory) → IsLater m0 m → (l : Letter) → (l ≡ letter.T → ⊥) → Kept p m0 m l
     later-kept m0 m h l apart i path t is = h.others (place_of p.vars (name_for l i path)) (other-letter l apart i path t is)
