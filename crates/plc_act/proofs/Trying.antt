@@ -2,6 +2,7 @@
 use Rattle.std.proofs.Common.{◌≡◌, ◌≢◌, ℕ, zero, suc, ◌+◌, ◌^◌, ◌<◌, ◌≤◌, ℤ, pos, Bool, true, false, not, ◌&&◌, List, [], ◌∷◌, map, find, length, Option, Some, None, Ok, get_or, cond, inl, inr, refl, sym, ap, subst, ◌∙◌, arith, eqb-true, if◌then◌else◌}
 use Rattle.std.specs.Prelude.{IsTrue, codes, nat_eq, nat_lt, option_map, slice_get, slice_set, slice_index_or}
 use Rattle.std.specs.List.{AllByRecursion, list_all}
+use Rattle.std.proofs.lemmas.Bool.Decides.{nat_tests}
 use Rattle.std.proofs.lemmas.List.{get_or-set_same, get_or-set_other}
 use Rattle.grammar.specs.Pieces.{Text}
 use Rattle.cif_system.specs.System.{State, IsState, in_range}
@@ -20,14 +21,18 @@ use Rattle.st_ast.specs.declared.tree.StVar.{StVar}
 use Rattle.st_ast.specs.declared.tree.StTy.TheVariants as ty
 use Rattle.st_ast.proofs.Runs.{assign_runs, cons_runs}
 use Rattle.plc_face.specs.Face.{IsDeclared, range_of}
-use Rattle.plc_face.specs.Frame.{Stands, fired, mark_in, writable}
-use Rattle.plc_face.proofs.FaceLaws.{Typed, below, declared-of, declared-type, pairwise-length}
+use Rattle.plc_face.specs.Frame.{Follows, Stands, TriesEvent, fired, mark_in, writable}
+use Rattle.plc_face.proofs.FaceLaws.{Typed, below, declared-of, declared-type, pairwise-length, places-differ, set-keeps, typed-written}
+use Rattle.plc_face.proofs.NameLaws.{letters-differ}
+use Rattle.plc_face.specs.declared.letter.Letter.{Letter}
+use Rattle.plc_face.specs.declared.letter.Letter.TheVariants as letter
+use Rattle.plc_face.specs.Names.{name_for}
 use Rattle.plc_gen.specs.Faces.{face_of_net}
-use Rattle.plc_gen.specs.Events.{Written, all_bare, alone, chain, chain_branches, event_text, marks, marks_with, moves_text, needs_mark, parts_text}
-use Rattle.plc_gen.proofs.Choosing.{choice_in}
-use Rattle.plc_gen.proofs.Making.{Closed, Does, Ready, marks-close}
-use Rattle.plc_gen.proofs.Marked.{Offer, Offers, Chosen, all_parts, done_in, first_of, or_else}
-use Rattle.plc_gen.proofs.Writing.{writes-none}
+use Rattle.plc_gen.specs.Events.{Written, all_bare, alone, chain, chain_branches, choices_of, event_text, marks, marks_with, moves_text, needs_mark, parts_text}
+use Rattle.plc_gen.proofs.Choosing.{choice_in, choices-are}
+use Rattle.plc_gen.proofs.Making.{Closed, Does, Ready, marks-close, marks-last}
+use Rattle.plc_gen.proofs.Marked.{Offer, Offers, Chosen, all_parts, done_in, event_does, first_of, or_else}
+use Rattle.plc_gen.proofs.Writing.{Among, writes-none, writes-one, writes-then}
 use Rattle.plc_expr.specs.Texts.{Naming, temps, text, before}
 use Rattle.plc_act.specs.Writes.{NewNames, any_tested}
 use Rattle.plc_act.specs.Acts.{act}
@@ -36,11 +41,20 @@ use Rattle.plc_act.specs.Own.{variable_name, choice_temps}
 use Rattle.plc_act.specs.Declared.{OwnStand}
 use Rattle.plc_act.specs.Events.{all_written, data_written, is_bare}
 use Rattle.plc_act.specs.Ready.{AllFrom, ChoiceStands, DoneStands, IsReadySet, IsReadyTest}
-use Rattle.plc_act.proofs.Memories.{IsOther, fired-other, other-at}
+use Rattle.plc_act.proofs.Memories.{IsOther, among-temp, fired-other, fired-temp, other-at}
 use Rattle.plc_act.proofs.Pairs.{all_fit}
 use Rattle.plc_act.proofs.Targets.{all-updates, untested-fit}
 use Rattle.plc_act.proofs.Acting.{IsData, makes-is, pairs_of}
 use Rattle.plc_act.proofs.Offering.{act-chosen, bare-told, body-does, made}
+
+-- the choices of an event are of that event
+of-event : (cs : List NetChoice) (e : ℕ) → AllByRecursion (λ (c : NetChoice). c.event ≡ e) (choices_of cs e)
+of-event [] e = tt
+of-event (c ∷ cs) e = go (nat_eq c.event e) refl (of-event cs e)
+  where
+    go : (b : Bool) → nat_eq c.event e ≡ b → AllByRecursion (λ (d : NetChoice). d.event ≡ e) (choices_of cs e) → AllByRecursion (λ (d : NetChoice). d.event ≡ e) (cond b (c ∷ choices_of cs e) (choices_of cs e))
+    go true is rest = (eqb-true c.event e is, rest)
+    go false is rest = rest
 
 module _ (n : Net) (p : Program) (own : List Text) (w : Naming) (y : NewNames) (base low count : ℕ) (named_so : (v : ℕ) → w.variable v ≡ variable_name n v)
     (stored_stand : list_all stored_stands n.vars ≡ true) (few : length n.vars < 2 ^ 32) (ready : Ready n p) (promised : (s : State) → Promises p.vars w (setting_of n s (pos 0)) base low count)
@@ -150,3 +164,98 @@ module _ (n : Net) (p : Program) (own : List Text) (w : Naming) (y : NewNames) (
         typed = d.typed;
         follows = d.follows;
       }
+
+  -- ---- choices with a mark of the event's own
+
+  module _ (done : Text) (d : DoneStands p own w y low count done) where
+    room : (m : Memory) → Typed p.vars m → place_of p.vars done < length m
+    room m typed =
+        let q = declared-of p.vars done ty.Bool d.variable.is_declared in
+        let inside = below p.vars (place_of p.vars done) q.variable q.at in
+        let long = pairwise-length (λ (v : StVar) z. IsTrue (in_range (range_of v.ty) z)) p.vars m typed in omega (arith, inside, long)
+
+    -- it is set with the mark that something fired
+    close-both : (turns : ℕ) (b : Memory) → Typed p.vars b → (z : Closed n p ready own (marks_with done) turns b) × (done_in n p own done z.after ≡ pos 1)
+    close-both turns b typed =
+        let b1 : Memory = slice_set b (place_of p.vars done) (pos 1) in
+        let typed1 = typed-written p.vars b done ty.Bool (pos 1) d.variable.is_declared refl typed in
+        let z = marks-close n p ready own turns b1 typed1 in
+        let q = declared-of p.vars fired ty.Bool ready.mark in (
+          record {
+            after = z.after;
+            ends = cons_runs p.vars (assign done (truth true)) marks turns turns b b1
+                (assign_runs p.vars done (truth true) (place_of p.vars done) (pos 1) turns b refl refl (ap (λ t. is_within t (pos 1)) (declared-type p.vars done ty.Bool d.variable.is_declared)))
+                ∙ z.ends;
+            writes = writes-then (writable (face_of_net n) own) p.vars b b1 z.after
+                (writes-one (writable (face_of_net n) own) p.vars b done (pos 1) (among-temp n p own done ty.Bool d.variable)) z.writes;
+            typed = z.typed;
+            kept = λ l other i way t at. z.kept l other i way t at ∙ set-keeps p b done (pos 1) l (λ j path. done-apart l other j path) i way t at;
+            mark = z.mark;
+          },
+          ap (λ a. get_or a (place_of p.vars done) (pos 0)) (marks-last n p ready own turns b1 typed1)
+              ∙ get_or-set_other b1 (place_of p.vars fired) (place_of p.vars done) (pos 1) (pos 0)
+              (λ h. places-differ p.vars fired done q.variable q.at (fired-temp p own done ty.Bool d.variable) (sym h))
+              ∙ get_or-set_same b (place_of p.vars done) (pos 1) (pos 0) (room b typed),
+        )
+      where
+        done-apart : (l : Letter) → (l ≡ letter.T → ⊥) → (j : ℕ) (path : Text) → same_name (name_for l j path) done ≡ false
+        done-apart l other j path = subst (λ z. same_name (name_for l j path) z ≡ false) (sym d.variable.name) (letters-differ l letter.T j d.variable.number path d.variable.path other)
+
+    done-of : (k : ℕ) (c : NetChoice) → ChoiceStands n p own w y base low count k c → IsOther n p own w y base low count c.writes (place_of p.vars done)
+    done-of k c h =
+        let q = declared-of p.vars done ty.Bool d.variable.is_declared in
+        other-at n p own w y base low count c.writes h.variables done q.variable q.at (λ t. d.no_mark) (λ u i. d.no_next u) d.no_own
+
+    offers-stand : (k : ℕ) (cs : List NetChoice) → AllFrom Fits k cs → AllByRecursion (Offers n p own done) (offers_from k cs)
+    offers-stand k [] all = tt
+    offers-stand k (c ∷ cs) all = (
+      λ turns m s st none. body-does n p own w y base low count named_so stored_stand few ready promised k c all.0.0 all.0.1 done (done-of k c all.0.1) (marks_with done) m s st turns (close-both turns),
+      offers-stand (k + choice_temps c) cs all.1,
+    )
+
+    marked-does : (k : ℕ) (cs : List NetChoice) → AllFrom Fits k cs → (turns : ℕ) (m : Memory) (s : State) → Stands (face_of_net n) (system_of_net n) p m s
+        → Does n p own (first_of (offers_from k cs) s) (exec p.vars (stms (assign done (truth false)) (parts_text done (all_written n w y k cs))) turns m) turns m s
+    marked-does k cs all turns m s st =
+        subst (λ ws. Does n p own (first_of (offers_from k cs) s) (exec p.vars (stms (assign done (truth false)) (parts_text done ws)) turns m) turns m s) (written-is k cs)
+        (by-name done d.variable.name d.variable.is_declared (among-temp n p own done ty.Bool d.variable) (offers-stand k cs all))
+      where
+        by-name : (x : Text) → x ≡ name_for letter.T d.variable.number d.variable.path → IsDeclared p.vars x ty.Bool → Among x (writable (face_of_net n) own) → AllByRecursion (Offers n p own x) (offers_from k cs)
+            → Does n p own (first_of (offers_from k cs) s) (exec p.vars (stms (assign x (truth false)) (all_parts x (offers_from k cs))) turns m) turns m s
+        by-name x e =
+            subst (λ q. IsDeclared p.vars q ty.Bool → Among q (writable (face_of_net n) own) → AllByRecursion (Offers n p own q) (offers_from k cs)
+                → Does n p own (first_of (offers_from k cs) s) (exec p.vars (stms (assign q (truth false)) (all_parts q (offers_from k cs))) turns m) turns m s) (sym e)
+            (λ is among offers. event_does n p own d.variable.number d.variable.path d.variable.above d.variable.small is ready.mark among (offers_from k cs) offers turns m s st)
+
+  -- ---- the event
+
+  or-none : (o : Option State) → or_else o None ≡ o
+  or-none None = refl
+  or-none (Some t) = refl
+
+  many : (x : ℕ) → nat_lt 1 (suc (suc x)) ≡ true
+  many x = grind (arith, nat_tests)
+
+  pub event-does : (done : Text) (k : ℕ) (cs : List NetChoice) → AllFrom Fits k cs → (needs_mark (all_written n w y k cs) ≡ true → DoneStands p own w y low count done)
+      → (turns : ℕ) (m : Memory) (s : State) → Stands (face_of_net n) (system_of_net n) p m s
+      → Does n p own (first_of (offers_from k cs) s) (exec p.vars (event_text done (all_written n w y k cs)) turns m) turns m s
+  event-does done k [] all marked turns m s st = nothing turns m s st
+  event-does done k (c ∷ []) all marked turns m s st =
+      subst (λ d. Does n p own d (exec p.vars (alone (data_written n w y k c)) turns m) turns m s) (sym (or-none (made n c s))) (alone-does k c all.0 turns m s st)
+  event-does done k (c ∷ b ∷ cs) all marked turns m s st = go (all_bare (all_written n w y k (c ∷ b ∷ cs))) refl
+    where
+      go : (t : Bool) → all_bare (all_written n w y k (c ∷ b ∷ cs)) ≡ t
+          → Does n p own (first_of (offers_from k (c ∷ b ∷ cs)) s)
+          (exec p.vars (if t then chain (all_written n w y k (c ∷ b ∷ cs)) else stms (assign done (truth false)) (parts_text done (all_written n w y k (c ∷ b ∷ cs)))) turns m) turns m s
+      go true is = chain-runs k c (b ∷ cs) all is turns m s st
+      go false is =
+          marked-does done (marked (ap (λ q. if q then false else nat_lt 1 (length (all_written n w y k (c ∷ b ∷ cs)))) is ∙ many (length (all_written n w y (k + choice_temps c + choice_temps b) cs)))) k (c ∷ b ∷ cs) all turns m s st
+
+  -- the statements of the event try it
+  pub event-tried : (cs : List NetChoice) (done : Text) (k : ℕ) → full_choices n cs ≡ listed (system_of_net n) → e < length (system_of_net n).events → AllFrom Fits k (choices_of cs e)
+      → (needs_mark (all_written n w y k (choices_of cs e)) ≡ true → DoneStands p own w y low count done)
+      → TriesEvent (face_of_net n) (system_of_net n) p (record { own = own; body = event_text done (all_written n w y k (choices_of cs e)) }) e
+  event-tried cs done k each within all marked turns m s st =
+      let d = event-does done k (choices_of cs e) all marked turns m s st in
+      let first : first_of (offers_from k (choices_of cs e)) s ≡ first_step (system_of_net n) s e =
+      first-is k (choices_of cs e) s (of-event cs e) ∙ ap (λ chs. option_map (after (system_of_net n) s) (find (makes_step (system_of_net n) s e) chs)) (choices-are n cs e each within) in
+      (d.after, d.ends, d.writes, d.typed, subst (λ o. Follows (face_of_net n) (system_of_net n) p m s o d.after) first d.follows)
