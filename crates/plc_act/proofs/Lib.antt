@@ -8,3 +8,4 @@ pub mod Storing
 pub mod Acting
 pub mod Offering
 pub mod Trying
+pub mod Whole

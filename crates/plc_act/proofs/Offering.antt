@@ -1,40 +1,37 @@
 -- What the statements of a choice with data do: those before its test, the test, and what it does where the test holds.
-use Rattle.std.proofs.Common.{◌≡◌, ◌≢◌, ℕ, zero, suc, ◌+◌, ◌^◌, ◌<◌, ◌≤◌, ℤ, pos, Bool, true, false, not, ◌&&◌, List, [], ◌∷◌, map, length, Option, Some, None, Ok, get_or, refl, sym, ap, subst, ◌∙◌, arith, if◌then◌else◌}
-use Rattle.std.specs.Prelude.{IsTrue, slice_get, slice_set, slice_index_or}
+use Rattle.std.proofs.Common.{◌≡◌, ℕ, suc, ◌+◌, ◌^◌, ◌<◌, pos, Bool, true, false, ◌&&◌, List, [], ◌∷◌, length, Option, Some, None, Ok, refl, ap, subst, ◌∙◌, arith, if◌then◌else◌}
+use Rattle.std.specs.Prelude.{slice_get}
 use Rattle.std.specs.List.{list_all}
 use Rattle.grammar.specs.Pieces.{Text}
-use Rattle.cif_system.specs.System.{State, in_range}
+use Rattle.cif_system.specs.System.{State}
 use Rattle.cif_system.specs.Step.{after, makes_step}
 use Rattle.cif_system.proofs.Lists.{some-same}
 use Rattle.cif_model.specs.Net.{Net}
 use Rattle.cif_model.specs.Facts.{stored_stands}
 use Rattle.cif_model.specs.Listing.{NetChoice}
-use Rattle.cif_model.specs.Meaning.{system_of_net, true_in, value_in}
+use Rattle.cif_model.specs.Meaning.{system_of_net, true_in}
 use Rattle.cif_model.specs.Value as v
 use Rattle.st_ast.specs.Tree.{Program, Stms, append}
-use Rattle.st_ast.specs.Names.{same_name, place_of}
+use Rattle.st_ast.specs.Names.{place_of}
 use Rattle.st_ast.specs.Values.{Memory, of_bool, value_of}
-use Rattle.st_ast.specs.Exec.{Outcome, Ended, exec}
-use Rattle.st_ast.specs.declared.tree.StVar.{StVar}
-use Rattle.st_ast.specs.declared.tree.StTy.TheVariants as ty
-use Rattle.plc_face.specs.Frame.{Stands, fired, mark_in, writable}
+use Rattle.st_ast.specs.Exec.{Outcome, exec}
+use Rattle.plc_face.specs.Frame.{Stands, fired}
 use Rattle.plc_face.proofs.FaceLaws.{Typed}
 use Rattle.plc_gen.specs.Faces.{face_of_net}
 use Rattle.plc_gen.specs.Events.{moves_text, tested}
 use Rattle.plc_gen.proofs.Choosing.{choice_in}
-use Rattle.plc_gen.proofs.Making.{Closed, Does, Ready}
-use Rattle.plc_gen.proofs.Marked.{Chosen, Prepared, Ticks, done_in, prepared_does, tested_does}
+use Rattle.plc_gen.proofs.Making.{Closed, Ready}
+use Rattle.plc_gen.proofs.Marked.{Chosen, done_in, prepared_does, tested_does}
 use Rattle.plc_expr.specs.Texts.{Naming, temps, text, before}
-use Rattle.plc_expr.specs.Safe.{IsTruth, value_at}
 use Rattle.plc_expr.specs.Held.{Held, Prepares}
-use Rattle.plc_act.specs.Writes.{NewNames, updates_temps}
+use Rattle.plc_act.specs.Writes.{NewNames}
 use Rattle.plc_act.specs.Acts.{act}
 use Rattle.plc_act.specs.Asked.{setting_of, Promises}
-use Rattle.plc_act.specs.Own.{variable_name, choice_temps}
+use Rattle.plc_act.specs.Own.{variable_name}
 use Rattle.plc_act.specs.Declared.{OwnStand}
-use Rattle.plc_act.specs.Ready.{IsReadyChoice, ChoiceStands}
+use Rattle.plc_act.specs.Ready.{ChoiceStands}
 use Rattle.plc_act.proofs.Pairs.{all_fit}
-use Rattle.plc_act.proofs.Writing.{Grounds, same-at}
+use Rattle.plc_act.proofs.Writing.{same-at}
 use Rattle.plc_act.proofs.Memories.{IsLater, IsOther, grounds, later-state, writes-own, fired-other}
 use Rattle.plc_act.proofs.Acting.{Acts, IsData, act-does, makes-is, pairs_of}
 

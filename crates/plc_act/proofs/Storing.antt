@@ -33,7 +33,6 @@ use Rattle.plc_act.specs.Writes.{NewNames}
 use Rattle.plc_act.specs.Acts.{store}
 use Rattle.plc_act.specs.Declared.{OwnStand}
 use Rattle.plc_act.specs.Own.{variable_name}
-
 use Rattle.plc_act.proofs.Taking.{variable-at, range-is, within-is, has-first, has-rest, self}
 
 all-at : (P : ℕ × VariableFace → Type 0) (i : ℕ) (xs : List VariableFace) (k : ℕ) (x : VariableFace) → AllByRecursion P (enumerate_from i xs) → slice_get xs k ≡ Some x → P (i + k, x)

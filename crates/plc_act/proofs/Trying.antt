@@ -1,6 +1,6 @@
 -- What the statements of an event do whose choices have data: they make the event's first step, if it has one.
-use Rattle.std.proofs.Common.{◌≡◌, ◌≢◌, ℕ, zero, suc, ◌+◌, ◌^◌, ◌<◌, ◌≤◌, ℤ, pos, Bool, true, false, not, ◌&&◌, List, [], ◌∷◌, map, find, length, Option, Some, None, Ok, get_or, cond, inl, inr, refl, sym, ap, subst, ◌∙◌, arith, eqb-true, if◌then◌else◌}
-use Rattle.std.specs.Prelude.{IsTrue, codes, nat_eq, nat_lt, option_map, slice_get, slice_set, slice_index_or}
+use Rattle.std.proofs.Common.{◌≡◌, ℕ, suc, ◌+◌, ◌^◌, ◌<◌, pos, Bool, true, false, not, ◌&&◌, List, [], ◌∷◌, map, find, length, Option, Some, None, get_or, cond, refl, sym, ap, subst, ◌∙◌, arith, eqb-true, if◌then◌else◌}
+use Rattle.std.specs.Prelude.{IsTrue, nat_eq, nat_lt, option_map, slice_set}
 use Rattle.std.specs.List.{AllByRecursion, list_all}
 use Rattle.std.proofs.lemmas.Bool.Decides.{nat_tests}
 use Rattle.std.proofs.lemmas.List.{get_or-set_same, get_or-set_other}
@@ -13,32 +13,31 @@ use Rattle.cif_model.specs.Facts.{stored_stands}
 use Rattle.cif_model.specs.Listing.{NetChoice, full_choices, listed}
 use Rattle.cif_model.specs.Meaning.{system_of_net, true_in}
 use Rattle.cif_model.proofs.Passing.{and-left, and-right}
-use Rattle.st_ast.specs.Tree.{Program, Stms, append, assign, choice, no_other, no_stms, stms, truth}
+use Rattle.st_ast.specs.Tree.{Program, assign, choice, no_other, no_stms, stms, truth}
 use Rattle.st_ast.specs.Names.{same_name, place_of}
-use Rattle.st_ast.specs.Values.{Memory, is_true, of_bool, value_of, with_value}
+use Rattle.st_ast.specs.Values.{Memory, is_true, of_bool, with_value}
 use Rattle.st_ast.specs.Exec.{Act, Outcome, Ended, Faulted, exec, exec_choice, exec_other, is_within}
 use Rattle.st_ast.specs.declared.tree.StVar.{StVar}
 use Rattle.st_ast.specs.declared.tree.StTy.TheVariants as ty
 use Rattle.st_ast.proofs.Runs.{assign_runs, cons_runs}
 use Rattle.plc_face.specs.Face.{IsDeclared, range_of}
-use Rattle.plc_face.specs.Frame.{Follows, Stands, TriesEvent, fired, mark_in, writable}
+use Rattle.plc_face.specs.Frame.{Follows, Stands, TriesEvent, fired, writable}
 use Rattle.plc_face.proofs.FaceLaws.{Typed, below, declared-of, declared-type, pairwise-length, places-differ, set-keeps, typed-written}
 use Rattle.plc_face.proofs.NameLaws.{letters-differ}
 use Rattle.plc_face.specs.declared.letter.Letter.{Letter}
 use Rattle.plc_face.specs.declared.letter.Letter.TheVariants as letter
 use Rattle.plc_face.specs.Names.{name_for}
 use Rattle.plc_gen.specs.Faces.{face_of_net}
-use Rattle.plc_gen.specs.Events.{Written, all_bare, alone, chain, chain_branches, choices_of, event_text, marks, marks_with, moves_text, needs_mark, parts_text}
+use Rattle.plc_gen.specs.Events.{all_bare, alone, chain, chain_branches, choices_of, event_text, marks, marks_with, moves_text, needs_mark, parts_text}
 use Rattle.plc_gen.proofs.Choosing.{choice_in, choices-are}
 use Rattle.plc_gen.proofs.Making.{Closed, Does, Ready, marks-close, marks-last}
-use Rattle.plc_gen.proofs.Marked.{Offer, Offers, Chosen, all_parts, done_in, event_does, first_of, or_else}
+use Rattle.plc_gen.proofs.Marked.{Offer, Offers, all_parts, done_in, event_does, first_of, or_else}
 use Rattle.plc_gen.proofs.Writing.{Among, writes-none, writes-one, writes-then}
-use Rattle.plc_expr.specs.Texts.{Naming, temps, text, before}
+use Rattle.plc_expr.specs.Texts.{Naming, temps}
 use Rattle.plc_act.specs.Writes.{NewNames, any_tested}
 use Rattle.plc_act.specs.Acts.{act}
 use Rattle.plc_act.specs.Asked.{setting_of, IsSafeSet, IsSafeCondition, Promises}
 use Rattle.plc_act.specs.Own.{variable_name, choice_temps}
-use Rattle.plc_act.specs.Declared.{OwnStand}
 use Rattle.plc_act.specs.Events.{all_written, data_written, is_bare}
 use Rattle.plc_act.specs.Ready.{AllFrom, ChoiceStands, DoneStands, IsReadySet, IsReadyTest}
 use Rattle.plc_act.proofs.Memories.{IsOther, among-temp, fired-other, fired-temp, other-at}
@@ -223,7 +222,7 @@ module _ (n : Net) (p : Program) (own : List Text) (w : Naming) (y : NewNames) (
             → Does n p own (first_of (offers_from k cs) s) (exec p.vars (stms (assign x (truth false)) (all_parts x (offers_from k cs))) turns m) turns m s
         by-name x e =
             subst (λ q. IsDeclared p.vars q ty.Bool → Among q (writable (face_of_net n) own) → AllByRecursion (Offers n p own q) (offers_from k cs)
-                → Does n p own (first_of (offers_from k cs) s) (exec p.vars (stms (assign q (truth false)) (all_parts q (offers_from k cs))) turns m) turns m s) (sym e)
+            → Does n p own (first_of (offers_from k cs) s) (exec p.vars (stms (assign q (truth false)) (all_parts q (offers_from k cs))) turns m) turns m s) (sym e)
             (λ is among offers. event_does n p own d.variable.number d.variable.path d.variable.above d.variable.small is ready.mark among (offers_from k cs) offers turns m s st)
 
   -- ---- the event

@@ -1,7 +1,6 @@
 -- What is asked of the choices of an event and of the program round them, so that the statements of the event try it.
-use Rattle.std.specs.Prelude.{◌≡◌, ℕ, ◌+◌, ◌≤◌, ◌<◌, ◌^◌, pos, true, false, List, [], ◌∷◌, length, Some, None, slice_get}
+use Rattle.std.specs.Prelude.{◌≡◌, ℕ, ◌+◌, ◌≤◌, ◌<◌, pos, true, false, List, [], ◌∷◌, slice_get}
 use Rattle.cif_system.specs.System.{State, IsState}
-use Rattle.cif_system.specs.Words.{Member}
 use Rattle.cif_term.specs.Tree.{NetExpr}
 use Rattle.cif_model.specs.Net.{Net}
 use Rattle.cif_model.specs.Meaning.{system_of_net, true_in}
@@ -12,16 +11,14 @@ use Rattle.st_ast.specs.Names.{same_name}
 use Rattle.st_ast.specs.Values.{Memory}
 use Rattle.st_ast.specs.declared.tree.StTy.TheVariants as ty
 use Rattle.plc_face.specs.Face.{StateOf}
-use Rattle.plc_gen.specs.Events.{needs_mark}
 use Rattle.plc_gen.specs.Faces.{face_of_net}
 use Rattle.plc_expr.specs.Texts.{Naming, temps}
 use Rattle.plc_expr.specs.Safe.{IsTruth, IsSafe, value_at}
 use Rattle.plc_expr.specs.Held.{Reads}
-use Rattle.plc_act.specs.Writes.{NewNames, any_tested}
+use Rattle.plc_act.specs.Writes.{NewNames}
 use Rattle.plc_act.specs.Asked.{setting_of, AllUpdates, CanTake, KeepsTypes}
-use Rattle.plc_act.specs.Own.{choice_temps, event_vars}
+use Rattle.plc_act.specs.Own.{choice_temps}
 use Rattle.plc_act.specs.Declared.{IsTemp, OwnStand}
-use Rattle.plc_act.specs.Events.{all_written}
 
 -- ---- expressions
 

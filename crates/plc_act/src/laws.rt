@@ -1,0 +1,38 @@
+//! What is proved of the statements of choices with data, as laws that a proof reads off: each the contract of a function
+//! without a body.
+
+ghost use Rattle.std.specs.Prelude.{◌≡◌, ◌<◌, ℕ, pos, true, List, [], length, None};
+ghost use Rattle.std.specs.List.{AllByRecursion};
+ghost use Rattle.grammar.specs.Pieces.{Text};
+ghost use Rattle.cif_system.specs.System.{State};
+ghost use Rattle.cif_model.specs.Net.{Net};
+ghost use Rattle.cif_model.specs.Facts.{is_net};
+ghost use Rattle.cif_model.specs.Listing.{NetChoice};
+ghost use Rattle.cif_model.specs.Meaning.{system_of_net};
+ghost use Rattle.cif_model.specs.Table.{IsGuarded};
+ghost use Rattle.st_ast.specs.Tree.{Program};
+ghost use Rattle.st_ast.specs.declared.tree.StTy.TheVariants as ty;
+ghost use Rattle.plc_face.specs.Face.{IsDeclared};
+ghost use Rattle.plc_face.specs.Frame.{TriesEvent, fired};
+ghost use Rattle.plc_gen.specs.Faces.{face_of_net};
+ghost use Rattle.plc_gen.specs.Events.{choices_of, event_text, needs_mark};
+ghost use Rattle.plc_expr.specs.Texts.{Naming};
+ghost use Rattle.plc_act.specs.Writes.{NewNames};
+ghost use Rattle.plc_act.specs.Asked.{setting_of, Promises};
+ghost use Rattle.plc_act.specs.Own.{variable_name};
+ghost use Rattle.plc_act.specs.Events.{all_written};
+ghost use Rattle.plc_act.specs.Ready.{AllFrom, ChoiceStands, DoneStands};
+
+/// The statements that are written for an event try it: of its choices, which may assign variables and send nothing, the
+/// first is made that makes a step, with its new values, and where there is none nothing that is seen changes. The net has
+/// no state invariants. What is promised of expressions, and how the own variables stand, are premises.
+pub fn events_with_data_are_tried()
+    ensures { (n : Net) (cs : List NetChoice) (p : Program) (own : List Text) (w : Naming) (y : NewNames) (base low count k e : ℕ) (done : Text) →
+        is_net n ≡ true → IsGuarded n cs → n.invariants ≡ [] → e < length n.events →
+        AllByRecursion (λ (c : NetChoice). c.sent ≡ None) (choices_of cs e) →
+        IsDeclared p.vars fired ty.Bool → ((v : ℕ) → w.variable v ≡ variable_name n v) →
+        ((s : State) → Promises p.vars w (setting_of n s (pos 0)) base low count) →
+        AllFrom (ChoiceStands n p own w y base low count) k (choices_of cs e) →
+        (needs_mark (all_written n w y k (choices_of cs e)) ≡ true → DoneStands p own w y low count done) →
+        TriesEvent (face_of_net n) (system_of_net n) p (record { own = own; body = event_text done (all_written n w y k (choices_of cs e)) }) e }
+{}
