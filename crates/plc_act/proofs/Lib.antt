@@ -9,3 +9,4 @@ pub mod Acting
 pub mod Offering
 pub mod Trying
 pub mod Whole
+pub mod Rows
