@@ -10,3 +10,4 @@ pub mod Offering
 pub mod Trying
 pub mod Whole
 pub mod Rows
+pub mod Laying

@@ -5,3 +5,4 @@ pub mod Own
 pub mod Declared
 pub mod Events
 pub mod Ready
+pub mod Parts

@@ -1,7 +1,7 @@
 -- The own variables of the statements of an event: the mark that its new values are in range, the new value of each variable
 -- that one of its choices assigns, and the values of the `if`s in its expressions. Their names say what they hold.
-use Rattle.std.specs.Prelude.{ℕ, ◌+◌, pos, Bool, List, [], ◌∷◌, ◌++◌, map, flat_map, length, nat_eq, Option, Some, None, slice_get, codes, if◌then◌else◌}
-use Rattle.std.specs.List.{list_any, position_or_len}
+use Rattle.std.specs.Prelude.{ℕ, suc, ◌+◌, pos, Bool, List, [], ◌∷◌, ◌++◌, map, flat_map, length, nat_eq, Option, Some, None, slice_get, codes, if◌then◌else◌}
+use Rattle.std.specs.List.{list_any}
 use Rattle.cif_base.specs.declared.types.Ty.{Ty}
 use Rattle.cif_term.specs.Tree.{NetUpdate, net_set, net_choose, NetUpdates, no_net_updates, net_updates, NetUpdateBranches, no_net_update_branches, net_update_branches}
 use Rattle.cif_model.specs.Net.{NetStored, Net}
@@ -95,22 +95,27 @@ data_faces n r cs = range_faces n cs ++ (map (new_face n) (event_vars cs) ++ map
 
 -- ---- names, where the first of these variables has the number j
 
+-- where a number stands in a list, and the list's length where it does not
+abbrev pub place_in : List ℕ → ℕ → ℕ
+place_in [] v = 0
+place_in (u ∷ vs) v = if nat_eq v u then 0 else suc (place_in vs v)
+
 abbrev pub new_names : Net → List NetChoice → ℕ → NewNames
 new_names n cs j = record {
   in_range = name_for letter.T j range_face.path;
-  next = λ v. name_for letter.T (j + length (range_faces n cs) + position_or_len (nat_eq v) (event_vars cs)) (new_face n v).path;
+  next = λ v. name_for letter.T (j + length (range_faces n cs) + place_in (event_vars cs) v) (new_face n v).path;
 }
 
 -- the number of the first `if`
 abbrev pub first_if : Net → List NetChoice → ℕ → ℕ
 first_if n cs j = j + length (range_faces n cs) + length (event_vars cs)
 
--- names before a step; the received value has a name of its own
-abbrev pub data_naming : Net → Text → (first : ℕ) → Naming
-data_naming n received first = record {
+-- names before a step; the received value has a name of its own, and an own variable of an expression that of its number
+abbrev pub data_naming : Net → Text → Naming
+data_naming n received = record {
   located = (old_naming n).located;
   variable = variable_name n;
   input = input_name n;
   received = received;
-  own = λ k. name_for letter.T (first + k) (codes "if");
+  own = λ k. name_for letter.T k (codes "if");
 }
