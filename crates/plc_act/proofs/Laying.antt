@@ -7,6 +7,7 @@ use Rattle.std.proofs.lemmas.Option.{slice_get-map}
 use Rattle.grammar.specs.Pieces.{Text}
 use Rattle.cif_system.specs.Words.{Member}
 use Rattle.cif_system.proofs.Lists.{map-length, none-some, some-same}
+use Rattle.cif_term.specs.Tree.{NetUpdates}
 use Rattle.cif_model.specs.Net.{NetStored, Net}
 use Rattle.cif_model.specs.Exprs.{targets}
 use Rattle.cif_model.specs.Facts.{has}
@@ -131,3 +132,85 @@ module _ (n : Net) (p : Program) (received : Text) (base j : ℕ) (cs : List Net
       ∙ ap (λ q. slice_get (map (new_face n) (event_vars cs) ++ map if_face (flat_map (choice_types n None) cs)) (q + i)) (sym news-length)
       ∙ get-right (map (new_face n) (event_vars cs)) (map if_face (flat_map (choice_types n None) cs)) i
       ∙ slice_get-map if_face (flat_map (choice_types n None) cs) i ∙ ap (option_map if_face) at
+
+  -- ---- names
+
+  temp-named : (i k : ℕ) (x : VariableFace) → slice_get (event_faces n cs) i ≡ Some x → j + i ≡ k → IsTemp p own (name_for letter.T k x.path) x.ty
+  temp-named i k x at e = subst (λ q. IsTemp p own (name_for letter.T q x.path) x.ty) e (temp-at i x at)
+
+  -- two numbers of own variables make two names
+  apart : (i k : ℕ) (x z : VariableFace) → slice_get (event_faces n cs) i ≡ Some x → slice_get (event_faces n cs) k ≡ Some z → (a b : ℕ) → j + i ≡ a → j + k ≡ b → i ≢ k
+      → same_name (name_for letter.T a x.path) (name_for letter.T b z.path) ≡ false
+  apart i k x z at_i at_k a b e q other =
+      let small = d.small in
+      let in_i = below (event_faces n cs) i x at_i in
+      let in_k = below (event_faces n cs) k z at_k in
+      names-differ letter.T letter.T a b x.path z.path (omega (arith, small, in_i, e)) (omega (arith, small, in_k, q)) (inr (λ h. other (omega (arith, h, e, q))))
+
+  types-below : (k : ℕ) → low ≤ k → k < count → (t : StTy) × (slice_get (flat_map (choice_types n None) cs) (k - low) ≡ Some t)
+  types-below k from below_k = get-below (flat_map (choice_types n None) cs) (k - low) (omega (arith, count_is, from, below_k))
+
+  if-index : ℕ → ℕ
+  if-index k = dones + (ranges + (news + (k - low)))
+
+  faces-length : length (event_faces n cs) ≡ dones + (ranges + (news + all_temps cs))
+  faces-length =
+      length-append (done_faces n cs) (data_faces n None cs)
+      ∙ ap (λ q. dones + q) (length-append (range_faces n cs) (map (new_face n) (event_vars cs) ++ map if_face (flat_map (choice_types n None) cs)))
+      ∙ ap (λ q. dones + (ranges + q)) (length-append (map (new_face n) (event_vars cs)) (map if_face (flat_map (choice_types n None) cs)))
+      ∙ ap (λ q. dones + (ranges + (q + length (map if_face (flat_map (choice_types n None) cs))))) news-length
+      ∙ ap (λ q. dones + (ranges + (news + q))) (map-length if_face (flat_map (choice_types n None) cs) ∙ count_is)
+
+  module _ (us : NetUpdates) (sub : (v : ℕ) → has (targets us) v ≡ true → has (event_vars cs) v ≡ true) (tests : any_tested n us ≡ true → tests_range n cs ≡ true) where
+    is-new : (v : ℕ) → has (targets us) v ≡ true → IsNew n p own y v
+    is-new v h =
+        let q = vars_there v (sub v h) in
+        record {
+          stored = q.0;
+          at = q.1;
+          temp = subst (λ t. IsTemp p own (y.next v) t) (ap (λ o. (new_face_of o).ty) q.1)
+              (temp-named (dones + (ranges + place_in (event_vars cs) v)) (data_first n cs j + ranges + place_in (event_vars cs) v) (new_face n v) (new-at v (sub v h)) (omega arith));
+        }
+
+    one-place : (v u : ℕ) → has (event_vars cs) v ≡ true → has (event_vars cs) u ≡ true → v ≢ u → place_in (event_vars cs) v ≢ place_in (event_vars cs) u
+    one-place v u h g other e = other (some-same v u (sym (position-at (event_vars cs) v h) ∙ ap (slice_get (event_vars cs)) e ∙ position-at (event_vars cs) u g))
+
+    place-below : (v : ℕ) → has (event_vars cs) v ≡ true → place_in (event_vars cs) v < news
+    place-below v h = below (event_vars cs) (place_in (event_vars cs) v) v (position-at (event_vars cs) v h)
+
+    one-range : tests_range n cs ≡ true → ranges ≡ 1
+    one-range t = ap (λ b. length (if b then range_face ∷ [] else [])) t
+
+    stands : OwnStand n p own w y base low count us
+    stands = record {
+      next = is-new;
+      next_apart = λ v u h g other.
+          apart (dones + (ranges + place_in (event_vars cs) v)) (dones + (ranges + place_in (event_vars cs) u)) (new_face n v) (new_face n u) (new-at v (sub v h)) (new-at u (sub u g))
+          (data_first n cs j + ranges + place_in (event_vars cs) v) (data_first n cs j + ranges + place_in (event_vars cs) u) (omega arith) (omega arith)
+          (let o = one-place v u (sub v h) (sub u g) other in λ e. o (omega (arith, e)));
+      next_own = λ v k h from below_k.
+          let t = types-below k from below_k in
+          let in_v = place-below v (sub v h) in
+          apart (dones + (ranges + place_in (event_vars cs) v)) (dones + (ranges + (news + (k - low)))) (new_face n v) (if_face t.0) (new-at v (sub v h)) (if-at (k - low) t.0 t.1)
+          (data_first n cs j + ranges + place_in (event_vars cs) v) k (omega arith) (omega (arith, from)) (λ e. omega (arith, e, in_v));
+      mark = λ t. temp-named (dones + 0) (data_first n cs j) range_face (range-at (tests t)) (omega arith);
+      mark_apart = λ v t h.
+          let one = one-range (tests t) in
+          apart (dones + 0) (dones + (ranges + place_in (event_vars cs) v)) range_face (new_face n v) (range-at (tests t)) (new-at v (sub v h))
+          (data_first n cs j) (data_first n cs j + ranges + place_in (event_vars cs) v) (omega arith) (omega arith) (λ e. omega (arith, e, one));
+      mark_own = λ k t from below_k.
+          let one = one-range (tests t) in
+          let q = types-below k from below_k in
+          apart (dones + 0) (dones + (ranges + (news + (k - low)))) range_face (if_face q.0) (range-at (tests t)) (if-at (k - low) q.0 q.1)
+          (data_first n cs j) k (omega arith) (omega (arith, from)) (λ e. omega (arith, e, one));
+      own_type = λ k. elim (slice_get (flat_map (choice_types n None) cs) (k - low)) [ None ↦ ty.Bool | Some t ↦ t ];
+      own_temp = λ k from below_k.
+          let q = types-below k from below_k in
+          subst (λ t. IsTemp p own (w.own k) t) (ap (λ (o : Option StTy). elim o [ None ↦ ty.Bool | Some t ↦ t ]) (sym q.1))
+          (temp-named (dones + (ranges + (news + (k - low)))) k (if_face q.0) (if-at (k - low) q.0 q.1) (omega (arith, from)));
+      own_places = λ k from below_k.
+          let q = types-below k from below_k in
+          let e : j + (dones + (ranges + (news + (k - low)))) ≡ k = omega (arith, from) in
+          subst (λ i. place_of p.vars (name_for letter.T i (codes "if")) ≡ base + i) e (d.place (dones + (ranges + (news + (k - low)))) (if_face q.0) (if-at (k - low) q.0 q.1));
+      own_inside = let inside = d.inside in omega (arith, inside, faces-length);
+    }
