@@ -1,7 +1,7 @@
 -- The own variables of an event, which stand one after another, are as the statements of its choices ask for them.
-use Rattle.std.proofs.Common.{◌≡◌, ◌≢◌, ℕ, zero, suc, ◌+◌, ◌-◌, ◌^◌, ◌<◌, ◌≤◌, pos, Bool, true, false, not, ◌&&◌, ◌||◌, List, [], ◌∷◌, ◌++◌, map, length, flat_map, Option, Some, None, nat_eq, inl, inr, refl, sym, ap, subst, ◌∙◌, arith, eq-eqb, eqb-true, if◌then◌else◌}
-use Rattle.std.specs.Prelude.{codes, nat_lt, slice_get, option_map}
-use Rattle.std.specs.List.{enumerate_from, list_all, list_any}
+use Rattle.std.proofs.Common.{◌≡◌, ◌≢◌, ℕ, zero, suc, ◌+◌, ◌-◌, ◌<◌, ◌≤◌, Bool, true, false, ◌||◌, List, [], ◌∷◌, ◌++◌, map, length, flat_map, Option, Some, None, nat_eq, inl, inr, refl, sym, ap, subst, ◌∙◌, arith, eqb-true, if◌then◌else◌}
+use Rattle.std.specs.Prelude.{codes, slice_get, option_map}
+use Rattle.std.specs.List.{enumerate_from}
 use Rattle.std.proofs.lemmas.List.{length-append}
 use Rattle.std.proofs.lemmas.Option.{slice_get-map}
 use Rattle.grammar.specs.Pieces.{Text}
@@ -18,16 +18,15 @@ use Rattle.st_ast.specs.declared.tree.StTy.{StTy}
 use Rattle.st_ast.specs.declared.tree.StTy.TheVariants as ty
 use Rattle.plc_face.specs.declared.letter.Letter.TheVariants as letter
 use Rattle.plc_face.specs.Names.{name_for}
-use Rattle.plc_face.specs.Face.{VariableFace, IsDeclared}
+use Rattle.plc_face.specs.Face.{VariableFace}
 use Rattle.plc_face.proofs.NameLaws.{names-differ}
 use Rattle.plc_face.proofs.FaceLaws.{below}
-use Rattle.plc_gen.specs.Events.{done_face, own_name}
+use Rattle.plc_gen.specs.Events.{own_name}
 use Rattle.plc_expr.specs.Texts.{Naming}
 use Rattle.plc_act.specs.Writes.{NewNames, any_tested}
-use Rattle.plc_act.specs.Own.{choice_temps, choice_types, data_faces, data_naming, event_vars, first_if, if_face, new_face, new_face_of, new_names, new_type, place_in, range_face, range_faces, tests_range}
+use Rattle.plc_act.specs.Own.{choice_types, data_faces, data_naming, event_vars, if_face, new_face, new_face_of, new_names, place_in, range_face, range_faces, tests_range}
 use Rattle.plc_act.specs.Declared.{IsTemp, IsNew, OwnStand}
-use Rattle.plc_act.specs.Parts.{AreDeclared, all_temps, data_first, done_faces, event_faces, ifs_from, needs_done}
-use Rattle.plc_act.specs.Ready.{DoneStands}
+use Rattle.plc_act.specs.Parts.{AreDeclared, all_temps, data_first, done_faces, event_faces, ifs_from}
 
 -- ---- lists
 
@@ -68,22 +67,22 @@ member-at j (z ∷ xs) (suc i) x e = inr (subst (λ k. Member (name_for letter.T
 
 module _ (n : Net) (p : Program) (received : Text) (base j : ℕ) (cs : List NetChoice) (d : AreDeclared p base j (event_faces n cs)) (count_is : length (flat_map (choice_types n None) cs) ≡ all_temps cs)
     (vars_there : (v : ℕ) → has (event_vars cs) v ≡ true → (q : NetStored) × (slice_get n.vars v ≡ Some q)) where
-  abbrev own : List Text
-  own = map own_name (enumerate_from j (event_faces n cs))
+  abbrev pub own_names : List Text
+  own_names = map own_name (enumerate_from j (event_faces n cs))
 
-  abbrev w : Naming
-  w = data_naming n received
+  abbrev pub naming : Naming
+  naming = data_naming n received
 
-  abbrev y : NewNames
-  y = new_names n cs (data_first n cs j)
+  abbrev pub new : NewNames
+  new = new_names n cs (data_first n cs j)
 
-  abbrev low : ℕ
-  low = ifs_from n cs j
+  abbrev pub first_own : ℕ
+  first_own = ifs_from n cs j
 
-  abbrev count : ℕ
-  count = low + all_temps cs
+  abbrev pub end_own : ℕ
+  end_own = first_own + all_temps cs
 
-  temp-at : (i : ℕ) (x : VariableFace) → slice_get (event_faces n cs) i ≡ Some x → IsTemp p own (name_for letter.T (j + i) x.path) x.ty
+  temp-at : (i : ℕ) (x : VariableFace) → slice_get (event_faces n cs) i ≡ Some x → IsTemp p own_names (name_for letter.T (j + i) x.path) x.ty
   temp-at i x at =
       let above = d.above in
       let small = d.small in
@@ -135,8 +134,8 @@ module _ (n : Net) (p : Program) (received : Text) (base j : ℕ) (cs : List Net
 
   -- ---- names
 
-  temp-named : (i k : ℕ) (x : VariableFace) → slice_get (event_faces n cs) i ≡ Some x → j + i ≡ k → IsTemp p own (name_for letter.T k x.path) x.ty
-  temp-named i k x at e = subst (λ q. IsTemp p own (name_for letter.T q x.path) x.ty) e (temp-at i x at)
+  pub temp-named : (i k : ℕ) (x : VariableFace) → slice_get (event_faces n cs) i ≡ Some x → j + i ≡ k → IsTemp p own_names (name_for letter.T k x.path) x.ty
+  temp-named i k x at e = subst (λ q. IsTemp p own_names (name_for letter.T q x.path) x.ty) e (temp-at i x at)
 
   -- two numbers of own variables make two names
   apart : (i k : ℕ) (x z : VariableFace) → slice_get (event_faces n cs) i ≡ Some x → slice_get (event_faces n cs) k ≡ Some z → (a b : ℕ) → j + i ≡ a → j + k ≡ b → i ≢ k
@@ -147,13 +146,13 @@ module _ (n : Net) (p : Program) (received : Text) (base j : ℕ) (cs : List Net
       let in_k = below (event_faces n cs) k z at_k in
       names-differ letter.T letter.T a b x.path z.path (omega (arith, small, in_i, e)) (omega (arith, small, in_k, q)) (inr (λ h. other (omega (arith, h, e, q))))
 
-  types-below : (k : ℕ) → low ≤ k → k < count → (t : StTy) × (slice_get (flat_map (choice_types n None) cs) (k - low) ≡ Some t)
-  types-below k from below_k = get-below (flat_map (choice_types n None) cs) (k - low) (omega (arith, count_is, from, below_k))
+  types-below : (k : ℕ) → first_own ≤ k → k < end_own → (t : StTy) × (slice_get (flat_map (choice_types n None) cs) (k - first_own) ≡ Some t)
+  types-below k from below_k = get-below (flat_map (choice_types n None) cs) (k - first_own) (omega (arith, count_is, from, below_k))
 
   if-index : ℕ → ℕ
-  if-index k = dones + (ranges + (news + (k - low)))
+  if-index k = dones + (ranges + (news + (k - first_own)))
 
-  faces-length : length (event_faces n cs) ≡ dones + (ranges + (news + all_temps cs))
+  pub faces-length : length (event_faces n cs) ≡ dones + (ranges + (news + all_temps cs))
   faces-length =
       length-append (done_faces n cs) (data_faces n None cs)
       ∙ ap (λ q. dones + q) (length-append (range_faces n cs) (map (new_face n) (event_vars cs) ++ map if_face (flat_map (choice_types n None) cs)))
@@ -162,13 +161,13 @@ module _ (n : Net) (p : Program) (received : Text) (base j : ℕ) (cs : List Net
       ∙ ap (λ q. dones + (ranges + (news + q))) (map-length if_face (flat_map (choice_types n None) cs) ∙ count_is)
 
   module _ (us : NetUpdates) (sub : (v : ℕ) → has (targets us) v ≡ true → has (event_vars cs) v ≡ true) (tests : any_tested n us ≡ true → tests_range n cs ≡ true) where
-    is-new : (v : ℕ) → has (targets us) v ≡ true → IsNew n p own y v
+    is-new : (v : ℕ) → has (targets us) v ≡ true → IsNew n p own_names new v
     is-new v h =
         let q = vars_there v (sub v h) in
         record {
           stored = q.0;
           at = q.1;
-          temp = subst (λ t. IsTemp p own (y.next v) t) (ap (λ o. (new_face_of o).ty) q.1)
+          temp = subst (λ t. IsTemp p own_names (new.next v) t) (ap (λ o. (new_face_of o).ty) q.1)
               (temp-named (dones + (ranges + place_in (event_vars cs) v)) (data_first n cs j + ranges + place_in (event_vars cs) v) (new_face n v) (new-at v (sub v h)) (omega arith));
         }
 
@@ -181,7 +180,7 @@ module _ (n : Net) (p : Program) (received : Text) (base j : ℕ) (cs : List Net
     one-range : tests_range n cs ≡ true → ranges ≡ 1
     one-range t = ap (λ b. length (if b then range_face ∷ [] else [])) t
 
-    stands : OwnStand n p own w y base low count us
+    pub stands : OwnStand n p own_names naming new base first_own end_own us
     stands = record {
       next = is-new;
       next_apart = λ v u h g other.
@@ -191,7 +190,7 @@ module _ (n : Net) (p : Program) (received : Text) (base j : ℕ) (cs : List Net
       next_own = λ v k h from below_k.
           let t = types-below k from below_k in
           let in_v = place-below v (sub v h) in
-          apart (dones + (ranges + place_in (event_vars cs) v)) (dones + (ranges + (news + (k - low)))) (new_face n v) (if_face t.0) (new-at v (sub v h)) (if-at (k - low) t.0 t.1)
+          apart (dones + (ranges + place_in (event_vars cs) v)) (dones + (ranges + (news + (k - first_own)))) (new_face n v) (if_face t.0) (new-at v (sub v h)) (if-at (k - first_own) t.0 t.1)
           (data_first n cs j + ranges + place_in (event_vars cs) v) k (omega arith) (omega (arith, from)) (λ e. omega (arith, e, in_v));
       mark = λ t. temp-named (dones + 0) (data_first n cs j) range_face (range-at (tests t)) (omega arith);
       mark_apart = λ v t h.
@@ -201,16 +200,16 @@ module _ (n : Net) (p : Program) (received : Text) (base j : ℕ) (cs : List Net
       mark_own = λ k t from below_k.
           let one = one-range (tests t) in
           let q = types-below k from below_k in
-          apart (dones + 0) (dones + (ranges + (news + (k - low)))) range_face (if_face q.0) (range-at (tests t)) (if-at (k - low) q.0 q.1)
+          apart (dones + 0) (dones + (ranges + (news + (k - first_own)))) range_face (if_face q.0) (range-at (tests t)) (if-at (k - first_own) q.0 q.1)
           (data_first n cs j) k (omega arith) (omega (arith, from)) (λ e. omega (arith, e, one));
-      own_type = λ k. elim (slice_get (flat_map (choice_types n None) cs) (k - low)) [ None ↦ ty.Bool | Some t ↦ t ];
+      own_type = λ k. elim (slice_get (flat_map (choice_types n None) cs) (k - first_own)) [ None ↦ ty.Bool | Some t ↦ t ];
       own_temp = λ k from below_k.
           let q = types-below k from below_k in
-          subst (λ t. IsTemp p own (w.own k) t) (ap (λ (o : Option StTy). elim o [ None ↦ ty.Bool | Some t ↦ t ]) (sym q.1))
-          (temp-named (dones + (ranges + (news + (k - low)))) k (if_face q.0) (if-at (k - low) q.0 q.1) (omega (arith, from)));
+          subst (λ t. IsTemp p own_names (naming.own k) t) (ap (λ (o : Option StTy). elim o [ None ↦ ty.Bool | Some t ↦ t ]) (sym q.1))
+          (temp-named (dones + (ranges + (news + (k - first_own)))) k (if_face q.0) (if-at (k - first_own) q.0 q.1) (omega (arith, from)));
       own_places = λ k from below_k.
           let q = types-below k from below_k in
-          let e : j + (dones + (ranges + (news + (k - low)))) ≡ k = omega (arith, from) in
-          subst (λ i. place_of p.vars (name_for letter.T i (codes "if")) ≡ base + i) e (d.place (dones + (ranges + (news + (k - low)))) (if_face q.0) (if-at (k - low) q.0 q.1));
+          let e : j + (dones + (ranges + (news + (k - first_own)))) ≡ k = omega (arith, from) in
+          subst (λ i. place_of p.vars (name_for letter.T i (codes "if")) ≡ base + i) e (d.place (dones + (ranges + (news + (k - first_own)))) (if_face q.0) (if-at (k - first_own) q.0 q.1));
       own_inside = let inside = d.inside in omega (arith, inside, faces-length);
     }

@@ -11,3 +11,4 @@ pub mod Trying
 pub mod Whole
 pub mod Rows
 pub mod Laying
+pub mod Parts

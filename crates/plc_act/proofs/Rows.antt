@@ -1,6 +1,6 @@
 -- What is written for choices with data: an example computed.
-use Rattle.std.proofs.Common.{◌≡◌, ℕ, pos, true, false, List, [], ◌∷◌, None, Some, refl}
-use Rattle.std.specs.Prelude.{codes, decimal, map}
+use Rattle.std.proofs.Common.{◌≡◌, pos, true, false, [], ◌∷◌, refl}
+use Rattle.std.specs.Prelude.{codes, decimal}
 use Rattle.std.specs.Fmt.{digits}
 use Rattle.cif_base.specs.declared.types.Ty.TheVariants as cif_ty
 use Rattle.cif_term.specs.Tree.{lt, NetExpr, net_expr, n_number, n_var, n_not, n_sum, n_compare, no_net_terms, net_terms, NetUpdates, net_set, net_choose, no_net_updates, net_updates, no_net_update_branches, net_update_branches}

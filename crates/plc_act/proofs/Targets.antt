@@ -10,7 +10,9 @@ use Rattle.cif_model.specs.Value.{is_true}
 use Rattle.cif_model.specs.Net.{NetStored, Net}
 use Rattle.cif_model.specs.Meaning.{type_range, value_in, net_assigned_all, net_assigned_by, net_assigned_in}
 use Rattle.cif_model.specs.Exprs.{Written, writes_all, writes_by, writes_in, targets}
-use Rattle.cif_model.specs.Facts.{has}
+use Rattle.cif_model.specs.Facts.{assigns_kind, branches_stand, has, update_stands, updates_stand, var_kind}
+use Rattle.cif_model.proofs.Passing.{and-left, and-right}
+use Rattle.cif_base.specs.declared.types.Ty.{Ty}
 use Rattle.plc_act.specs.Writes.{tests_stored, tests, any_tested, update_tested, branches_tested, conditions_temps, updates_temps, bodies_temps}
 use Rattle.plc_expr.specs.Texts.{temps}
 use Rattle.plc_act.specs.Acts.{once, assigned_vars, surely_set}
@@ -108,6 +110,9 @@ once-has seen (x ∷ xs) v = go (has seen x) refl (once-has seen xs v) (once-has
     go true is old new = old ∙ kept-once (nat_eq v x) (has seen v) (has xs v) (λ e. ap (has seen) (eqb-true v x e) ∙ is)
     go false is old new =
         ap (λ r. nat_eq v x || r) new ∙ fresh-once (nat_eq v x) (has seen v) (has xs v) (λ e. ap (has seen) (eqb-true v x e) ∙ is)
+
+pub once-all : (xs : List ℕ) (v : ℕ) → has (once [] xs) v ≡ has xs v
+once-all xs v = once-has [] xs v
 
 pub assigned-has : (us : NetUpdates) (v : ℕ) → has (assigned_vars us) v ≡ has (targets us) v
 assigned-has us v = once-has [] (targets us) v
@@ -271,3 +276,41 @@ module _ (n : Net) (v : ℕ) (is : tests n v ≡ true) where
 
   pub tested-any : (us : NetUpdates) → has (targets us) v ≡ true → any_tested n us ≡ true
   tested-any us h = tested-all us (subst (λ vs. has vs v ≡ true) (targets-are us) h)
+
+-- ---- variables that are there
+
+module _ (n : Net) (r : Option Ty) (v : ℕ) where
+  abbrev IsThere : Type 0
+  IsThere = (q : NetStored) × (slice_get n.vars v ≡ Some q)
+
+  either-there : (xs ys : List ℕ) → (has xs v ≡ true → IsThere) → (has ys v ≡ true → IsThere) → has (xs ++ ys) v ≡ true → IsThere
+  either-there xs ys f g h = go (has xs v) refl
+    where
+      go : (c : Bool) → has xs v ≡ c → IsThere
+      go true e = f e
+      go false e = g (or-rest (has xs v) (has ys v) e (sym (has-append xs ys v) ∙ h))
+
+  mutual
+    there-all : (us : NetUpdates) → updates_stand n r us ≡ true → has (all_vars us) v ≡ true → IsThere
+    there-all no_net_updates s h = absurd cc
+    there-all (net_updates u us) s h = either-there (by_vars u) (all_vars us) (there-by u (and-left _ _ (and-left _ _ s))) (there-all us (and-right _ _ s)) h
+
+    there-by : (u : NetUpdate) → update_stands n r u ≡ true → has (by_vars u) v ≡ true → IsThere
+    there-by (net_set k e) s h = go (slice_get n.vars k) refl s
+      where
+        only : (b : Bool) → (b || false) ≡ true → b ≡ true
+        only true h = refl
+        only false h = h
+
+        go : (o : Option NetStored) → slice_get n.vars k ≡ o → assigns_kind n r (var_kind o) e ≡ true → IsThere
+        go None at t = absurd cc
+        go (Some q) at t = (q, ap (slice_get n.vars) (eqb-true v k (only (nat_eq v k) h)) ∙ at)
+    there-by (net_choose bs us) s h = either-there (in_vars bs) (all_vars us) (there-in bs (and-left _ _ s)) (there-all us (and-right _ _ s)) h
+
+    there-in : (bs : NetUpdateBranches) → branches_stand n r bs ≡ true → has (in_vars bs) v ≡ true → IsThere
+    there-in no_net_update_branches s h = absurd cc
+    there-in (net_update_branches c us bs) s h = either-there (all_vars us) (in_vars bs) (there-all us (and-right _ _ (and-left _ _ s))) (there-in bs (and-right _ _ s)) h
+
+  -- an assigned variable is one of the net's
+  pub target-there : (us : NetUpdates) → updates_stand n r us ≡ true → has (targets us) v ≡ true → IsThere
+  target-there us s h = there-all us s (subst (λ vs. has vs v ≡ true) (targets-are us) h)

@@ -1,10 +1,11 @@
 //! What is proved of the statements of choices with data, as laws that a proof reads off: each the contract of a function
 //! without a body.
 
-ghost use Rattle.std.specs.Prelude.{◌≡◌, ◌<◌, ℕ, pos, true, List, [], length, None};
+ghost use Rattle.std.specs.Prelude.{◌≡◌, ◌+◌, ◌<◌, ℕ, pos, true, List, [], length, None};
 ghost use Rattle.std.specs.List.{AllByRecursion};
 ghost use Rattle.grammar.specs.Pieces.{Text};
 ghost use Rattle.cif_system.specs.System.{State};
+ghost use Rattle.cif_term.specs.Tree.{NetExpr};
 ghost use Rattle.cif_model.specs.Net.{Net};
 ghost use Rattle.cif_model.specs.Facts.{is_net};
 ghost use Rattle.cif_model.specs.Listing.{NetChoice};
@@ -16,12 +17,14 @@ ghost use Rattle.plc_face.specs.Face.{IsDeclared};
 ghost use Rattle.plc_face.specs.Frame.{TriesEvent, fired};
 ghost use Rattle.plc_gen.specs.Faces.{face_of_net};
 ghost use Rattle.plc_gen.specs.Events.{choices_of, event_text, needs_mark};
-ghost use Rattle.plc_expr.specs.Texts.{Naming};
+ghost use Rattle.plc_expr.specs.Sorts.{own_types};
+ghost use Rattle.plc_expr.specs.Texts.{Naming, temps};
 ghost use Rattle.plc_act.specs.Writes.{NewNames};
 ghost use Rattle.plc_act.specs.Asked.{setting_of, Promises};
-ghost use Rattle.plc_act.specs.Own.{variable_name};
+ghost use Rattle.plc_act.specs.Own.{data_naming, variable_name};
 ghost use Rattle.plc_act.specs.Events.{all_written};
-ghost use Rattle.plc_act.specs.Ready.{AllFrom, ChoiceStands, DoneStands};
+ghost use Rattle.plc_act.specs.Parts.{AreDeclared, all_temps, data_part, event_faces, ifs_from};
+ghost use Rattle.plc_act.specs.Ready.{AllFrom, ChoiceStands, DoneStands, IsReadyChoice};
 
 /// The statements that are written for an event try it: of its choices, which may assign variables and send nothing, the
 /// first is made that makes a step, with its new values, and where there is none nothing that is seen changes. The net has
@@ -35,4 +38,18 @@ pub fn events_with_data_are_tried()
         AllFrom (ChoiceStands n p own w y base low count) k (choices_of cs e) →
         (needs_mark (all_written n w y k (choices_of cs e)) ≡ true → DoneStands p own w y low count done) →
         TriesEvent (face_of_net n) (system_of_net n) p (record { own = own; body = event_text done (all_written n w y k (choices_of cs e)) }) e }
+{}
+
+/// The part of an event whose choices assign variables and send nothing tries the event, where its own variables are declared
+/// one after another. The net has no state invariants. What is promised of expressions, and that those of the choices are
+/// ready for it, are premises.
+pub fn parts_with_data_are_tried()
+    ensures { (n : Net) (cs : List NetChoice) (p : Program) (received : Text) (base j e : ℕ) →
+        is_net n ≡ true → IsGuarded n cs → n.invariants ≡ [] → e < length n.events →
+        AllByRecursion (λ (c : NetChoice). c.sent ≡ None) (choices_of cs e) →
+        IsDeclared p.vars fired ty.Bool → AreDeclared p base j (event_faces n (choices_of cs e)) →
+        ((x : NetExpr) → length (own_types n None x) ≡ temps x) →
+        ((s : State) → Promises p.vars (data_naming n received) (setting_of n s (pos 0)) base (ifs_from n (choices_of cs e) j) (ifs_from n (choices_of cs e) j + all_temps (choices_of cs e))) →
+        AllFrom (IsReadyChoice n p (data_naming n received) base) (ifs_from n (choices_of cs e) j) (choices_of cs e) →
+        TriesEvent (face_of_net n) (system_of_net n) p (data_part n received j (choices_of cs e)) e }
 {}

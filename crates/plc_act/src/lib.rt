@@ -4,4 +4,4 @@
 
 mod laws;
 
-pub use laws::events_with_data_are_tried;
+pub use laws::{events_with_data_are_tried, parts_with_data_are_tried};
