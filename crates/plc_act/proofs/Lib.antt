@@ -12,3 +12,4 @@ pub mod Whole
 pub mod Rows
 pub mod Laying
 pub mod Parts
+pub mod Reading

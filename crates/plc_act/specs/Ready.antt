@@ -1,9 +1,10 @@
 -- What is asked of the choices of an event and of the program round them, so that the statements of the event try it.
-use Rattle.std.specs.Prelude.{◌≡◌, ℕ, ◌+◌, ◌≤◌, ◌<◌, pos, true, false, List, [], ◌∷◌, slice_get}
+use Rattle.std.specs.Prelude.{◌≡◌, ℕ, ◌+◌, ◌≤◌, ◌<◌, pos, true, false, List, [], ◌∷◌, slice_get, length}
 use Rattle.cif_system.specs.System.{State, IsState}
 use Rattle.cif_term.specs.Tree.{NetExpr}
 use Rattle.cif_model.specs.Net.{Net}
 use Rattle.cif_model.specs.Meaning.{system_of_net, true_in}
+use Rattle.cif_model.specs.Reads.{Read, a_var, an_input, an_alg, a_place, the_received}
 use Rattle.cif_model.specs.Listing.{NetChoice}
 use Rattle.grammar.specs.Pieces.{Text}
 use Rattle.st_ast.specs.Tree.{Program}
@@ -35,6 +36,14 @@ IsReadyTest n p w base s k e = IsReady n p w base s k e × IsTruth (value_at (se
 
 abbrev pub IsReadySet : Net → Program → Naming → (base : ℕ) → State → ℕ → ℕ → NetExpr → Type 0
 IsReadySet n p w base s k v e = IsReady n p w base s k e × CanTake (slice_get n.vars v) (value_at (setting_of n s (pos 0)) e)
+
+-- what is named is one of the net's, and nothing is received
+abbrev pub IsNamed : Net → Read → Type 0
+IsNamed n (a_var k) = k < length n.vars
+IsNamed n (an_input k) = k < length n.inputs
+IsNamed n (an_alg k) = ⊥
+IsNamed n (a_place k) = k < length n.autos
+IsNamed n the_received = ⊥
 
 -- ---- choices
 

@@ -1,0 +1,78 @@
+-- What expressions name is read from each memory that stands for a state, as it is in the state.
+use Rattle.std.proofs.Common.{◌≡◌, ℕ, zero, suc, ◌+◌, ◌<◌, ℤ, pos, Bool, true, false, List, [], ◌∷◌, map, length, Option, Some, None, Ok, Err, get_or, nat_eq, refl, sym, ap, subst, ◌∙◌, arith}
+use Rattle.std.specs.Prelude.{slice_get, slice_index_or, option_map}
+use Rattle.std.specs.List.{AllByRecursion}
+use Rattle.std.proofs.lemmas.Option.{slice_get-map}
+use Rattle.grammar.specs.Pieces.{Text}
+use Rattle.cif_system.specs.System.{State}
+use Rattle.cif_term.specs.Tree.{NetExpr}
+use Rattle.cif_model.specs.Net.{NetAuto, NetStored, Net}
+use Rattle.cif_model.specs.Meaning.{system_of_net}
+use Rattle.cif_model.specs.Reads.{Read, a_var, an_input, an_alg, a_place, the_received, names_in}
+use Rattle.st_ast.specs.Tree.{Program, equal, named, number}
+use Rattle.st_ast.specs.Names.{place_of}
+use Rattle.st_ast.specs.Values.{Memory, of_bool, same_number, value_of}
+use Rattle.plc_face.specs.declared.letter.Letter.TheVariants as letter
+use Rattle.plc_face.specs.Names.{name_for}
+use Rattle.plc_face.specs.Face.{StateOf, place_face}
+use Rattle.plc_face.proofs.FaceLaws.{get_or-of}
+use Rattle.plc_gen.specs.Faces.{auto_face, face_of_net, stored_face}
+use Rattle.plc_gen.specs.Tests.{path_in, place_name}
+use Rattle.plc_gen.proofs.Making.{face-at}
+use Rattle.plc_gen.proofs.Moving.{faces}
+use Rattle.plc_gen.proofs.Writing.{hold-at}
+use Rattle.plc_expr.specs.Held.{held_at, IsRead, Reads}
+use Rattle.plc_act.specs.Asked.{setting_of}
+use Rattle.plc_act.specs.Own.{data_naming, input_name, path_of, variable_name}
+use Rattle.plc_act.specs.Ready.{IsNamed}
+use Rattle.plc_act.proofs.Taking.{variable-at}
+
+get-some : {A : Type 0} (xs : List A) (k : ℕ) → k < length xs → (a : A) × (slice_get xs k ≡ Some a)
+get-some [] k h = absurd (omega (arith, h))
+get-some (a ∷ xs) zero h = (a, refl)
+get-some (a ∷ xs) (suc k) h = get-some xs k (omega (arith, h))
+
+number-at : (ls : List ℕ) (k : ℕ) → get_or (map pos ls) k (pos 0) ≡ pos (slice_index_or ls k 0)
+number-at [] k = refl
+number-at (l ∷ ls) zero = refl
+number-at (l ∷ ls) (suc k) = number-at ls k
+
+module _ (n : Net) (p : Program) (received : Text) (s : State) (r : ℤ) (m : Memory) (st : StateOf (face_of_net n) (system_of_net n) p m s) where
+  reads-place : (k : ℕ) → k < length n.autos → held_at p.vars m (place_name n k) ≡ pos (slice_index_or s.locs k 0)
+  reads-place k h =
+      let a = get-some n.autos k h in
+      let zero-plus : 0 + k ≡ k = omega arith in
+      let held = hold-at p letter.L m 0 (faces n.autos) (map pos s.locs) k (place_face (auto_face a.0)) st.places (face-at n.autos k a.0 a.1) in
+      let name : place_name n k ≡ name_for letter.L (0 + k) a.0.path =
+      ap (λ (o : Option NetAuto). name_for letter.L k (elim o [ None ↦ [] | Some b ↦ b.path ])) a.1 ∙ ap (λ j. name_for letter.L j a.0.path) (sym zero-plus) in
+      ap (λ x. held_at p.vars m x) name
+      ∙ get_or-of m (place_of p.vars (name_for letter.L (0 + k) a.0.path)) (get_or (map pos s.locs) k (pos 0)) (pos 0) held.holds
+      ∙ number-at s.locs k
+
+  reads-input : (k : ℕ) → k < length n.inputs → held_at p.vars m (input_name n k) ≡ slice_index_or s.ins k (pos 0)
+  reads-input k h =
+      let a = get-some n.inputs k h in
+      let zero-plus : 0 + k ≡ k = omega arith in
+      let held = hold-at p letter.H m 0 (face_of_net n).inputs s.ins k (stored_face a.0) st.inputs (slice_get-map stored_face n.inputs k ∙ ap (option_map stored_face) a.1) in
+      let name : input_name n k ≡ name_for letter.H (0 + k) a.0.path =
+      ap (λ (o : Option NetStored). name_for letter.H k (elim o [ None ↦ [] | Some b ↦ b.path ])) a.1 ∙ ap (λ j. name_for letter.H j a.0.path) (sym zero-plus) in
+      ap (λ x. held_at p.vars m x) name
+      ∙ get_or-of m (place_of p.vars (name_for letter.H (0 + k) a.0.path)) (slice_index_or s.ins k (pos 0)) (pos 0) held.holds
+
+  reads-variable : (k : ℕ) → k < length n.vars → held_at p.vars m (variable_name n k) ≡ slice_index_or s.vals k (pos 0)
+  reads-variable k h = let a = get-some n.vars k h in get_or-of m (place_of p.vars (variable_name n k)) (slice_index_or s.vals k (pos 0)) (pos 0) (variable-at n p s m k a.0 a.1 st).holds
+
+  reads-one : (x : Read) → IsNamed n x → IsRead p.vars (data_naming n received) (setting_of n s r) m x
+  reads-one (a_var k) h = reads-variable k h
+  reads-one (an_input k) h = reads-input k h
+  reads-one (an_alg k) h = absurd h
+  reads-one (a_place k) h = λ q. ap (λ z. Ok (of_bool (same_number z (pos q)))) (reads-place k h)
+  reads-one the_received h = absurd h
+
+  reads-all : (xs : List Read) → AllByRecursion (IsNamed n) xs → AllByRecursion (IsRead p.vars (data_naming n received) (setting_of n s r) m) xs
+  reads-all [] all = tt
+  reads-all (x ∷ xs) all = (reads-one x all.0, reads-all xs all.1)
+
+  -- the names of an expression
+  pub reads-named : (e : NetExpr) → AllByRecursion (IsNamed n) (names_in e) → Reads p.vars (data_naming n received) (setting_of n s r) m e
+  reads-named e all = reads-all (names_in e) all
