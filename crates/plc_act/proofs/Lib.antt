@@ -13,3 +13,4 @@ pub mod Rows
 pub mod Laying
 pub mod Parts
 pub mod Reading
+pub mod Keeping
