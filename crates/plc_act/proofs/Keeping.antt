@@ -1,5 +1,5 @@
 -- The own variables of an expression keep their types: a boolean `if` is 0 or 1, and another one has 64 bits.
-use Rattle.std.proofs.Common.{◌≡◌, ℕ, zero, suc, ◌+◌, ◌<◌, ◌≤◌, ℤ, pos, neg_ℤ, nat_abs, Bool, true, false, not, ◌&&◌, List, [], ◌∷◌, ◌++◌, map, length, Option, Some, None, refl, sym, ap, subst, ◌∙◌, arith, if◌then◌else◌}
+use Rattle.std.proofs.Common.{◌≡◌, ℕ, zero, suc, ◌+◌, ◌<◌, ◌≤◌, ℤ, pos, neg_ℤ, nat_abs, Bool, true, false, not, ◌&&◌, ◌||◌, List, [], ◌∷◌, ◌++◌, map, length, Option, Some, None, refl, sym, ap, subst, ◌∙◌, arith, if◌then◌else◌}
 use Rattle.std.specs.Prelude.{IsTrue, slice_get, slice_index_or}
 use Rattle.std.specs.Int.{int_min, int_max}
 use Rattle.std.specs.List.{list_all, list_any}
@@ -87,3 +87,138 @@ module _ (x : Setting) (var_bits : (k : ℕ) → HasBits (slice_index_or x.state
         let q = both-pass (alg_passes (λ j. false)) (names_in c) (names_in e ++ branch_names bs) p in
         let r = both-pass (alg_passes (λ j. false)) (names_in e) (branch_names bs) q.1 in
         pick-bits (v.is_true (value_at x c)) (value_at x e) (v.net_cases x.algs x.state x.received y bs) (value-bits e r.0 s.2) (cases-bits bs y r.1 h s.3)
+
+-- ---- own variables
+
+some-kind : {A : Type 0} (f : A → Bool) (xs : List A) → list_any f xs ≡ true → (a : A) × (f a ≡ true)
+some-kind f [] h = never h
+some-kind f (a ∷ xs) h = go (f a) refl h (λ q. some-kind f xs q)
+  where
+    go : (b : Bool) → f a ≡ b → (b || list_any f xs) ≡ true → (list_any f xs ≡ true → (c : _) × (f c ≡ true)) → (c : _) × (f c ≡ true)
+    go true e h rest = (a, e)
+    go false e h rest = rest h
+
+-- the operands of a comparison have one kind
+compared-kinds : (n : Net) (r : Option Ty) (op : CmpOp) (a b : NetExpr)
+    → (if is_equality op then list_any (λ q. fits n r q a && fits n r q b) (kinds_in n) else fits n r int_kind a && fits n r int_kind b) ≡ true
+    → (q : Kind) × (fits n r q a ≡ true) × (fits n r q b ≡ true)
+compared-kinds n r op a b h = go (is_equality op) h
+  where
+    go : (t : Bool) → (if t then list_any (λ q. fits n r q a && fits n r q b) (kinds_in n) else fits n r int_kind a && fits n r int_kind b) ≡ true
+        → (q : Kind) × (fits n r q a ≡ true) × (fits n r q b ≡ true)
+    go true h = let k = some-kind (λ q. fits n r q a && fits n r q b) (kinds_in n) h in (k.0, and-left _ _ k.1, and-right _ _ k.1)
+    go false h = (int_kind, and-left _ _ h, and-right _ _ h)
+
+module _ (n : Net) (r : Option Ty) (vars : List StVar) (w : Naming) (x : Setting) (m : Memory)
+    (own_length : (e : NetExpr) → length (own_types n r e) ≡ temps e)
+    (bits : (e : NetExpr) → Passes (names_in e) → IsSafe x e → HasBits (value_at x e))
+    (truths : (e : NetExpr) → Passes (names_in e) → fits n r bool_kind e ≡ true → IsTrue (in_range (range_of ty.Bool) (value_at x e)))
+    (told : (k : Kind) (e : NetExpr) → fits n r k e ≡ true → Passes (names_in e) → is_boolean n r e ≡ is_bool k) where
+  -- those from the k-th on hold numbers of these types
+  abbrev pub HoldTypes : ℕ → List StTy → Type 0
+  HoldTypes k [] = Unit {0}
+  HoldTypes k (t ∷ ts) = IsTrue (in_range (range_of t) (held_at vars m (w.own k))) × HoldTypes (k + 1) ts
+
+  both-hold : (k : ℕ) (ts us : List StTy) → HoldTypes k ts → (j : ℕ) → j ≡ k + length ts → HoldTypes j us → HoldTypes k (ts ++ us)
+  both-hold k [] us h j e g = subst (λ i. HoldTypes i us) (let q : k + 0 ≡ k = omega arith in e ∙ q) g
+  both-hold k (t ∷ ts) us h j e g = (h.0, both-hold (k + 1) ts us h.1 j (omega (arith, e)) g)
+
+  after-own : (k : ℕ) (e : NetExpr) (us : List StTy) → HoldTypes k (own_types n r e) → HoldTypes (k + temps e) us → HoldTypes k (own_types n r e ++ us)
+  after-own k e us h g = both-hold k (own_types n r e) us h (k + temps e) (ap (λ l. k + l) (sym (own_length e))) g
+
+  branches-length : (bs : NetBranches) (e : NetExpr) → length (branches_types n r bs) ≡ branches_temps bs
+  branches-length bs e =
+      let a = own_length (net_expr (n_if bs e) 0) in
+      let b = length-append (branches_types n r bs) (own_types n r e) in
+      let c = own_length e in
+      omega (arith, a, b, c)
+
+  only-bool : (k : Kind) → is_bool k ≡ true → k ≡ bool_kind
+  only-bool bool_kind h = refl
+  only-bool int_kind h = never h
+  only-bool (enum_kind ls) h = never h
+
+  -- the value of an `if`
+  if-typed : (kind : Kind) (bs : NetBranches) (e : NetExpr) → form_fits n r kind (n_if bs e) ≡ true → Passes (form_names (n_if bs e)) → IsSafeForm x (n_if bs e)
+      → IsTrue (in_range (range_of (type_by (is_boolean n r e))) (v.net_form_value x.algs x.state x.received (n_if bs e)))
+  if-typed kind bs e h p s = go (is_boolean n r e) refl
+    where
+      go : (b : Bool) → is_boolean n r e ≡ b → IsTrue (in_range (range_of (type_by b)) (v.net_form_value x.algs x.state x.received (n_if bs e)))
+      go true is =
+          let q = both-pass (alg_passes (λ j. false)) (branch_names bs) (names_in e) p in
+          truths (net_expr (n_if bs e) 0) p (subst (λ k. form_fits n r k (n_if bs e) ≡ true) (only-bool kind (sym (told kind e (and-right _ _ h) q.1) ∙ is)) h)
+      go false is = bits (net_expr (n_if bs e) 0) p s
+
+  mutual
+    pub own-typed : (kind : Kind) (e : NetExpr) (k : ℕ) → fits n r kind e ≡ true → Passes (names_in e) → IsSafe x e → Held vars w x m k e → HoldTypes k (own_types n r e)
+    own-typed kind (net_expr f at) k h p s d = form-typed kind f k h p s d
+
+    form-typed : (kind : Kind) (f : NetForm) (k : ℕ) → form_fits n r kind f ≡ true → Passes (form_names f) → IsSafeForm x f → HeldForm vars w x m k f → HoldTypes k (form_types n r f)
+    form-typed kind (n_truth b) k h p s d = tt
+    form-typed kind (n_number z) k h p s d = tt
+    form-typed kind (n_loc a q) k h p s d = tt
+    form-typed kind (n_var i) k h p s d = tt
+    form-typed kind (n_input i) k h p s d = tt
+    form-typed kind (n_alg i) k h p s d = tt
+    form-typed kind n_received k h p s d = tt
+    form-typed kind (n_minus e) k h p s d = own-typed int_kind e k (and-right _ _ h) p s.0 d
+    form-typed kind (n_plus e) k h p s d = own-typed int_kind e k (and-right _ _ h) p s d
+    form-typed kind (n_not e) k h p s d = own-typed bool_kind e k (and-right _ _ h) p s.0 d
+    form-typed kind (n_abs e) k h p s d = own-typed int_kind e k (and-right _ _ h) p s.0 d
+    form-typed kind (n_min a b) k h p s d =
+        let q = both-pass (alg_passes (λ j. false)) (names_in a) (names_in b) p in
+        after-own k a (own_types n r b) (own-typed int_kind a k (and-right _ _ (and-left _ _ h)) q.0 s.0 d.0) (own-typed int_kind b (k + temps a) (and-right _ _ h) q.1 s.1 d.1)
+    form-typed kind (n_max a b) k h p s d =
+        let q = both-pass (alg_passes (λ j. false)) (names_in a) (names_in b) p in
+        after-own k a (own_types n r b) (own-typed int_kind a k (and-right _ _ (and-left _ _ h)) q.0 s.0 d.0) (own-typed int_kind b (k + temps a) (and-right _ _ h) q.1 s.1 d.1)
+    form-typed kind (n_sum e es) k h p s d =
+        let q = both-pass (alg_passes (λ j. false)) (names_in e) (term_names es) p in
+        after-own k e (terms_types n r es) (own-typed int_kind e k (and-right _ _ (and-left _ _ h)) q.0 s.0 d.0) (terms-typed es (value_at x e) (k + temps e) (and-right _ _ h) q.1 s.1 d.1)
+    form-typed kind (n_product e es) k h p s d =
+        let q = both-pass (alg_passes (λ j. false)) (names_in e) (factor_names es) p in
+        after-own k e (factors_types n r es) (own-typed int_kind e k (and-right _ _ (and-left _ _ h)) q.0 s.0 d.0) (factors-typed es (value_at x e) (k + temps e) (and-right _ _ h) q.1 s.1 d.1)
+    form-typed kind (n_compare a op b) k h p s d =
+        let q = both-pass (alg_passes (λ j. false)) (names_in a) (names_in b) p in
+        let c = compared-kinds n r op a b (and-right _ _ h) in
+        after-own k a (own_types n r b) (own-typed c.0 a k c.1 q.0 s.0 d.0) (own-typed c.0 b (k + temps a) c.2 q.1 s.1 d.1)
+    form-typed kind (n_and es) k h p s d = list-typed es k (and-right _ _ h) p s d
+    form-typed kind (n_or es) k h p s d = list-typed es k (and-right _ _ h) p s d
+    form-typed kind (n_implies a b) k h p s d =
+        let q = both-pass (alg_passes (λ j. false)) (names_in a) (names_in b) p in
+        after-own k a (own_types n r b) (own-typed bool_kind a k (and-right _ _ (and-left _ _ h)) q.0 s.0.0 d.0) (own-typed bool_kind b (k + temps a) (and-right _ _ h) q.1 s.1.0 d.1)
+    form-typed kind (n_iff a b) k h p s d =
+        let q = both-pass (alg_passes (λ j. false)) (names_in a) (names_in b) p in
+        after-own k a (own_types n r b) (own-typed bool_kind a k (and-right _ _ (and-left _ _ h)) q.0 s.0 d.0) (own-typed bool_kind b (k + temps a) (and-right _ _ h) q.1 s.1 d.1)
+    form-typed kind (n_if bs e) k h p s d =
+        let q = both-pass (alg_passes (λ j. false)) (branch_names bs) (names_in e) p in (
+          subst (λ z. IsTrue (in_range (range_of (type_by (is_boolean n r e))) z)) (sym d.2) (if-typed kind bs e h p s),
+          both-hold (k + 1) (branches_types n r bs) (own_types n r e) (branches-typed kind bs (k + 1) (and-left _ _ h) q.0 s.0 d.0) (k + 1 + branches_temps bs)
+              (ap (λ l. k + 1 + l) (sym (branches-length bs e))) (own-typed kind e (k + 1 + branches_temps bs) (and-right _ _ h) q.1 s.1 d.1),
+        )
+
+    terms-typed : (es : NetTerms) (z : ℤ) (k : ℕ) → terms_fit n r es ≡ true → Passes (term_names es) → AreSafeTerms x z es → HeldTerms vars w x m k es → HoldTypes k (terms_types n r es)
+    terms-typed no_net_terms z k h p s d = tt
+    terms-typed (net_terms t e es) z k h p s d =
+        let q = both-pass (alg_passes (λ j. false)) (names_in e) (term_names es) p in
+        after-own k e (terms_types n r es) (own-typed int_kind e k (and-left _ _ h) q.0 s.0 d.0) (terms-typed es (v.added t z (value_at x e)) (k + temps e) (and-right _ _ h) q.1 s.2 d.1)
+
+    factors-typed : (es : NetFactors) (z : ℤ) (k : ℕ) → factors_fit n r es ≡ true → Passes (factor_names es) → AreSafeFactors x z es → HeldFactors vars w x m k es → HoldTypes k (factors_types n r es)
+    factors-typed no_net_factors z k h p s d = tt
+    factors-typed (net_factors op e es) z k h p s d =
+        let q = both-pass (alg_passes (λ j. false)) (names_in e) (factor_names es) p in
+        after-own k e (factors_types n r es) (own-typed int_kind e k (and-left _ _ h) q.0 s.0 d.0) (factors-typed es (v.multiplied op z (value_at x e)) (k + temps e) (and-right _ _ h) q.1 s.3 d.1)
+
+    list-typed : (es : NetExprs) (k : ℕ) → all_fit n r es ≡ true → Passes (list_names es) → AreSafeTruths x es → HeldList vars w x m k es → HoldTypes k (list_types n r es)
+    list-typed no_net_exprs k h p s d = tt
+    list-typed (net_exprs e es) k h p s d =
+        let q = both-pass (alg_passes (λ j. false)) (names_in e) (list_names es) p in
+        after-own k e (list_types n r es) (own-typed bool_kind e k (and-left _ _ h) q.0 s.0 d.0) (list-typed es (k + temps e) (and-right _ _ h) q.1 s.2 d.1)
+
+    branches-typed : (kind : Kind) (bs : NetBranches) (k : ℕ) → branches_fit n r kind bs ≡ true → Passes (branch_names bs) → AreSafeBranches x bs → HeldBranches vars w x m k bs → HoldTypes k (branches_types n r bs)
+    branches-typed kind no_net_branches k h p s d = tt
+    branches-typed kind (net_branches c e bs) k h p s d =
+        let q = both-pass (alg_passes (λ j. false)) (names_in c) (names_in e ++ branch_names bs) p in
+        let t = both-pass (alg_passes (λ j. false)) (names_in e) (branch_names bs) q.1 in
+        after-own k c (own_types n r e ++ branches_types n r bs) (own-typed bool_kind c k (and-left _ _ (and-left _ _ h)) q.0 s.0 d.0)
+        (after-own (k + temps c) e (branches_types n r bs) (own-typed kind e (k + temps c) (and-right _ _ (and-left _ _ h)) t.0 s.2 d.1)
+        (branches-typed kind bs (k + temps c + temps e) (and-right _ _ h) t.1 s.3 d.2))
