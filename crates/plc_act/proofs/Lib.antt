@@ -14,3 +14,4 @@ pub mod Laying
 pub mod Parts
 pub mod Reading
 pub mod Keeping
+pub mod Kept
