@@ -22,6 +22,7 @@ use Rattle.plc_face.specs.Face.{range_of}
 use Rattle.plc_expr.specs.Texts.{Naming, temps, branches_temps}
 use Rattle.plc_expr.specs.Sorts.{is_boolean, type_by, own_types, form_types, terms_types, factors_types, list_types, branches_types}
 use Rattle.plc_expr.specs.Safe.{Setting, HasBits, IsSafe, IsSafeForm, AreSafeTerms, AreSafeFactors, AreSafeTruths, AreSafeBranches, value_at}
+use Rattle.plc_act.proofs.Kept.{HoldTypes}
 use Rattle.plc_expr.specs.Held.{held_at, Held, HeldForm, HeldTerms, HeldFactors, HeldList, HeldBranches}
 
 bool-bits : (b : Bool) → HasBits (v.of_bool b)
@@ -114,16 +115,14 @@ module _ (n : Net) (r : Option Ty) (vars : List StVar) (w : Naming) (x : Setting
     (bits : (e : NetExpr) → Passes (names_in e) → IsSafe x e → HasBits (value_at x e))
     (truths : (e : NetExpr) → Passes (names_in e) → fits n r bool_kind e ≡ true → IsTrue (in_range (range_of ty.Bool) (value_at x e)))
     (told : (k : Kind) (e : NetExpr) → fits n r k e ≡ true → Passes (names_in e) → is_boolean n r e ≡ is_bool k) where
-  -- those from the k-th on hold numbers of these types
-  abbrev pub HoldTypes : ℕ → List StTy → Type 0
-  HoldTypes k [] = Unit {0}
-  HoldTypes k (t ∷ ts) = IsTrue (in_range (range_of t) (held_at vars m (w.own k))) × HoldTypes (k + 1) ts
+  abbrev Holds : ℕ → List StTy → Type 0
+  Holds k ts = HoldTypes vars w m k ts
 
-  both-hold : (k : ℕ) (ts us : List StTy) → HoldTypes k ts → (j : ℕ) → j ≡ k + length ts → HoldTypes j us → HoldTypes k (ts ++ us)
-  both-hold k [] us h j e g = subst (λ i. HoldTypes i us) (let q : k + 0 ≡ k = omega arith in e ∙ q) g
+  both-hold : (k : ℕ) (ts us : List StTy) → Holds k ts → (j : ℕ) → j ≡ k + length ts → Holds j us → Holds k (ts ++ us)
+  both-hold k [] us h j e g = subst (λ i. Holds i us) (let q : k + 0 ≡ k = omega arith in e ∙ q) g
   both-hold k (t ∷ ts) us h j e g = (h.0, both-hold (k + 1) ts us h.1 j (omega (arith, e)) g)
 
-  after-own : (k : ℕ) (e : NetExpr) (us : List StTy) → HoldTypes k (own_types n r e) → HoldTypes (k + temps e) us → HoldTypes k (own_types n r e ++ us)
+  after-own : (k : ℕ) (e : NetExpr) (us : List StTy) → Holds k (own_types n r e) → Holds (k + temps e) us → Holds k (own_types n r e ++ us)
   after-own k e us h g = both-hold k (own_types n r e) us h (k + temps e) (ap (λ l. k + l) (sym (own_length e))) g
 
   branches-length : (bs : NetBranches) (e : NetExpr) → length (branches_types n r bs) ≡ branches_temps bs
@@ -150,10 +149,10 @@ module _ (n : Net) (r : Option Ty) (vars : List StVar) (w : Naming) (x : Setting
       go false is = bits (net_expr (n_if bs e) 0) p s
 
   mutual
-    pub own-typed : (kind : Kind) (e : NetExpr) (k : ℕ) → fits n r kind e ≡ true → Passes (names_in e) → IsSafe x e → Held vars w x m k e → HoldTypes k (own_types n r e)
+    pub own-typed : (kind : Kind) (e : NetExpr) (k : ℕ) → fits n r kind e ≡ true → Passes (names_in e) → IsSafe x e → Held vars w x m k e → Holds k (own_types n r e)
     own-typed kind (net_expr f at) k h p s d = form-typed kind f k h p s d
 
-    form-typed : (kind : Kind) (f : NetForm) (k : ℕ) → form_fits n r kind f ≡ true → Passes (form_names f) → IsSafeForm x f → HeldForm vars w x m k f → HoldTypes k (form_types n r f)
+    form-typed : (kind : Kind) (f : NetForm) (k : ℕ) → form_fits n r kind f ≡ true → Passes (form_names f) → IsSafeForm x f → HeldForm vars w x m k f → Holds k (form_types n r f)
     form-typed kind (n_truth b) k h p s d = tt
     form-typed kind (n_number z) k h p s d = tt
     form-typed kind (n_loc a q) k h p s d = tt
@@ -196,25 +195,25 @@ module _ (n : Net) (r : Option Ty) (vars : List StVar) (w : Naming) (x : Setting
               (ap (λ l. k + 1 + l) (sym (branches-length bs e))) (own-typed kind e (k + 1 + branches_temps bs) (and-right _ _ h) q.1 s.1 d.1),
         )
 
-    terms-typed : (es : NetTerms) (z : ℤ) (k : ℕ) → terms_fit n r es ≡ true → Passes (term_names es) → AreSafeTerms x z es → HeldTerms vars w x m k es → HoldTypes k (terms_types n r es)
+    terms-typed : (es : NetTerms) (z : ℤ) (k : ℕ) → terms_fit n r es ≡ true → Passes (term_names es) → AreSafeTerms x z es → HeldTerms vars w x m k es → Holds k (terms_types n r es)
     terms-typed no_net_terms z k h p s d = tt
     terms-typed (net_terms t e es) z k h p s d =
         let q = both-pass (alg_passes (λ j. false)) (names_in e) (term_names es) p in
         after-own k e (terms_types n r es) (own-typed int_kind e k (and-left _ _ h) q.0 s.0 d.0) (terms-typed es (v.added t z (value_at x e)) (k + temps e) (and-right _ _ h) q.1 s.2 d.1)
 
-    factors-typed : (es : NetFactors) (z : ℤ) (k : ℕ) → factors_fit n r es ≡ true → Passes (factor_names es) → AreSafeFactors x z es → HeldFactors vars w x m k es → HoldTypes k (factors_types n r es)
+    factors-typed : (es : NetFactors) (z : ℤ) (k : ℕ) → factors_fit n r es ≡ true → Passes (factor_names es) → AreSafeFactors x z es → HeldFactors vars w x m k es → Holds k (factors_types n r es)
     factors-typed no_net_factors z k h p s d = tt
     factors-typed (net_factors op e es) z k h p s d =
         let q = both-pass (alg_passes (λ j. false)) (names_in e) (factor_names es) p in
         after-own k e (factors_types n r es) (own-typed int_kind e k (and-left _ _ h) q.0 s.0 d.0) (factors-typed es (v.multiplied op z (value_at x e)) (k + temps e) (and-right _ _ h) q.1 s.3 d.1)
 
-    list-typed : (es : NetExprs) (k : ℕ) → all_fit n r es ≡ true → Passes (list_names es) → AreSafeTruths x es → HeldList vars w x m k es → HoldTypes k (list_types n r es)
+    list-typed : (es : NetExprs) (k : ℕ) → all_fit n r es ≡ true → Passes (list_names es) → AreSafeTruths x es → HeldList vars w x m k es → Holds k (list_types n r es)
     list-typed no_net_exprs k h p s d = tt
     list-typed (net_exprs e es) k h p s d =
         let q = both-pass (alg_passes (λ j. false)) (names_in e) (list_names es) p in
         after-own k e (list_types n r es) (own-typed bool_kind e k (and-left _ _ h) q.0 s.0 d.0) (list-typed es (k + temps e) (and-right _ _ h) q.1 s.2 d.1)
 
-    branches-typed : (kind : Kind) (bs : NetBranches) (k : ℕ) → branches_fit n r kind bs ≡ true → Passes (branch_names bs) → AreSafeBranches x bs → HeldBranches vars w x m k bs → HoldTypes k (branches_types n r bs)
+    branches-typed : (kind : Kind) (bs : NetBranches) (k : ℕ) → branches_fit n r kind bs ≡ true → Passes (branch_names bs) → AreSafeBranches x bs → HeldBranches vars w x m k bs → Holds k (branches_types n r bs)
     branches-typed kind no_net_branches k h p s d = tt
     branches-typed kind (net_branches c e bs) k h p s d =
         let q = both-pass (alg_passes (λ j. false)) (names_in c) (names_in e ++ branch_names bs) p in

@@ -18,6 +18,11 @@ use Rattle.plc_expr.specs.Texts.{Naming, temps}
 use Rattle.plc_expr.specs.Safe.{Setting}
 use Rattle.plc_expr.specs.Held.{held_at, IsBeside, Prepares}
 
+-- the own variables from the k-th on hold numbers of these types
+abbrev pub HoldTypes : List StVar → Naming → Memory → ℕ → List StTy → Type 0
+HoldTypes vars w m k [] = Unit {0}
+HoldTypes vars w m k (t ∷ ts) = IsTrue (in_range (range_of t) (held_at vars m (w.own k))) × HoldTypes vars w m (k + 1) ts
+
 typed-from : (vars : List StVar) (m : Memory) → length vars ≡ length m → ((j : ℕ) (v : StVar) (z : ℤ) → slice_get vars j ≡ Some v → slice_get m j ≡ Some z → IsTrue (in_range (range_of v.ty) z)) → Typed vars m
 typed-from [] [] long each = tt
 typed-from [] (z ∷ m) long each = absurd (omega (arith, long))
@@ -42,12 +47,8 @@ module _ (vars : List StVar) (w : Naming) (base : ℕ) where
   declares-parts k (t ∷ ts) us d = let r = declares-parts (k + 1) ts us d.1 in ((d.0, r.0), subst (λ i. Declares i us) (omega arith) r.1)
 
   module _ (m : Memory) where
-    abbrev HoldTypes : ℕ → List StTy → Type 0
-    HoldTypes k [] = Unit {0}
-    HoldTypes k (t ∷ ts) = IsTrue (in_range (range_of t) (held_at vars m (w.own k))) × HoldTypes (k + 1) ts
-
     -- what stands at the place of one of them
-    holds-at : (k : ℕ) (ts : List StTy) → Declares k ts → HoldTypes k ts → (j : ℕ) (v : StVar) (z : ℤ) → base + k ≤ j → j < base + k + length ts → slice_get vars j ≡ Some v → slice_get m j ≡ Some z
+    holds-at : (k : ℕ) (ts : List StTy) → Declares k ts → HoldTypes vars w m k ts → (j : ℕ) (v : StVar) (z : ℤ) → base + k ≤ j → j < base + k + length ts → slice_get vars j ≡ Some v → slice_get m j ≡ Some z
         → IsTrue (in_range (range_of v.ty) z)
     holds-at k [] d h j v z low high at is = absurd (omega (arith, low, high))
     holds-at k (t ∷ ts) d h j v z low high at is = go (nat_eq j (base + k)) refl (λ more. holds-at (k + 1) ts d.1 h.1 j v z (omega (arith, more)) (omega (arith, high)) at is)
@@ -61,7 +62,7 @@ module _ (vars : List StVar) (w : Naming) (base : ℕ) where
             subst (λ (a : StVar). IsTrue (in_range (range_of a.ty) z)) one (subst (λ u. IsTrue (in_range (range_of u) z)) (sym q.type_is) (subst (λ b. IsTrue (in_range (range_of t) b)) value h.0))
         go false e rest = let apart = eqb-false j (base + k) e in rest (grind (arith, apart, low))
 
-    pub typed-beside : (k c : ℕ) (ts : List StTy) (m0 : Memory) → length ts ≡ c → Typed vars m0 → IsBeside (base + k) c m0 m → Declares k ts → HoldTypes k ts → Typed vars m
+    pub typed-beside : (k c : ℕ) (ts : List StTy) (m0 : Memory) → length ts ≡ c → Typed vars m0 → IsBeside (base + k) c m0 m → Declares k ts → HoldTypes vars w m k ts → Typed vars m
     typed-beside k c ts m0 long typed beside d h =
         typed-from vars m (pairwise-length (λ (v : StVar) z. IsTrue (in_range (range_of v.ty) z)) vars m0 typed ∙ sym beside.same_length)
         (λ j v z at is. go j v z at is (nat_le (base + k) j && nat_lt j (base + k + c)) refl)

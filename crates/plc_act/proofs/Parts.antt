@@ -37,14 +37,14 @@ use Rattle.plc_act.proofs.Whole.{events-tried}
 -- ---- types of own variables
 
 module _ (n : Net) (own_length : (e : NetExpr) → length (own_types n None e) ≡ temps e) where
-  conditions-length : (bs : NetUpdateBranches) → length (conditions_types n None bs) ≡ conditions_temps bs
+  pub conditions-length : (bs : NetUpdateBranches) → length (conditions_types n None bs) ≡ conditions_temps bs
   conditions-length no_net_update_branches = refl
   conditions-length (net_update_branches c us bs) =
       length-append (own_types n None c) (conditions_types n None bs)
       ∙ ap (λ q. q + length (conditions_types n None bs)) (own_length c) ∙ ap (λ q. temps c + q) (conditions-length bs)
 
   mutual
-    updates-length : (us : NetUpdates) → length (updates_types n None us) ≡ updates_temps us
+    pub updates-length : (us : NetUpdates) → length (updates_types n None us) ≡ updates_temps us
     updates-length no_net_updates = refl
     updates-length (net_updates u us) =
         length-append (updates_types n None us) (update_types n None u)
@@ -58,7 +58,7 @@ module _ (n : Net) (own_length : (e : NetExpr) → length (own_types n None e) �
         ∙ ap (λ q. conditions_temps bs + q) (length-append (bodies_types n None bs) (updates_types n None us)
         ∙ ap (λ q. q + length (updates_types n None us)) (bodies-length bs) ∙ ap (λ q. bodies_temps bs + q) (updates-length us))
 
-    bodies-length : (bs : NetUpdateBranches) → length (bodies_types n None bs) ≡ bodies_temps bs
+    pub bodies-length : (bs : NetUpdateBranches) → length (bodies_types n None bs) ≡ bodies_temps bs
     bodies-length no_net_update_branches = refl
     bodies-length (net_update_branches c us bs) =
         length-append (updates_types n None us) (bodies_types n None bs)
