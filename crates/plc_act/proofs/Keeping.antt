@@ -43,7 +43,7 @@ pick-bits true y z h g = h
 pick-bits false y z h g = g
 
 -- no algebraic variable is named
-abbrev Passes : List Read → Type 0
+abbrev pub Passes : List Read → Type 0
 Passes names = list_all (alg_passes (λ j. false)) names ≡ true
 
 module _ (x : Setting) (var_bits : (k : ℕ) → HasBits (slice_index_or x.state.vals k (pos 0))) (input_bits : (k : ℕ) → HasBits (slice_index_or x.state.ins k (pos 0))) (received_bits : HasBits x.received) where

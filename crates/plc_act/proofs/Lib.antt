@@ -15,3 +15,4 @@ pub mod Parts
 pub mod Reading
 pub mod Keeping
 pub mod Kept
+pub mod Readying
