@@ -64,7 +64,7 @@ module _ (n : Net) (own_length : (e : NetExpr) → length (own_types n None e) �
         length-append (updates_types n None us) (bodies_types n None bs)
         ∙ ap (λ q. q + length (bodies_types n None bs)) (updates-length us) ∙ ap (λ q. updates_temps us + q) (bodies-length bs)
 
-  choice-length : (c : NetChoice) → length (choice_types n None c) ≡ choice_temps c
+  pub choice-length : (c : NetChoice) → length (choice_types n None c) ≡ choice_temps c
   choice-length c =
       length-append (own_types n None c.test) (updates_types n None c.writes)
       ∙ ap (λ q. q + length (updates_types n None c.writes)) (own_length c.test) ∙ ap (λ q. temps c.test + q) (updates-length c.writes)

@@ -1,6 +1,6 @@
 -- The expressions of a choice are ready in each state, from what a table of choices keeps and where they are safe.
 use Rattle.std.proofs.Common.{◌≡◌, ℕ, zero, suc, ◌+◌, ◌<◌, ◌≤◌, ◌-ℤ◌, ℤ, pos, negsuc, Bool, true, false, ◌&&◌, List, [], ◌∷◌, ◌++◌, map, length, flat_map, Option, Some, None, nat_eq, refl, sym, ap, subst, ◌∙◌, arith}
-use Rattle.std.specs.Prelude.{IsTrue, slice_get, slice_index_or}
+use Rattle.std.specs.Prelude.{IsTrue, option_to_list, slice_get, slice_index_or}
 use Rattle.std.specs.List.{AllByRecursion, list_all}
 use Rattle.std.proofs.lemmas.Int.{ints}
 use Rattle.std.proofs.lemmas.Bool.Decides.{nat_tests}
@@ -13,12 +13,15 @@ use Rattle.cif_term.specs.Tree.{NetExpr, NetUpdate, net_set, net_choose, NetUpda
 use Rattle.cif_model.specs.Value as v
 use Rattle.cif_model.specs.Net.{NetStored, Net}
 use Rattle.cif_model.specs.Exprs.{updates_exprs, update_exprs, branches_exprs}
-use Rattle.cif_model.specs.Facts.{assigns_kind, branches_stand, is_net, is_type, literals_fit, stored_stands, update_stands, updates_stand, var_kind}
+use Rattle.cif_model.specs.Facts.{assigns_kind, branches_stand, channel_of, is_net, is_type, literals_fit, stored_stands, update_stands, updates_stand, var_kind}
 use Rattle.cif_model.specs.Interval.{stored_range}
 use Rattle.cif_model.specs.Kinds.{Kind, bool_kind, int_kind, enum_kind, fits, has_type, is_bool, is_int, kind_of}
 use Rattle.cif_model.specs.Listing.{NetChoice}
 use Rattle.cif_model.specs.Meaning.{system_of_net, true_in, type_range}
 use Rattle.cif_model.specs.Reads.{alg_passes, names_in}
+use Rattle.cif_model.specs.Rules.{is_plain_expr}
+use Rattle.cif_model.specs.Shown.{channel_range}
+use Rattle.cif_model.specs.Table.{carried_type, choice_exprs, choice_stands}
 use Rattle.cif_model.proofs.Orders.{Lies, test-from_lies}
 use Rattle.cif_model.proofs.Passing.{all-member, and-left, and-right}
 use Rattle.cif_model.proofs.PlainLaws.{fit-at, never}
@@ -35,10 +38,10 @@ use Rattle.plc_expr.specs.Safe.{HasBits, IsSafe, IsTruth, Setting, value_at}
 use Rattle.plc_act.specs.Writes.{is_tested, conditions_temps, updates_temps, bodies_temps}
 use Rattle.plc_act.specs.Asked.{AllUpdates, OfUpdate, OfBranches, CanTake, IsFit, KeepsTypes, setting_of}
 use Rattle.plc_act.specs.Own.{choice_temps, choice_types, conditions_types, updates_types, update_types, bodies_types, data_naming}
-use Rattle.plc_act.specs.Ready.{IsNamed, IsReady, IsReadySet, IsReadyTest, IsReadyChoice}
+use Rattle.plc_act.specs.Ready.{AllFrom, IsNamed, IsReady, IsReadySet, IsReadyTest, IsReadyChoice}
 use Rattle.plc_act.proofs.Keeping.{Passes, own-typed, value-bits}
 use Rattle.plc_act.proofs.Kept.{Declares, declares-parts, typed-beside}
-use Rattle.plc_act.proofs.Parts.{conditions-length, updates-length, bodies-length}
+use Rattle.plc_act.proofs.Parts.{choice-length, conditions-length, updates-length, bodies-length}
 use Rattle.plc_act.proofs.Reading.{reads-named}
 
 -- ---- numbers
@@ -125,3 +128,82 @@ module _ (n : Net) (net : Standing n) (small_vars : are_small n.vars ≡ true) (
         go : (o : Option NetStored) → slice_get n.vars i ≡ o → assigns_kind n None (var_kind o) e ≡ true → IsReady n p w base s k e × CanTake o (value_at x e)
         go None at h = never h
         go (Some q) at h = (ready-expr (kind_of q.type_of q.literals) k e d h fine, fit-typed q.type_of q.literals e (literals-of n.vars net.vars i q at) h fine)
+
+    -- ---- updates
+
+    all-parts : {A : Type 0} (P : A → Type 0) (xs ys : List A) → AllByRecursion P (xs ++ ys) → AllByRecursion P xs × AllByRecursion P ys
+    all-parts P [] ys h = (tt, h)
+    all-parts P (a ∷ xs) ys h = let r = all-parts P xs ys h.1 in ((h.0, r.0), r.1)
+
+    parts-of : (k : ℕ) (ts us : List StTy) (c : ℕ) → length ts ≡ c → Declared k (ts ++ us) → Declared k ts × Declared (k + c) us
+    parts-of k ts us c e d = let r = declares-parts p.vars w base k ts us d in (r.0, subst (λ l. Declared (k + l) us) e r.1)
+
+    mutual
+      ready-updates : (us : NetUpdates) (k : ℕ) → Declared k (updates_types n None us) → updates_stand n None us ≡ true → AllByRecursion Fine (updates_exprs us)
+          → AllUpdates (IsReadySet n p w base s) (IsReadyTest n p w base s) k us
+      ready-updates no_net_updates k d h all = tt
+      ready-updates (net_updates u us) k d h all =
+          let a = all-parts Fine (update_exprs u) (updates_exprs us) all in
+          let q = parts-of k (updates_types n None us) (update_types n None u) (updates_temps us) (updates-length n own_length us) d in (
+            ready-update u (k + updates_temps us) q.1 (and-left _ _ (and-left _ _ h)) a.0,
+            ready-updates us k q.0 (and-right _ _ h) a.1,
+          )
+
+      ready-update : (u : NetUpdate) (k : ℕ) → Declared k (update_types n None u) → update_stands n None u ≡ true → AllByRecursion Fine (update_exprs u)
+          → OfUpdate (IsReadySet n p w base s) (IsReadyTest n p w base s) k u
+      ready-update (net_set i e) k d h all = ready-set k i e d h all.0
+      ready-update (net_choose bs us) k d h all =
+          let a = all-parts Fine (branches_exprs bs) (updates_exprs us) all in
+          let q = parts-of k (conditions_types n None bs) (bodies_types n None bs ++ updates_types n None us) (conditions_temps bs) (conditions-length n own_length bs) d in
+          let r = parts-of (k + conditions_temps bs) (bodies_types n None bs) (updates_types n None us) (bodies_temps bs) (bodies-length n own_length bs) q.1 in (
+            ready-branches bs k (k + conditions_temps bs) q.0 r.0 (and-left _ _ h) a.0,
+            ready-updates us (k + conditions_temps bs + bodies_temps bs) r.1 (and-right _ _ h) a.1,
+          )
+
+      ready-branches : (bs : NetUpdateBranches) (k i : ℕ) → Declared k (conditions_types n None bs) → Declared i (bodies_types n None bs) → branches_stand n None bs ≡ true → AllByRecursion Fine (branches_exprs bs)
+          → OfBranches (IsReadySet n p w base s) (IsReadyTest n p w base s) k i bs
+      ready-branches no_net_update_branches k i d g h all = tt
+      ready-branches (net_update_branches c us bs) k i d g h all =
+          let a = all-parts Fine (updates_exprs us) (branches_exprs bs) all.1 in
+          let q = parts-of k (own_types n None c) (conditions_types n None bs) (temps c) (own_length c) d in
+          let r = parts-of i (updates_types n None us) (bodies_types n None bs) (updates_temps us) (updates-length n own_length us) g in (
+            ready-test k c q.0 (and-left _ _ (and-left _ _ h)) all.0,
+            ready-updates us i r.0 (and-right _ _ (and-left _ _ h)) a.0,
+            ready-branches bs (k + temps c) (i + updates_temps us) q.1 r.1 (and-right _ _ h) a.1,
+          )
+
+  -- ---- choices
+
+  -- the expressions of the choice are safe in each state
+  abbrev pub SafeChoice : NetChoice → Type 0
+  SafeChoice c = (s : State) → IsState (system_of_net n) s → IsSafe (setting_of n s (pos 0)) c.test × (true_in n s c.test ≡ true → AllByRecursion (IsSafe (setting_of n s (pos 0))) (updates_exprs c.writes))
+
+  plain-passes : (r : Range) (es : List NetExpr) → list_all (is_plain_expr n) (map (λ e. record { value = e; received = r }) es) ≡ true → AllByRecursion (λ e. Passes (names_in e)) es
+  plain-passes r [] h = tt
+  plain-passes r (e ∷ es) h = (and-left _ _ (and-left _ _ (and-left _ _ h)), plain-passes r es (and-right _ _ h))
+
+  both-all : (A B : NetExpr → Type 0) (es : List NetExpr) → AllByRecursion A es → AllByRecursion B es → AllByRecursion (λ e. A e × B e) es
+  both-all A B [] a b = tt
+  both-all A B (e ∷ es) a b = ((a.0, b.0), both-all A B es a.1 b.1)
+
+  pub ready-choice : (c : NetChoice) (k : ℕ) → choice_stands n c ≡ true → carried_type n c ≡ None → c.sent ≡ None → Declared k (choice_types n None c) → SafeChoice c → IsReadyChoice n p w base k c
+  ready-choice c k stands carried sends d safe =
+      let plain = plain-passes (channel_range (channel_of n c.event)) (choice_exprs c) (and-right _ _ (and-left _ _ stands)) in
+      let others = subst (λ (o : Option NetExpr). AllByRecursion (λ e. Passes (names_in e)) (option_to_list o ++ updates_exprs c.writes)) sends plain.1 in
+      let up : updates_stand n None c.writes ≡ true = subst (λ t. updates_stand n t c.writes ≡ true) carried (and-right _ _ (and-left _ _ (and-left _ _ stands))) in
+      let q = declares-parts p.vars w base k (own_types n None c.test) (updates_types n None c.writes) d in
+      record {
+        test = λ s is_state. ready-test s is_state k c.test q.0 (and-left _ _ (and-left _ _ (and-left _ _ (and-left _ _ stands)))) (plain.0, (safe s is_state).0);
+        updates = λ s is_state holds.
+            ready-updates s is_state c.writes (k + temps c.test) (subst (λ l. Declared (k + l) (updates_types n None c.writes)) (own_length c.test) q.1) up
+            (both-all (λ e. Passes (names_in e)) (IsSafe (setting_of n s (pos 0))) (updates_exprs c.writes) others ((safe s is_state).1 holds));
+      }
+
+  pub all-ready : (cs : List NetChoice) (k : ℕ) → AllByRecursion (λ (c : NetChoice). choice_stands n c ≡ true) cs → AllByRecursion (λ (c : NetChoice). carried_type n c ≡ None) cs
+      → AllByRecursion (λ (c : NetChoice). c.sent ≡ None) cs → AllByRecursion SafeChoice cs → Declared k (flat_map (choice_types n None) cs) → AllFrom (IsReadyChoice n p w base) k cs
+  all-ready [] k stands carried sends safe d = tt
+  all-ready (c ∷ cs) k stands carried sends safe d =
+      let q = declares-parts p.vars w base k (choice_types n None c) (flat_map (choice_types n None) cs) d in (
+        ready-choice c k stands.0 carried.0 sends.0 q.0 safe.0,
+        all-ready cs (k + choice_temps c) stands.1 carried.1 sends.1 safe.1 (subst (λ l. Declared (k + l) (flat_map (choice_types n None) cs)) (choice-length n own_length c) q.1),
+      )
