@@ -18,7 +18,7 @@ use Rattle.st_ast.specs.declared.tree.StTy.{StTy}
 use Rattle.st_ast.specs.declared.tree.StTy.TheVariants as ty
 use Rattle.plc_face.specs.declared.letter.Letter.TheVariants as letter
 use Rattle.plc_face.specs.Names.{name_for}
-use Rattle.plc_face.specs.Face.{VariableFace}
+use Rattle.plc_face.specs.Face.{VariableFace, IsDeclared}
 use Rattle.plc_face.proofs.NameLaws.{names-differ}
 use Rattle.plc_face.proofs.FaceLaws.{below}
 use Rattle.plc_gen.specs.Events.{own_name}
@@ -26,6 +26,7 @@ use Rattle.plc_expr.specs.Texts.{Naming}
 use Rattle.plc_act.specs.Writes.{NewNames, any_tested}
 use Rattle.plc_act.specs.Own.{choice_types, data_faces, data_naming, event_vars, if_face, new_face, new_face_of, new_names, place_in, range_face, range_faces, tests_range}
 use Rattle.plc_act.specs.Declared.{IsTemp, IsNew, OwnStand}
+use Rattle.plc_act.proofs.Kept.{Declares}
 use Rattle.plc_act.specs.Parts.{AreDeclared, all_temps, data_first, done_faces, event_faces, ifs_from}
 
 -- ---- lists
@@ -213,3 +214,21 @@ module _ (n : Net) (p : Program) (received : Text) (base j : ℕ) (cs : List Net
           subst (λ i. place_of p.vars (name_for letter.T i (codes "if")) ≡ base + i) e (d.place (dones + (ranges + (news + (k - first_own)))) (if_face q.0) (if-at (k - first_own) q.0 q.1));
       own_inside = let inside = d.inside in omega (arith, inside, faces-length);
     }
+
+  -- the own variables of the expressions are declared one after another
+  declares-from : (ts : List StTy) (i : ℕ) → ((a : ℕ) (t : StTy) → slice_get ts a ≡ Some t → slice_get (flat_map (choice_types n None) cs) (i + a) ≡ Some t) → Declares p.vars naming base (first_own + i) ts
+  declares-from [] i at = tt
+  declares-from (t ∷ ts) i at =
+      let here : slice_get (flat_map (choice_types n None) cs) i ≡ Some t = (let q : i + 0 ≡ i = omega arith in ap (slice_get (flat_map (choice_types n None) cs)) (sym q)) ∙ at 0 t refl in
+      let e : j + (dones + (ranges + (news + i))) ≡ first_own + i = omega arith in (
+        (
+          subst (λ k. IsDeclared p.vars (name_for letter.T k (codes "if")) t) e (d.each (dones + (ranges + (news + i))) (if_face t) (if-at i t here)),
+          subst (λ k. place_of p.vars (name_for letter.T k (codes "if")) ≡ base + k) e (d.place (dones + (ranges + (news + i))) (if_face t) (if-at i t here)),
+        ),
+        subst (λ k. Declares p.vars naming base k ts) (omega arith)
+            (declares-from ts (i + 1) (λ a u is. (let q : i + 1 + a ≡ i + suc a = omega arith in ap (slice_get (flat_map (choice_types n None) cs)) q) ∙ at (suc a) u is)),
+      )
+
+  pub declares-ifs : Declares p.vars naming base first_own (flat_map (choice_types n None) cs)
+  declares-ifs = subst (λ k. Declares p.vars naming base k (flat_map (choice_types n None) cs)) (omega arith)
+      (declares-from (flat_map (choice_types n None) cs) 0 (λ a t is. (let q : 0 + a ≡ a = omega arith in ap (slice_get (flat_map (choice_types n None) cs)) q) ∙ is))

@@ -16,3 +16,4 @@ pub mod Reading
 pub mod Keeping
 pub mod Kept
 pub mod Readying
+pub mod Final

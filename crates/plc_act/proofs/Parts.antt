@@ -69,7 +69,7 @@ module _ (n : Net) (own_length : (e : NetExpr) → length (own_types n None e) �
       length-append (own_types n None c.test) (updates_types n None c.writes)
       ∙ ap (λ q. q + length (updates_types n None c.writes)) (own_length c.test) ∙ ap (λ q. temps c.test + q) (updates-length c.writes)
 
-  types-length : (cs : List NetChoice) → length (flat_map (choice_types n None) cs) ≡ all_temps cs
+  pub types-length : (cs : List NetChoice) → length (flat_map (choice_types n None) cs) ≡ all_temps cs
   types-length [] = refl
   types-length (c ∷ cs) =
       length-append (choice_types n None c) (flat_map (choice_types n None) cs)
@@ -160,7 +160,7 @@ module _ (n : Net) (w : Naming) (y : NewNames) where
 
 -- the variables of choices that stand are there
 module _ (n : Net) (v : ℕ) where
-  vars-there : (cs : List NetChoice) → AllByRecursion (λ (c : NetChoice). choice_stands n c ≡ true) cs → has (flat_map (λ (c : NetChoice). targets c.writes) cs) v ≡ true → (q : NetStored) × (slice_get n.vars v ≡ Some q)
+  pub vars-there : (cs : List NetChoice) → AllByRecursion (λ (c : NetChoice). choice_stands n c ≡ true) cs → has (flat_map (λ (c : NetChoice). targets c.writes) cs) v ≡ true → (q : NetStored) × (slice_get n.vars v ≡ Some q)
   vars-there [] all h = absurd cc
   vars-there (c ∷ cs) all h = go (has (targets c.writes) v) refl (vars-there cs all.1)
     where

@@ -38,7 +38,7 @@ use Rattle.plc_expr.specs.Safe.{HasBits, IsSafe, IsTruth, Setting, value_at}
 use Rattle.plc_act.specs.Writes.{is_tested, conditions_temps, updates_temps, bodies_temps}
 use Rattle.plc_act.specs.Asked.{AllUpdates, OfUpdate, OfBranches, CanTake, IsFit, KeepsTypes, setting_of}
 use Rattle.plc_act.specs.Own.{choice_temps, choice_types, conditions_types, updates_types, update_types, bodies_types, data_naming}
-use Rattle.plc_act.specs.Ready.{AllFrom, IsNamed, IsReady, IsReadySet, IsReadyTest, IsReadyChoice}
+use Rattle.plc_act.specs.Ready.{AllFrom, IsNamed, IsReady, IsReadySet, IsReadyTest, IsReadyChoice, IsSafeChoice}
 use Rattle.plc_act.proofs.Keeping.{Passes, own-typed, value-bits}
 use Rattle.plc_act.proofs.Kept.{Declares, declares-parts, typed-beside}
 use Rattle.plc_act.proofs.Parts.{choice-length, conditions-length, updates-length, bodies-length}
@@ -174,10 +174,6 @@ module _ (n : Net) (net : Standing n) (small_vars : are_small n.vars ≡ true) (
 
   -- ---- choices
 
-  -- the expressions of the choice are safe in each state
-  abbrev pub SafeChoice : NetChoice → Type 0
-  SafeChoice c = (s : State) → IsState (system_of_net n) s → IsSafe (setting_of n s (pos 0)) c.test × (true_in n s c.test ≡ true → AllByRecursion (IsSafe (setting_of n s (pos 0))) (updates_exprs c.writes))
-
   plain-passes : (r : Range) (es : List NetExpr) → list_all (is_plain_expr n) (map (λ e. record { value = e; received = r }) es) ≡ true → AllByRecursion (λ e. Passes (names_in e)) es
   plain-passes r [] h = tt
   plain-passes r (e ∷ es) h = (and-left _ _ (and-left _ _ (and-left _ _ h)), plain-passes r es (and-right _ _ h))
@@ -186,7 +182,7 @@ module _ (n : Net) (net : Standing n) (small_vars : are_small n.vars ≡ true) (
   both-all A B [] a b = tt
   both-all A B (e ∷ es) a b = ((a.0, b.0), both-all A B es a.1 b.1)
 
-  pub ready-choice : (c : NetChoice) (k : ℕ) → choice_stands n c ≡ true → carried_type n c ≡ None → c.sent ≡ None → Declared k (choice_types n None c) → SafeChoice c → IsReadyChoice n p w base k c
+  pub ready-choice : (c : NetChoice) (k : ℕ) → choice_stands n c ≡ true → carried_type n c ≡ None → c.sent ≡ None → Declared k (choice_types n None c) → IsSafeChoice n c → IsReadyChoice n p w base k c
   ready-choice c k stands carried sends d safe =
       let plain = plain-passes (channel_range (channel_of n c.event)) (choice_exprs c) (and-right _ _ (and-left _ _ stands)) in
       let others = subst (λ (o : Option NetExpr). AllByRecursion (λ e. Passes (names_in e)) (option_to_list o ++ updates_exprs c.writes)) sends plain.1 in
@@ -200,7 +196,7 @@ module _ (n : Net) (net : Standing n) (small_vars : are_small n.vars ≡ true) (
       }
 
   pub all-ready : (cs : List NetChoice) (k : ℕ) → AllByRecursion (λ (c : NetChoice). choice_stands n c ≡ true) cs → AllByRecursion (λ (c : NetChoice). carried_type n c ≡ None) cs
-      → AllByRecursion (λ (c : NetChoice). c.sent ≡ None) cs → AllByRecursion SafeChoice cs → Declared k (flat_map (choice_types n None) cs) → AllFrom (IsReadyChoice n p w base) k cs
+      → AllByRecursion (λ (c : NetChoice). c.sent ≡ None) cs → AllByRecursion (IsSafeChoice n) cs → Declared k (flat_map (choice_types n None) cs) → AllFrom (IsReadyChoice n p w base) k cs
   all-ready [] k stands carried sends safe d = tt
   all-ready (c ∷ cs) k stands carried sends safe d =
       let q = declares-parts p.vars w base k (choice_types n None c) (flat_map (choice_types n None) cs) d in (

@@ -2,7 +2,9 @@
 use Rattle.std.specs.Prelude.{◌≡◌, ℕ, ◌+◌, ◌≤◌, ◌<◌, pos, true, false, List, [], ◌∷◌, slice_get, length}
 use Rattle.cif_system.specs.System.{State, IsState}
 use Rattle.cif_term.specs.Tree.{NetExpr}
+use Rattle.std.specs.List.{AllByRecursion}
 use Rattle.cif_model.specs.Net.{Net}
+use Rattle.cif_model.specs.Exprs.{updates_exprs}
 use Rattle.cif_model.specs.Meaning.{system_of_net, true_in}
 use Rattle.cif_model.specs.Reads.{Read, a_var, an_input, an_alg, a_place, the_received}
 use Rattle.cif_model.specs.Listing.{NetChoice}
@@ -52,6 +54,11 @@ pub record IsReadyChoice (n : Net) (p : Program) (w : Naming) (base k : ℕ) (c 
   pub test : (s : State) → IsState (system_of_net n) s → IsReadyTest n p w base s k c.test
   pub updates : (s : State) → IsState (system_of_net n) s → true_in n s c.test ≡ true
       → AllUpdates (IsReadySet n p w base s) (IsReadyTest n p w base s) (k + temps c.test) c.writes
+
+-- In each state the test of the choice is safe, and where it holds so are the expressions of the updates.
+abbrev pub IsSafeChoice : Net → NetChoice → Type 0
+IsSafeChoice n c = (s : State) → IsState (system_of_net n) s
+    → IsSafe (setting_of n s (pos 0)) c.test × (true_in n s c.test ≡ true → AllByRecursion (IsSafe (setting_of n s (pos 0))) (updates_exprs c.writes))
 
 -- of each choice with the number of its first own variable
 abbrev pub AllFrom : (P : ℕ → NetChoice → Type 0) → ℕ → List NetChoice → Type 0
