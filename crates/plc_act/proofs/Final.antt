@@ -1,6 +1,6 @@
 -- The part of an event whose choices have safe expressions tries the event.
-use Rattle.std.proofs.Common.{◌≡◌, ℕ, ◌+◌, ◌<◌, pos, true, List, [], flat_map, length, Some, None, sym, ◌∙◌}
-use Rattle.std.specs.Prelude.{nat_eq, slice_get}
+use Rattle.std.proofs.Common.{◌≡◌, ℕ, ◌+◌, ◌<◌, pos, true, List, [], flat_map, length, None, sym, ◌∙◌}
+use Rattle.std.specs.Prelude.{nat_eq}
 use Rattle.std.specs.List.{AllByRecursion}
 use Rattle.grammar.specs.Pieces.{Text}
 use Rattle.cif_system.specs.System.{State}

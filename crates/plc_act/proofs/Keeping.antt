@@ -1,16 +1,16 @@
 -- The own variables of an expression keep their types: a boolean `if` is 0 or 1, and another one has 64 bits.
-use Rattle.std.proofs.Common.{◌≡◌, ℕ, zero, suc, ◌+◌, ◌<◌, ◌≤◌, ℤ, pos, neg_ℤ, nat_abs, Bool, true, false, not, ◌&&◌, ◌||◌, List, [], ◌∷◌, ◌++◌, map, length, Option, Some, None, refl, sym, ap, subst, ◌∙◌, arith, if◌then◌else◌}
-use Rattle.std.specs.Prelude.{IsTrue, slice_get, slice_index_or}
+use Rattle.std.proofs.Common.{◌≡◌, ℕ, ◌+◌, ℤ, pos, Bool, true, false, ◌&&◌, ◌||◌, List, [], ◌∷◌, ◌++◌, length, Option, refl, sym, ap, subst, ◌∙◌, arith, if◌then◌else◌}
+use Rattle.std.specs.Prelude.{IsTrue, slice_index_or}
 use Rattle.std.specs.Int.{int_min, int_max}
 use Rattle.std.specs.List.{list_all, list_any}
 use Rattle.std.proofs.lemmas.Int.{ints, clamps}
 use Rattle.std.proofs.lemmas.List.{length-append}
 use Rattle.cif_base.specs.declared.types.Ty.{Ty}
-use Rattle.cif_system.specs.System.{State, in_range}
-use Rattle.cif_term.specs.Tree.{CmpOp, MulOp, NetExpr, net_expr, NetForm, n_truth, n_number, n_loc, n_var, n_input, n_alg, n_received, n_minus, n_plus, n_not, n_abs, n_min, n_max, n_sum, n_product, n_compare, n_and, n_or, n_implies, n_iff, n_if, NetExprs, no_net_exprs, net_exprs, NetTerms, no_net_terms, net_terms, NetFactors, no_net_factors, net_factors, NetBranches, no_net_branches, net_branches}
+use Rattle.cif_system.specs.System.{in_range}
+use Rattle.cif_term.specs.Tree.{CmpOp, NetExpr, net_expr, NetForm, n_truth, n_number, n_loc, n_var, n_input, n_alg, n_received, n_minus, n_plus, n_not, n_abs, n_min, n_max, n_sum, n_product, n_compare, n_and, n_or, n_implies, n_iff, n_if, NetExprs, no_net_exprs, net_exprs, NetTerms, no_net_terms, net_terms, NetFactors, no_net_factors, net_factors, NetBranches, no_net_branches, net_branches}
 use Rattle.cif_model.specs.Value as v
 use Rattle.cif_model.specs.Net.{Net}
-use Rattle.cif_model.specs.Kinds.{Kind, bool_kind, int_kind, enum_kind, is_bool, is_int, is_equality, kinds_in, fits, form_fits, all_fit, terms_fit, factors_fit, branches_fit, in_32_bits}
+use Rattle.cif_model.specs.Kinds.{Kind, bool_kind, int_kind, enum_kind, is_bool, is_equality, kinds_in, fits, form_fits, all_fit, terms_fit, factors_fit, branches_fit, in_32_bits}
 use Rattle.cif_model.specs.Reads.{Read, alg_passes, names_in, form_names, term_names, factor_names, list_names, branch_names}
 use Rattle.cif_model.proofs.Passing.{and-left, and-right, both-pass}
 use Rattle.cif_model.proofs.PlainLaws.{never}
@@ -23,7 +23,7 @@ use Rattle.plc_expr.specs.Texts.{Naming, temps, branches_temps}
 use Rattle.plc_expr.specs.Sorts.{is_boolean, type_by, own_types, form_types, terms_types, factors_types, list_types, branches_types}
 use Rattle.plc_expr.specs.Safe.{Setting, HasBits, IsSafe, IsSafeForm, AreSafeTerms, AreSafeFactors, AreSafeTruths, AreSafeBranches, value_at}
 use Rattle.plc_act.proofs.Kept.{HoldTypes}
-use Rattle.plc_expr.specs.Held.{held_at, Held, HeldForm, HeldTerms, HeldFactors, HeldList, HeldBranches}
+use Rattle.plc_expr.specs.Held.{Held, HeldForm, HeldTerms, HeldFactors, HeldList, HeldBranches}
 
 bool-bits : (b : Bool) → HasBits (v.of_bool b)
 bool-bits true = refl

@@ -1,22 +1,19 @@
 -- The statements before an expression leave each variable in its type.
-use Rattle.std.proofs.Common.{◌≡◌, ◌⊎◌, ℕ, zero, suc, ◌+◌, ◌-◌, ◌<◌, ◌≤◌, ℤ, pos, Bool, true, false, List, [], ◌∷◌, ◌++◌, length, Option, Some, None, inl, inr, get_or, refl, sym, ap, subst, ◌∙◌, arith, nat_eq, eqb-true, ◌&&◌}
+use Rattle.std.proofs.Common.{◌≡◌, ℕ, zero, suc, ◌+◌, ◌<◌, ◌≤◌, ℤ, pos, Bool, true, false, List, [], ◌∷◌, ◌++◌, length, Some, refl, sym, ap, subst, ◌∙◌, arith, nat_eq, eqb-true, ◌&&◌}
 use Rattle.std.specs.Prelude.{IsTrue, nat_le, nat_lt, slice_get}
 use Rattle.std.proofs.lemmas.Bool.{eqb-false}
 use Rattle.std.proofs.lemmas.Bool.Decides.{nat_tests}
-use Rattle.std.specs.List.{AllZip}
 use Rattle.std.proofs.lemmas.Option.{get_or_from_slice_get}
 use Rattle.cif_system.specs.System.{in_range}
 use Rattle.cif_system.proofs.Lists.{none-some, some-same}
-use Rattle.st_ast.specs.Tree.{Program}
-use Rattle.st_ast.specs.Names.{place_of, declared}
+use Rattle.st_ast.specs.Names.{place_of}
 use Rattle.st_ast.specs.Values.{Memory}
 use Rattle.st_ast.specs.declared.tree.StVar.{StVar}
 use Rattle.st_ast.specs.declared.tree.StTy.{StTy}
 use Rattle.plc_face.specs.Face.{IsDeclared, range_of}
-use Rattle.plc_face.proofs.FaceLaws.{Typed, below, declared-of, pairwise-length}
-use Rattle.plc_expr.specs.Texts.{Naming, temps}
-use Rattle.plc_expr.specs.Safe.{Setting}
-use Rattle.plc_expr.specs.Held.{held_at, IsBeside, Prepares}
+use Rattle.plc_face.proofs.FaceLaws.{Typed, declared-of, pairwise-length}
+use Rattle.plc_expr.specs.Texts.{Naming}
+use Rattle.plc_expr.specs.Held.{held_at, IsBeside}
 
 -- the own variables from the k-th on hold numbers of these types
 abbrev pub HoldTypes : List StVar → Naming → Memory → ℕ → List StTy → Type 0

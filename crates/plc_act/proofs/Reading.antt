@@ -1,5 +1,5 @@
 -- What expressions name is read from each memory that stands for a state, as it is in the state.
-use Rattle.std.proofs.Common.{◌≡◌, ℕ, zero, suc, ◌+◌, ◌<◌, ℤ, pos, Bool, true, false, List, [], ◌∷◌, map, length, Option, Some, None, Ok, Err, get_or, nat_eq, refl, sym, ap, subst, ◌∙◌, arith}
+use Rattle.std.proofs.Common.{◌≡◌, ℕ, zero, suc, ◌+◌, ◌<◌, ℤ, pos, List, [], ◌∷◌, map, length, Option, Some, None, Ok, get_or, refl, sym, ap, ◌∙◌, arith}
 use Rattle.std.specs.Prelude.{slice_get, slice_index_or, option_map}
 use Rattle.std.specs.List.{AllByRecursion}
 use Rattle.std.proofs.lemmas.Option.{slice_get-map}
@@ -9,21 +9,21 @@ use Rattle.cif_term.specs.Tree.{NetExpr}
 use Rattle.cif_model.specs.Net.{NetAuto, NetStored, Net}
 use Rattle.cif_model.specs.Meaning.{system_of_net}
 use Rattle.cif_model.specs.Reads.{Read, a_var, an_input, an_alg, a_place, the_received, names_in}
-use Rattle.st_ast.specs.Tree.{Program, equal, named, number}
+use Rattle.st_ast.specs.Tree.{Program}
 use Rattle.st_ast.specs.Names.{place_of}
-use Rattle.st_ast.specs.Values.{Memory, of_bool, same_number, value_of}
+use Rattle.st_ast.specs.Values.{Memory, of_bool, same_number}
 use Rattle.plc_face.specs.declared.letter.Letter.TheVariants as letter
 use Rattle.plc_face.specs.Names.{name_for}
 use Rattle.plc_face.specs.Face.{StateOf, place_face}
 use Rattle.plc_face.proofs.FaceLaws.{get_or-of}
 use Rattle.plc_gen.specs.Faces.{auto_face, face_of_net, stored_face}
-use Rattle.plc_gen.specs.Tests.{path_in, place_name}
+use Rattle.plc_gen.specs.Tests.{place_name}
 use Rattle.plc_gen.proofs.Making.{face-at}
 use Rattle.plc_gen.proofs.Moving.{faces}
 use Rattle.plc_gen.proofs.Writing.{hold-at}
 use Rattle.plc_expr.specs.Held.{held_at, IsRead, Reads}
 use Rattle.plc_act.specs.Asked.{setting_of}
-use Rattle.plc_act.specs.Own.{data_naming, input_name, path_of, variable_name}
+use Rattle.plc_act.specs.Own.{data_naming, input_name, variable_name}
 use Rattle.plc_act.specs.Ready.{IsNamed}
 use Rattle.plc_act.proofs.Taking.{variable-at}
 

@@ -1,5 +1,5 @@
 -- The expressions of a choice are ready in each state, from what a table of choices keeps and where they are safe.
-use Rattle.std.proofs.Common.{◌≡◌, ℕ, zero, suc, ◌+◌, ◌<◌, ◌≤◌, ◌-ℤ◌, ℤ, pos, negsuc, Bool, true, false, ◌&&◌, List, [], ◌∷◌, ◌++◌, map, length, flat_map, Option, Some, None, nat_eq, refl, sym, ap, subst, ◌∙◌, arith}
+use Rattle.std.proofs.Common.{◌≡◌, ℕ, zero, suc, ◌+◌, ◌≤◌, ℤ, pos, negsuc, true, false, List, [], ◌∷◌, ◌++◌, map, length, flat_map, Option, Some, None, refl, subst, arith}
 use Rattle.std.specs.Prelude.{IsTrue, option_to_list, slice_get, slice_index_or}
 use Rattle.std.specs.List.{AllByRecursion, list_all}
 use Rattle.std.proofs.lemmas.Int.{ints}
@@ -10,15 +10,14 @@ use Rattle.cif_base.specs.declared.types.Ty.TheVariants as cif_ty
 use Rattle.cif_system.specs.System.{IsState, Range, State, in_range}
 use Rattle.cif_system.proofs.Picks.{at-member}
 use Rattle.cif_term.specs.Tree.{NetExpr, NetUpdate, net_set, net_choose, NetUpdates, no_net_updates, net_updates, NetUpdateBranches, no_net_update_branches, net_update_branches}
-use Rattle.cif_model.specs.Value as v
 use Rattle.cif_model.specs.Net.{NetStored, Net}
 use Rattle.cif_model.specs.Exprs.{updates_exprs, update_exprs, branches_exprs}
-use Rattle.cif_model.specs.Facts.{assigns_kind, branches_stand, channel_of, is_net, is_type, literals_fit, stored_stands, update_stands, updates_stand, var_kind}
+use Rattle.cif_model.specs.Facts.{assigns_kind, branches_stand, channel_of, is_type, literals_fit, stored_stands, update_stands, updates_stand, var_kind}
 use Rattle.cif_model.specs.Interval.{stored_range}
-use Rattle.cif_model.specs.Kinds.{Kind, bool_kind, int_kind, enum_kind, fits, has_type, is_bool, is_int, kind_of}
+use Rattle.cif_model.specs.Kinds.{Kind, bool_kind, enum_kind, fits, is_bool, is_int, kind_of}
 use Rattle.cif_model.specs.Listing.{NetChoice}
-use Rattle.cif_model.specs.Meaning.{system_of_net, true_in, type_range}
-use Rattle.cif_model.specs.Reads.{alg_passes, names_in}
+use Rattle.cif_model.specs.Meaning.{system_of_net, type_range}
+use Rattle.cif_model.specs.Reads.{names_in}
 use Rattle.cif_model.specs.Rules.{is_plain_expr}
 use Rattle.cif_model.specs.Shown.{channel_range}
 use Rattle.cif_model.specs.Table.{carried_type, choice_exprs, choice_stands}
@@ -36,7 +35,7 @@ use Rattle.plc_expr.specs.Texts.{Naming, temps}
 use Rattle.plc_expr.specs.Sorts.{is_boolean, own_types}
 use Rattle.plc_expr.specs.Safe.{HasBits, IsSafe, IsTruth, Setting, value_at}
 use Rattle.plc_act.specs.Writes.{is_tested, conditions_temps, updates_temps, bodies_temps}
-use Rattle.plc_act.specs.Asked.{AllUpdates, OfUpdate, OfBranches, CanTake, IsFit, KeepsTypes, setting_of}
+use Rattle.plc_act.specs.Asked.{AllUpdates, OfUpdate, OfBranches, CanTake, IsFit, setting_of}
 use Rattle.plc_act.specs.Own.{choice_temps, choice_types, conditions_types, updates_types, update_types, bodies_types, data_naming}
 use Rattle.plc_act.specs.Ready.{AllFrom, IsNamed, IsReady, IsReadySet, IsReadyTest, IsReadyChoice, IsSafeChoice}
 use Rattle.plc_act.proofs.Keeping.{Passes, own-typed, value-bits}
@@ -109,7 +108,7 @@ module _ (n : Net) (net : Standing n) (small_vars : are_small n.vars ≡ true) (
       fine.1,
       (λ m st. reads-named n p received s (pos 0) m st e (named kind e fit fine.0)),
       (λ turns m typed reads q.
-      typed-beside p.vars w base q.after k (temps e) (own_types n None e) m (own_length e) typed q.beside d
+          typed-beside p.vars w base q.after k (temps e) (own_types n None e) m (own_length e) typed q.beside d
           (own-typed n None p.vars w x q.after own_length bits truths told kind e k fit fine.0 fine.1 q.held)),
     )
 
