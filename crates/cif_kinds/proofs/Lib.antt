@@ -7,3 +7,4 @@ pub mod EntryLaws
 pub mod ValueLaws
 pub mod ArgumentLaws
 pub mod BodyLaws
+pub mod UseLaws

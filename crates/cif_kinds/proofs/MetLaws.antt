@@ -16,7 +16,7 @@ use Rattle.cif_kinds.specs.declared.error.KindErr.TheVariants.{Mismatch, Memory}
 
 -- ---- elements
 
-to-any : {A : Type 0} (P : A → Type 0) (x : A) (xs : List A) → Member x xs → P x → Any P xs
+pub to-any : {A : Type 0} (P : A → Type 0) (x : A) (xs : List A) → Member x xs → P x → Any P xs
 to-any P x [] m p = absurd m
 to-any P x (y ∷ ys) m p =
     elim m [

@@ -3,3 +3,4 @@ pub mod Readings
 pub mod Met
 pub mod Faults
 pub mod Values
+pub mod Uses

@@ -12,6 +12,7 @@ mod expressions;
 mod kind;
 mod reading;
 mod table;
+mod uses;
 
 pub use error::KindErr;
 pub use kind::{Channel, Kind};
