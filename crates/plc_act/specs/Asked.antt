@@ -44,15 +44,13 @@ abbrev pub CanTake : Option NetStored → ℤ → Type 0
 CanTake None z = ⊥
 CanTake (Some d) z = IsFit (is_tested d.type_of) (type_range d.type_of) z
 
+-- what is asked of an assignment
 abbrev pub IsSafeSet : Net → Setting → ℕ → NetExpr → Type 0
 IsSafeSet n x v e = IsSafe x e × CanTake (slice_get n.vars v) (value_at x e)
 
+-- what is asked of a condition
 abbrev pub IsSafeCondition : Setting → NetExpr → Type 0
 IsSafeCondition x c = IsSafe x c × IsTruth (value_at x c)
-
--- the expressions of the updates are safe, and the variables can take the values
-abbrev pub AreSafe : Net → Setting → ℕ → NetUpdates → Type 0
-AreSafe n x k us = AllUpdates (λ i v e. IsSafeSet n x v e) (λ i c. IsSafeCondition x c) k us
 
 -- ---- what is promised of expressions
 
@@ -64,9 +62,9 @@ AreTyped vars m = AllZip (λ (v : StVar) z. IsTrue (in_range (range_of v.ty) z))
 abbrev pub KeepsTypes : List StVar → Naming → Setting → ℕ → ℕ → NetExpr → Type 0
 KeepsTypes vars w x base k e = (turns : ℕ) (m : Memory) → AreTyped vars m → Reads vars w x m e → (q : Prepares vars w x base k e turns m) → AreTyped vars q.after
 
--- Of each safe expression: where its names are read whatever the own variables hold, the statements before it do what they
--- are to do, its own variables keep what they hold where their
--- places do, and its text has its value.
+-- Of each safe expression whose own variables are among those from `low` to `count`: where its names are read whatever these
+-- hold, the statements before it do what they are to do; it finds the same in two memories with the same at the places of its
+-- own variables; and its text has its value.
 pub record Promises (vars : List StVar) (w : Naming) (x : Setting) (base low count : ℕ) : Type 0 where
   pub prepares : (e : NetExpr) (k turns : ℕ) (m : Memory) → ((o : Memory) → ((j : ℕ) → (base + low ≤ j → base + count ≤ j) → slice_get o j ≡ slice_get m j) → Reads vars w x o e)
       → base + count ≤ length m → IsSafe x e → low ≤ k → k + temps e ≤ count → Prepares vars w x base k e turns m
