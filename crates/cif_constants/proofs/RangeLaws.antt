@@ -1,6 +1,6 @@
 -- The first value that leaves its declared range is told, and where there is none, no constant breaks the rule.
 use Rattle.std.proofs.Common.{◌≡◌, ℕ, suc, ◌+◌, ℤ, Bool, true, false, ◌⊎◌, inl, inr, List, [], ◌∷◌, map, flat_map, length, length-append, add-one, refl, sym, ap, subst, ◌∙◌, Option, Some, None}
-use Rattle.std.specs.Prelude.{IsTrue, if◌then◌else◌}
+use Rattle.std.specs.Prelude.{IsTrue, if◌then◌else◌, Result, Ok, Err, IfOk}
 use Rattle.std.specs.List.{Any}
 use Rattle.std.specs.Option.{option_or}
 use Rattle.cif_system.specs.Words.{Member}
@@ -29,7 +29,12 @@ use Rattle.cif_constants.proofs.BoundsLaws.{any-member, member-any}
 use Rattle.cif_constants.proofs.FillLaws.{bool-cases}
 use Rattle.cif_constants.proofs.Firsts.{or-told, or-none}
 use Rattle.cif_constants.proofs.DueLaws.{value-is}
-use Rattle.cif_constants.specs.Walked.{walked, leaves, values_fault, body_fault, faults_from, declaration_count}
+use Rattle.cif_constants.specs.Slots.{row_of}
+use Rattle.cif_constants.specs.Typed.{IsTyped}
+use Rattle.cif_constants.specs.declared.ranges.Types.{Types}
+use Rattle.cif_constants.specs.declared.ranges.ValueRange.{ValueRange}
+use Rattle.cif_base.specs.declared.memory.Memory.{Memory}
+use Rattle.cif_constants.specs.Walked.{range_view, walked, leaves, values_fault, body_fault, faults_from, declaration_count}
 use Rattle.cif_constants.proofs.RowLaws.{all_rows}
 use Rattle.cif_constants.proofs.WalkLaws.{IsSound, range-is}
 
@@ -167,10 +172,10 @@ module _ (t : Source) (s : Scopes) (ns : List (List ℕ)) (vs : List ℤ) (are :
         not-faulty c u here (flat_map-member both_ends (l, u) (bounds_of c) u b (inr (inl refl))),
       )
 
-  abbrev turns : ℕ
+  abbrev pub turns : ℕ
   turns = declaration_count (written_bodies t) + 1
 
-  range-at : (k : ℕ) (c : Component) → IsBody t k c → (ty : TypeTree) → Member ty (types_of c) → walked s ns vs (all_rows t) turns k ty ≡ range_of c ty
+  pub range-at : (k : ℕ) (c : Component) → IsBody t k c → (ty : TypeTree) → Member ty (types_of c) → walked s ns vs (all_rows t) turns k ty ≡ range_of c ty
   range-at k c own ty m =
       ap (λ n. walked s ns vs (all_rows t) n k ty) (add-one (declaration_count (written_bodies t)) ∙ ap suc (sym (declarations-count t flat)))
       ∙ range-is t s ns vs are flat values sound k c own ty (sound k c own ty m)
@@ -216,3 +221,12 @@ module _ (t : Source) (s : Scopes) (ns : List (List ℕ)) (vs : List ℤ) (are :
     where
       in-bounds : (c : Component) (at : ℕ) → Member c (bodies t) → BrokenBounds c at → ⊥
       in-bounds c at m b = bounded at (subst (λ cs. Any (λ d. BrokenBounds d at) cs) (sym flat.components) (any-member (λ d. BrokenBounds d at) (bodies t) c m b))
+
+-- what is found is the range of the type
+pub ranged : (t : Source) (x : Types) (n k : ℕ) (c : Component) (ty : TypeTree) (r : Result ValueRange Memory) → IsTyped t x n → IsBody t k c → Member ty (types_of c)
+    → IfOk r (λ v. range_view v ≡ walked x.scopes.now x.constants.now.numbers x.constants.now.values (map row_of x.rows.now) n k ty) → IfOk r (λ v. range_view v ≡ range_of c ty)
+ranged t x n k c ty (Ok v) h own m e =
+    e
+    ∙ (λ i. walked x.scopes.now x.constants.now.numbers x.constants.now.values (h.rows i) (h.counted i) k ty)
+    ∙ range-at t x.scopes.now x.constants.now.numbers x.constants.now.values h.numbers h.flat h.values h.bounded k c own ty m
+ranged t x n k c ty (Err y) h own m e = tt

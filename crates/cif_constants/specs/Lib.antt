@@ -10,3 +10,4 @@ pub mod Constants
 pub mod Bounds
 pub mod Slots
 pub mod Walked
+pub mod Typed

@@ -53,7 +53,7 @@ fn value_fault(
         (walked.walked types.now.scopes.now types.now.constants.now.numbers types.now.constants.now.values (map row_of types.now.rows.now) turns body (typed_of typed.entry).0)) }
 {
     let value = types.constants.value(types.scopes, body, typed.value);
-    let range = types.range(body, typed.ty, turns)?;
+    let range = types.walk(body, typed.ty, turns)?;
     Ok(leaves(typed.value, value, range))
 }
 

@@ -2,9 +2,14 @@
 
 ghost use Rattle.std.specs.Prelude.{◌≡◌, map, IfOk};
 ghost use Rattle.cif_ast.specs.View.{view};
-ghost use Rattle.cif_source.specs.Source.{decl_tree, type_tree};
+ghost use Rattle.cif_source.specs.Source.{Source, type_tree};
 ghost use Rattle.cif_constants.specs.Slots.{row_of, slot_of, decl_at};
-ghost use Rattle.cif_source.specs.Types.{from_to as from_to_of};
+ghost use Rattle.cif_system.specs.Words.{Member};
+ghost use Rattle.cif_source.specs.Components.{Component};
+ghost use Rattle.cif_source.specs.Types.{from_to as from_to_of, range_of, nearest_zero};
+ghost use Rattle.cif_rules.specs.Constants.{types_of};
+ghost use Rattle.cif_scope.specs.Tables.{IsBody};
+ghost use Rattle.cif_constants.specs.Typed.{IsTyped};
 ghost use Rattle.cif_constants.specs.Walked as walked;
 
 use crate::values::Constants;
@@ -117,7 +122,12 @@ impl<'a> Types<'a> {
     }
 
     /// The range of a type in a body, through fewer names of types than `turns`.
-    pub fn range(&self, body: u32, ty: &'a TypeUse, turns: usize) -> Result<ValueRange, Memory>
+    pub(crate) fn walk(
+        &self,
+        body: u32,
+        ty: &'a TypeUse,
+        turns: usize,
+    ) -> Result<ValueRange, Memory>
         ensures { IfOk result (λ r. walked.range_view r ≡ walked.walked self.now.scopes.now self.now.constants.now.numbers
             self.now.constants.now.values (map row_of self.now.rows.now) turns body (type_tree ty.now)) }
     {
@@ -133,5 +143,28 @@ impl<'a> Types<'a> {
             }
         }
         Ok(from_to(0, 0))
+    }
+
+    /// The range of a type that a body writes. `turns` is one more than the source has declarations.
+    pub fn range(&self, body: u32, ty: &'a TypeUse, turns: usize) -> Result<ValueRange, Memory>
+        ensures { (t : Source) (c : Component) → IsTyped t self.now turns → IsBody t body c → Member (type_tree ty.now) (types_of c)
+            → IfOk result (λ r. walked.range_view r ≡ range_of c (type_tree ty.now)) }
+    {
+        self.walk(body, ty, turns)
+    }
+}
+
+impl ValueRange {
+    /// The value that is nearest to 0, which a variable without a first value has at first.
+    pub fn nearest_zero(self) -> i64
+        ensures { result ≡ nearest_zero (walked.range_view self) }
+    {
+        if 0 < self.lo {
+            self.lo
+        } else if self.hi < 0 {
+            self.hi
+        } else {
+            0
+        }
     }
 }
