@@ -126,6 +126,15 @@ fn declaration_count(alloc: Global, written: &[Written<'_>]) -> Result<usize, Me
     Ok(count)
 }
 
+/// One more than a source has declarations: no range is found through more names of types.
+pub fn turns(alloc: Global, spec: &Spec) -> Result<usize, Memory>
+    ensures { IfOk result (λ n. n ≡ walked.declaration_count (written_bodies (source_of spec.now)) + 1) }
+{
+    let written = written_bodies(alloc, spec)?;
+    let count = declaration_count(alloc, written.as_slice())?;
+    Ok(number(count)? as usize + 1)
+}
+
 /// Where a value of a source stands that leaves its declared range.
 fn ranges_fault(
     alloc: Global,
@@ -138,7 +147,7 @@ fn ranges_fault(
 {
     let written = written_bodies(alloc, spec)?;
     let rows = declarations(alloc, spec)?;
-    let turns = number(declaration_count(alloc, written.as_slice())?)? as usize + 1;
+    let turns = turns(alloc, spec)?;
     let types = Types {
         scopes,
         constants,

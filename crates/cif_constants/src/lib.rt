@@ -22,7 +22,7 @@ pub use bounds::check_bounds;
 pub use checking::check_constancy;
 pub use error::{ConstErr, ConstancyErr};
 pub use evaluating::evaluate;
-pub use keeping::check_constants;
+pub use keeping::{check_constants, turns};
 pub use names::NameValues;
 pub use ranges::{Types, ValueRange};
 pub use slots::declarations;
