@@ -17,3 +17,4 @@ pub mod Keeping
 pub mod Kept
 pub mod Readying
 pub mod Final
+pub mod Clean
