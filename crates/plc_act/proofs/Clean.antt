@@ -1,5 +1,5 @@
 -- The statements of updates break no check, where those of their expressions don't.
-use Rattle.std.proofs.Common.{◌≡◌, ℕ, ◌+◌, ℤ, pos, negsuc, Bool, true, false, ◌&&◌, ◌||◌, List, [], ◌∷◌, ◌++◌, map, length, Option, Some, None, refl, sym, ap, subst, ◌∙◌, arith, eq-eqb, if◌then◌else◌}
+use Rattle.std.proofs.Common.{◌≡◌, ℕ, ◌+◌, ℤ, pos, negsuc, Bool, true, false, ◌||◌, List, [], ◌∷◌, ◌++◌, map, length, Option, Some, None, refl, sym, ap, subst, ◌∙◌, arith, nat_eq, not, filter, cond, eq-eqb, if◌then◌else◌}
 use Rattle.std.specs.Prelude.{slice_get, is_some, option_map}
 use Rattle.std.specs.List.{AllByRecursion}
 use Rattle.cif_base.specs.declared.types.Ty.{Ty}
@@ -7,7 +7,7 @@ use Rattle.cif_base.specs.declared.types.Ty.TheVariants as cif_ty
 use Rattle.cif_system.specs.System.{Range}
 use Rattle.cif_term.specs.Tree.{NetExpr, NetUpdate, net_set, net_choose, NetUpdates, no_net_updates, net_updates, NetUpdateBranches, no_net_update_branches, net_update_branches}
 use Rattle.cif_model.specs.Net.{NetStored, Net}
-use Rattle.cif_model.specs.Exprs.{updates_exprs, update_exprs, branches_exprs}
+use Rattle.cif_model.specs.Exprs.{targets, updates_exprs, update_exprs, branches_exprs}
 use Rattle.cif_model.specs.Facts.{assigns_kind, branches_stand, has, update_stands, updates_stand, var_kind}
 use Rattle.cif_model.specs.Kinds.{Kind, bool_kind, fits, is_bool, kind_of}
 use Rattle.cif_model.specs.Meaning.{type_range}
@@ -15,18 +15,20 @@ use Rattle.cif_model.specs.Reads.{names_no_alg}
 use Rattle.cif_model.proofs.Passing.{and-left, and-right}
 use Rattle.cif_model.proofs.PlainLaws.{never}
 use Rattle.grammar.specs.Pieces.{Text}
-use Rattle.st_ast.specs.Tree.{Expr, named, Stms, Branches, assign, choice, no_stms, stms, append, no_branches, branches, no_other, other}
-use Rattle.st_ast.specs.Checks.{sort_of_type, knows_conditions, boolean_conditions, is_same_sort, stm_faults, stms_faults, branches_faults, other_faults, stms_count}
+use Rattle.st_ast.specs.Tree.{Expr, named, truth, Stms, stms_of, Branches, assign, no_stms, stms, append, no_branches, branches}
+use Rattle.st_ast.specs.Checks.{sort_of_type, knows_conditions, boolean_conditions, is_same_sort, stm_faults, branches_faults, other_faults, stms_count}
 use Rattle.st_ast.specs.declared.tree.StVar.{StVar}
 use Rattle.st_ast.specs.declared.tree.StTy.{StTy}
 use Rattle.st_ast.specs.declared.tree.StTy.TheVariants as ty
+use Rattle.plc_gen.specs.Faces.{st_type}
 use Rattle.plc_gen.proofs.Checking.{AllChecked, all-checked, checked-append}
 use Rattle.plc_expr.specs.Texts.{Naming, number_text, temps, text, before}
 use Rattle.plc_expr.specs.Sorts.{AreOwn, HasSort, OwnIs, is_bool_type, own_types, sort_by}
-use Rattle.plc_act.specs.Writes.{NewNames, is_tested, tests, tests_stored, stays_in, range_test, otherwise, chosen, conditions_before, writes, write, write_branches, conditions_temps, updates_temps, bodies_temps}
+use Rattle.plc_act.specs.Writes.{NewNames, any_tested, is_tested, tests, tests_stored, stays_in, range_test, otherwise, chosen, conditions_before, writes, write, write_branches, conditions_temps, updates_temps, bodies_temps}
+use Rattle.plc_act.specs.Acts.{act, assigned_vars, computed, copy, may_stay, store, stored, surely_set}
 use Rattle.plc_act.specs.Own.{new_type, updates_types, update_types, conditions_types, bodies_types}
 use Rattle.plc_act.proofs.Parts.{conditions-length, updates-length, bodies-length}
-use Rattle.plc_act.proofs.Targets.{all_vars, by_vars, in_vars, has-append}
+use Rattle.plc_act.proofs.Targets.{all_vars, assigned-has, by_vars, in_vars, has-append, targets-are}
 
 module _ (vars : List StVar) where
   abbrev Clean : Stms → Type 0
@@ -140,10 +142,11 @@ module _ (n : Net) (vars : List StVar) (w : Naming) (y : NewNames) (own_length :
       go None at h = never h
       go (Some d) at h =
           let kind : Kind = kind_of d.type_of d.literals in
-          checked-append vars (before w k e) (stms (assign (y.next i) (text w k e)) (range_test y i (Some d))) (before_clean kind k e h none o)
-          (set-clean vars (y.next i) (text w k e) (new_type d.type_of) (is_bool_type d.type_of) (next_own i d here at) (sort-of-new vars d.type_of)
-          (subst (λ b. HasSort vars (text w k e) b) (kind-bool d.type_of d.literals) (text_sort kind k e h none o)),
-          test-clean d at (is_tested d.type_of) refl)
+          checked-append vars (before w k e) (stms (assign (y.next i) (text w k e)) (range_test y i (Some d))) (before_clean kind k e h none o) (
+            set-clean vars (y.next i) (text w k e) (new_type d.type_of) (is_bool_type d.type_of) (next_own i d here at) (sort-of-new vars d.type_of)
+                (subst (λ b. HasSort vars (text w k e) b) (kind-bool d.type_of d.literals) (text_sort kind k e h none o)),
+            test-clean d at (is_tested d.type_of) refl,
+          )
 
   conditions-clean : (bs : NetUpdateBranches) (k : ℕ) → Own k (conditions_types n None bs) → branches_stand n None bs ≡ true → NoAlgs (branches_exprs bs) → AllChecked vars (conditions_before w k bs)
   conditions-clean no_net_update_branches k o h none = tt
@@ -192,3 +195,72 @@ module _ (n : Net) (vars : List StVar) (w : Naming) (y : NewNames) (own_length :
         branch-clean vars (text w k c) (writes n w y j us) (write_branches n w y (k + temps c) (j + updates_temps us) bs) (text_sort bool_kind k c (and-left _ _ (and-left _ _ h)) none.0 q.0)
         (writes-clean us j (λ i e. is i (has-append (all_vars us) (in_vars bs) i ∙ in-left _ _ e)) r.0 (and-right _ _ (and-left _ _ h)) m.0)
         (branches-clean bs (k + temps c) (j + updates_temps us) (λ i e. is i (has-append (all_vars us) (in_vars bs) i ∙ in-right _ _ e)) q.1 r.1 (and-right _ _ h) m.1)
+
+  -- ---- the whole
+
+  module _ (there : (i : ℕ) → V i → (d : NetStored) × (slice_get n.vars i ≡ Some d)) (variable_own : (i : ℕ) (d : NetStored) → V i → slice_get n.vars i ≡ Some d → OwnIs vars (w.variable i) (st_type d.type_of)) where
+    sort-of-stored : (t : Ty) → sort_of_type (st_type t) ≡ sort_by (is_bool_type t)
+    sort-of-stored cif_ty.Bool = refl
+    sort-of-stored (cif_ty.Int lo hi) = refl
+    sort-of-stored (cif_ty.Enum size) = refl
+
+    copies-clean : (is : List ℕ) → ((i : ℕ) → has is i ≡ true → V i) → AllChecked vars (stms_of (map (copy w y) is))
+    copies-clean [] all = tt
+    copies-clean (i ∷ is) all =
+        let here = all i (in-left _ _ (eq-eqb i i refl)) in
+        let q = there i here in (
+          set-clean vars (y.next i) (named (w.variable i)) (new_type q.0.type_of) (is_bool_type q.0.type_of) (next_own i q.0 here q.1) (sort-of-new vars q.0.type_of)
+              (name-sort vars (w.variable i) (st_type q.0.type_of) (is_bool_type q.0.type_of) (variable_own i q.0 here q.1) (sort-of-stored q.0.type_of)),
+          copies-clean is (λ k h. all k (in-right _ _ h)),
+        )
+
+    stores-clean : (is : List ℕ) → ((i : ℕ) → has is i ≡ true → V i) → AllChecked vars (stms_of (map (store w y) is))
+    stores-clean [] all = tt
+    stores-clean (i ∷ is) all =
+        let here = all i (in-left _ _ (eq-eqb i i refl)) in
+        let q = there i here in (
+          set-clean vars (w.variable i) (named (y.next i)) (st_type q.0.type_of) (is_bool_type q.0.type_of) (variable_own i q.0 here q.1) (sort-of-stored q.0.type_of)
+              (name-sort vars (y.next i) (new_type q.0.type_of) (is_bool_type q.0.type_of) (next_own i q.0 here q.1) (sort-of-new vars q.0.type_of)),
+          stores-clean is (λ k h. all k (in-right _ _ h)),
+        )
+
+    -- what the choice does breaks no check, where what follows the stores doesn't
+    pub act-clean : (us : NetUpdates) (k : ℕ) (rest : Stms) → ((i : ℕ) → has (targets us) i ≡ true → V i) → (any_tested n us ≡ true → OwnIs vars y.in_range ty.Bool) → Own k (updates_types n None us) → updates_stand n None us ≡ true
+        → NoAlgs (updates_exprs us) → AllChecked vars rest → AllChecked vars (act n w y k us rest)
+    act-clean us k rest is mark o h none clean = go (any_tested n us) refl
+      where
+        may-stay-is : (i : ℕ) → has (may_stay us) i ≡ true → V i
+        may-stay-is i e = is i (sym (assigned-has us i) ∙ filtered (assigned_vars us) e)
+          where
+            filtered : (vs : List ℕ) → has (filter (λ v. not (has (surely_set us) v)) vs) i ≡ true → has vs i ≡ true
+            filtered [] e = e
+            filtered (v ∷ vs) e = pick (not (has (surely_set us) v)) e (filtered vs)
+              where
+                pick : (b : Bool) → has (cond b (v ∷ filter (λ q. not (has (surely_set us) q)) vs) (filter (λ q. not (has (surely_set us) q)) vs)) i ≡ true
+                    → (has (filter (λ q. not (has (surely_set us) q)) vs) i ≡ true → has vs i ≡ true) → has (v ∷ vs) i ≡ true
+                pick true e rest = either (nat_eq i v) e
+                  where
+                    either : (c : Bool) → (c || has (filter (λ q. not (has (surely_set us) q)) vs) i) ≡ true → (c || has vs i) ≡ true
+                    either true e = refl
+                    either false e = rest e
+                pick false e rest = in-right _ _ (rest e)
+
+        computed-clean : AllChecked vars (computed n w y k us)
+        computed-clean =
+            checked-append vars (stms_of (map (copy w y) (may_stay us))) (writes n w y k us) (copies-clean (may_stay us) may-stay-is)
+            (writes-clean us k (λ i e. is i (subst (λ vs. has vs i ≡ true) (sym (targets-are us)) e)) o h none)
+
+        stored-clean : AllChecked vars (stored w y us rest)
+        stored-clean = checked-append vars (stms_of (map (store w y) (assigned_vars us))) rest (stores-clean (assigned_vars us) (λ i e. is i (sym (assigned-has us i) ∙ e))) clean
+
+        go : (b : Bool) → any_tested n us ≡ b
+            → AllChecked vars (if b then stms (assign y.in_range (truth true)) (append (computed n w y k us) (chosen (branches (named y.in_range) (stored w y us rest) no_branches) no_stms))
+            else append (computed n w y k us) (stored w y us rest))
+        go false t = checked-append vars (computed n w y k us) (stored w y us rest) computed-clean stored-clean
+        go true t = (
+          set-clean vars y.in_range (truth true) ty.Bool true (mark t) refl (refl, refl),
+          checked-append vars (computed n w y k us) (chosen (branches (named y.in_range) (stored w y us rest) no_branches) no_stms) computed-clean
+              (chosen-clean vars (branches (named y.in_range) (stored w y us rest) no_branches) no_stms
+              (branch-clean vars (named y.in_range) (stored w y us rest) no_branches (name-sort vars y.in_range ty.Bool true (mark t) refl) stored-clean
+              record { known = refl; are_boolean = refl; no_faults = λ i. refl }) tt),
+        )
