@@ -18,3 +18,4 @@ pub mod Kept
 pub mod Readying
 pub mod Final
 pub mod Clean
+pub mod Promised

@@ -1,7 +1,7 @@
 //! What is proved of the statements of choices with data, as laws that a proof reads off: each the contract of a function
 //! without a body.
 
-ghost use Rattle.std.specs.Prelude.{◌≡◌, ◌+◌, ◌<◌, ℕ, pos, true, List, [], length, None};
+ghost use Rattle.std.specs.Prelude.{◌≡◌, ◌+◌, ◌-◌, ◌<◌, ◌≤◌, ℕ, pos, true, List, [], length, None};
 ghost use Rattle.std.specs.List.{AllByRecursion};
 ghost use Rattle.grammar.specs.Pieces.{Text};
 ghost use Rattle.cif_system.specs.System.{State};
@@ -15,11 +15,14 @@ ghost use Rattle.cif_model.specs.Meaning.{system_of_net};
 ghost use Rattle.cif_model.specs.Table.{IsGuarded, carried_type};
 ghost use Rattle.st_ast.specs.Tree.{Program};
 ghost use Rattle.st_ast.specs.declared.tree.StTy.TheVariants as ty;
+ghost use Rattle.st_ast.specs.declared.tree.StVar.{StVar};
 ghost use Rattle.plc_face.specs.Face.{IsDeclared};
 ghost use Rattle.plc_face.specs.Frame.{TriesEvent, fired};
 ghost use Rattle.plc_gen.specs.Faces.{face_of_net};
 ghost use Rattle.plc_gen.specs.Small.{are_small};
 ghost use Rattle.plc_gen.specs.Events.{choices_of, event_text, needs_mark};
+ghost use Rattle.plc_expr.specs.Held.{OwnPlaces};
+ghost use Rattle.plc_expr.specs.Safe.{Setting};
 ghost use Rattle.plc_expr.specs.Sorts.{is_boolean, own_types};
 ghost use Rattle.plc_expr.specs.Texts.{Naming, temps};
 ghost use Rattle.plc_act.specs.Writes.{NewNames};
@@ -59,4 +62,11 @@ pub fn parts_with_data_are_tried()
         ((k : Kind) (x : NetExpr) → fits n None k x ≡ true → names_no_alg x ≡ true → AllByRecursion (IsNamed n) (names_in x)) →
         ((s : State) → Promises p.vars (data_naming n received) (setting_of n s (pos 0)) base (ifs_from n (choices_of cs e) j) (ifs_from n (choices_of cs e) j + all_temps (choices_of cs e))) →
         TriesEvent (face_of_net n) (system_of_net n) p (data_part n received j (choices_of cs e)) e }
+{}
+
+/// What is promised of expressions holds where their own variables from a number on stand one after another, each by its number
+/// behind a place.
+pub fn expressions_keep_their_promises()
+    ensures { (vars : List StVar) (w : Naming) (x : Setting) (base low count : ℕ) →
+        low ≤ count → OwnPlaces vars w base low (count - low) → Promises vars w x base low count }
 {}

@@ -4,4 +4,6 @@
 
 mod laws;
 
-pub use laws::{events_with_data_are_tried, parts_with_data_are_tried};
+pub use laws::{
+    events_with_data_are_tried, expressions_keep_their_promises, parts_with_data_are_tried,
+};

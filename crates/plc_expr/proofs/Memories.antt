@@ -36,7 +36,7 @@ set-beside m first z = record { same_length = length-set m first z; others = λ 
 
 -- ---- own variables
 
-module _ (vars : List StVar) (w : Naming) (x : Setting) (base count : ℕ) (own : OwnPlaces vars w base count) (m o : Memory) where
+module _ (vars : List StVar) (w : Naming) (x : Setting) (base low count : ℕ) (own : OwnPlaces vars w base low count) (m o : Memory) where
   -- the own variables with these numbers are the same in both
   abbrev Same : ℕ → ℕ → Type 0
   Same k c = (j : ℕ) → k ≤ j → j < k + c → slice_get o (base + j) ≡ slice_get m (base + j)
@@ -44,63 +44,63 @@ module _ (vars : List StVar) (w : Naming) (x : Setting) (base count : ℕ) (own 
   part : (k c l d : ℕ) → k ≤ l → l + d ≤ k + c → Same k c → Same l d
   part k c l d low high h = λ j p q. h j (omega arith) (omega arith)
 
-  own-kept : (k : ℕ) → k < count → slice_get o (base + k) ≡ slice_get m (base + k) → held_at vars o (w.own k) ≡ held_at vars m (w.own k)
-  own-kept k h e =
-      ap (λ p. slice_index_or o p (pos 0)) (own.place k h) ∙ same-read o m (base + k) e ∙ ap (λ p. slice_index_or m p (pos 0)) (sym (own.place k h))
+  own-kept : (k : ℕ) → low ≤ k → k < low + count → slice_get o (base + k) ≡ slice_get m (base + k) → held_at vars o (w.own k) ≡ held_at vars m (w.own k)
+  own-kept k lo h e =
+      ap (λ p. slice_index_or o p (pos 0)) (own.place k lo h) ∙ same-read o m (base + k) e ∙ ap (λ p. slice_index_or m p (pos 0)) (sym (own.place k lo h))
 
-  two-same : {A B C D : Type 0} (k c d : ℕ) → (k + c ≤ count → Same k c → A → C) → (k + c + d ≤ count → Same (k + c) d → B → D) → k + (c + d) ≤ count → Same k (c + d) → A × B → C × D
-  two-same k c d f g l s h =
-      (f (omega arith) (part k (c + d) k c (omega arith) (omega arith) s) h.0, g (omega arith) (part k (c + d) (k + c) d (omega arith) (omega arith) s) h.1)
+  two-same : {A B C D : Type 0} (k c d : ℕ) → (low ≤ k → k + c ≤ low + count → Same k c → A → C) → (low ≤ k + c → k + c + d ≤ low + count → Same (k + c) d → B → D) → low ≤ k → k + (c + d) ≤ low + count → Same k (c + d) → A × B → C × D
+  two-same k c d f g lo l s h =
+      (f lo (omega arith) (part k (c + d) k c (omega arith) (omega arith) s) h.0, g (omega arith) (omega arith) (part k (c + d) (k + c) d (omega arith) (omega arith) s) h.1)
 
   mutual
-    pub held-same : (k : ℕ) (e : NetExpr) → k + temps e ≤ count → Same k (temps e) → Held vars w x m k e → Held vars w x o k e
-    held-same k (net_expr f at) l s h = form-same k f l s h
+    pub held-same : (k : ℕ) (e : NetExpr) → low ≤ k → k + temps e ≤ low + count → Same k (temps e) → Held vars w x m k e → Held vars w x o k e
+    held-same k (net_expr f at) lo l s h = form-same k f lo l s h
 
-    form-same : (k : ℕ) (f : NetForm) → k + form_temps f ≤ count → Same k (form_temps f) → HeldForm vars w x m k f → HeldForm vars w x o k f
-    form-same k (n_truth b) l s h = tt
-    form-same k (n_number z) l s h = tt
-    form-same k (n_loc a p) l s h = tt
-    form-same k (n_var i) l s h = tt
-    form-same k (n_input i) l s h = tt
-    form-same k (n_alg i) l s h = tt
-    form-same k n_received l s h = tt
-    form-same k (n_minus e) l s h = held-same k e l s h
-    form-same k (n_plus e) l s h = held-same k e l s h
-    form-same k (n_not e) l s h = held-same k e l s h
-    form-same k (n_abs e) l s h = held-same k e l s h
-    form-same k (n_min a b) l s h = two-same k (temps a) (temps b) (held-same k a) (held-same (k + temps a) b) l s h
-    form-same k (n_max a b) l s h = two-same k (temps a) (temps b) (held-same k a) (held-same (k + temps a) b) l s h
-    form-same k (n_sum e es) l s h = two-same k (temps e) (terms_temps es) (held-same k e) (terms-same (k + temps e) es) l s h
-    form-same k (n_product e es) l s h = two-same k (temps e) (factors_temps es) (held-same k e) (factors-same (k + temps e) es) l s h
-    form-same k (n_compare a op b) l s h = two-same k (temps a) (temps b) (held-same k a) (held-same (k + temps a) b) l s h
-    form-same k (n_and es) l s h = list-same k es l s h
-    form-same k (n_or es) l s h = list-same k es l s h
-    form-same k (n_implies a b) l s h = two-same k (temps a) (temps b) (held-same k a) (held-same (k + temps a) b) l s h
-    form-same k (n_iff a b) l s h = two-same k (temps a) (temps b) (held-same k a) (held-same (k + temps a) b) l s h
-    form-same k (n_if bs e) l s h = (
-      branches-same (k + 1) bs (omega arith) (part k (1 + branches_temps bs + temps e) (k + 1) (branches_temps bs) (omega arith) (omega arith) s) h.0,
-      held-same (k + 1 + branches_temps bs) e (omega arith) (part k (1 + branches_temps bs + temps e) (k + 1 + branches_temps bs) (temps e) (omega arith) (omega arith) s) h.1,
-      own-kept k (omega arith) (s k (omega arith) (omega arith)) ∙ h.2,
+    form-same : (k : ℕ) (f : NetForm) → low ≤ k → k + form_temps f ≤ low + count → Same k (form_temps f) → HeldForm vars w x m k f → HeldForm vars w x o k f
+    form-same k (n_truth b) lo l s h = tt
+    form-same k (n_number z) lo l s h = tt
+    form-same k (n_loc a p) lo l s h = tt
+    form-same k (n_var i) lo l s h = tt
+    form-same k (n_input i) lo l s h = tt
+    form-same k (n_alg i) lo l s h = tt
+    form-same k n_received lo l s h = tt
+    form-same k (n_minus e) lo l s h = held-same k e lo l s h
+    form-same k (n_plus e) lo l s h = held-same k e lo l s h
+    form-same k (n_not e) lo l s h = held-same k e lo l s h
+    form-same k (n_abs e) lo l s h = held-same k e lo l s h
+    form-same k (n_min a b) lo l s h = two-same k (temps a) (temps b) (held-same k a) (held-same (k + temps a) b) lo l s h
+    form-same k (n_max a b) lo l s h = two-same k (temps a) (temps b) (held-same k a) (held-same (k + temps a) b) lo l s h
+    form-same k (n_sum e es) lo l s h = two-same k (temps e) (terms_temps es) (held-same k e) (terms-same (k + temps e) es) lo l s h
+    form-same k (n_product e es) lo l s h = two-same k (temps e) (factors_temps es) (held-same k e) (factors-same (k + temps e) es) lo l s h
+    form-same k (n_compare a op b) lo l s h = two-same k (temps a) (temps b) (held-same k a) (held-same (k + temps a) b) lo l s h
+    form-same k (n_and es) lo l s h = list-same k es lo l s h
+    form-same k (n_or es) lo l s h = list-same k es lo l s h
+    form-same k (n_implies a b) lo l s h = two-same k (temps a) (temps b) (held-same k a) (held-same (k + temps a) b) lo l s h
+    form-same k (n_iff a b) lo l s h = two-same k (temps a) (temps b) (held-same k a) (held-same (k + temps a) b) lo l s h
+    form-same k (n_if bs e) lo l s h = (
+      branches-same (k + 1) bs (omega arith) (omega arith) (part k (1 + branches_temps bs + temps e) (k + 1) (branches_temps bs) (omega arith) (omega arith) s) h.0,
+      held-same (k + 1 + branches_temps bs) e (omega arith) (omega arith) (part k (1 + branches_temps bs + temps e) (k + 1 + branches_temps bs) (temps e) (omega arith) (omega arith) s) h.1,
+      own-kept k lo (omega arith) (s k (omega arith) (omega arith)) ∙ h.2,
     )
 
-    terms-same : (k : ℕ) (es : NetTerms) → k + terms_temps es ≤ count → Same k (terms_temps es) → HeldTerms vars w x m k es → HeldTerms vars w x o k es
-    terms-same k no_net_terms l s h = tt
-    terms-same k (net_terms t e es) l s h = two-same k (temps e) (terms_temps es) (held-same k e) (terms-same (k + temps e) es) l s h
+    terms-same : (k : ℕ) (es : NetTerms) → low ≤ k → k + terms_temps es ≤ low + count → Same k (terms_temps es) → HeldTerms vars w x m k es → HeldTerms vars w x o k es
+    terms-same k no_net_terms lo l s h = tt
+    terms-same k (net_terms t e es) lo l s h = two-same k (temps e) (terms_temps es) (held-same k e) (terms-same (k + temps e) es) lo l s h
 
-    factors-same : (k : ℕ) (es : NetFactors) → k + factors_temps es ≤ count → Same k (factors_temps es) → HeldFactors vars w x m k es → HeldFactors vars w x o k es
-    factors-same k no_net_factors l s h = tt
-    factors-same k (net_factors op e es) l s h = two-same k (temps e) (factors_temps es) (held-same k e) (factors-same (k + temps e) es) l s h
+    factors-same : (k : ℕ) (es : NetFactors) → low ≤ k → k + factors_temps es ≤ low + count → Same k (factors_temps es) → HeldFactors vars w x m k es → HeldFactors vars w x o k es
+    factors-same k no_net_factors lo l s h = tt
+    factors-same k (net_factors op e es) lo l s h = two-same k (temps e) (factors_temps es) (held-same k e) (factors-same (k + temps e) es) lo l s h
 
-    list-same : (k : ℕ) (es : NetExprs) → k + list_temps es ≤ count → Same k (list_temps es) → HeldList vars w x m k es → HeldList vars w x o k es
-    list-same k no_net_exprs l s h = tt
-    list-same k (net_exprs e es) l s h = two-same k (temps e) (list_temps es) (held-same k e) (list-same (k + temps e) es) l s h
+    list-same : (k : ℕ) (es : NetExprs) → low ≤ k → k + list_temps es ≤ low + count → Same k (list_temps es) → HeldList vars w x m k es → HeldList vars w x o k es
+    list-same k no_net_exprs lo l s h = tt
+    list-same k (net_exprs e es) lo l s h = two-same k (temps e) (list_temps es) (held-same k e) (list-same (k + temps e) es) lo l s h
 
-    pub branches-same : (k : ℕ) (bs : NetBranches) → k + branches_temps bs ≤ count → Same k (branches_temps bs) → HeldBranches vars w x m k bs → HeldBranches vars w x o k bs
-    branches-same k no_net_branches l s h = tt
-    branches-same k (net_branches c e bs) l s h = (
-      held-same k c (omega arith) (part k (temps c + temps e + branches_temps bs) k (temps c) (omega arith) (omega arith) s) h.0,
-      held-same (k + temps c) e (omega arith) (part k (temps c + temps e + branches_temps bs) (k + temps c) (temps e) (omega arith) (omega arith) s) h.1,
-      branches-same (k + temps c + temps e) bs (omega arith) (part k (temps c + temps e + branches_temps bs) (k + temps c + temps e) (branches_temps bs) (omega arith) (omega arith) s) h.2,
+    pub branches-same : (k : ℕ) (bs : NetBranches) → low ≤ k → k + branches_temps bs ≤ low + count → Same k (branches_temps bs) → HeldBranches vars w x m k bs → HeldBranches vars w x o k bs
+    branches-same k no_net_branches lo l s h = tt
+    branches-same k (net_branches c e bs) lo l s h = (
+      held-same k c lo (omega arith) (part k (temps c + temps e + branches_temps bs) k (temps c) (omega arith) (omega arith) s) h.0,
+      held-same (k + temps c) e (omega arith) (omega arith) (part k (temps c + temps e + branches_temps bs) (k + temps c) (temps e) (omega arith) (omega arith) s) h.1,
+      branches-same (k + temps c + temps e) bs (omega arith) (omega arith) (part k (temps c + temps e + branches_temps bs) (k + temps c + temps e) (branches_temps bs) (omega arith) (omega arith) s) h.2,
     )
 
   -- changed are those from the l-th on, after these

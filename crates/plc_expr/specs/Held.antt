@@ -83,10 +83,10 @@ abbrev mutual
   HeldBranches vars w x m k (net_branches c e bs) =
       Held vars w x m k c × Held vars w x m (k + temps c) e × HeldBranches vars w x m (k + temps c + temps e) bs
 
--- the own variables stand one after another from `base` on, and hold any number
-pub record OwnPlaces (vars : List StVar) (w : Naming) (base count : ℕ) : Type 0 where
-  pub place : (k : ℕ) → k < count → place_of vars (w.own k) ≡ base + k
-  pub holds_any : (k : ℕ) → k < count → (z : ℤ) → is_within (type_at vars (base + k)) z ≡ true
+-- the own variables from `low` on, `count` of them, stand one after another, each by its number behind `base`, and hold any number
+pub record OwnPlaces (vars : List StVar) (w : Naming) (base low count : ℕ) : Type 0 where
+  pub place : (k : ℕ) → low ≤ k → k < low + count → place_of vars (w.own k) ≡ base + k
+  pub holds_any : (k : ℕ) → low ≤ k → k < low + count → (z : ℤ) → is_within (type_at vars (base + k)) z ≡ true
 
 -- ---- runs
 

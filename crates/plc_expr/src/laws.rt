@@ -34,9 +34,9 @@ pub fn texts_have_the_value()
 /// alone, and these then hold what they are to hold; the names are read as they are in the setting, whatever the own
 /// variables hold.
 pub fn statements_before_a_text_prepare_it()
-    ensures { (vars : List StVar) (w : Naming) (x : Setting) (base count k : ℕ) (e : NetExpr) (turns : ℕ) (m : Memory) →
-        OwnPlaces vars w base count → base + count ≤ length m → k + temps e ≤ count →
-        ((o : Memory) → IsBeside base count m o → Reads vars w x o e) → IsSafe x e →
+    ensures { (vars : List StVar) (w : Naming) (x : Setting) (base low count k : ℕ) (e : NetExpr) (turns : ℕ) (m : Memory) →
+        OwnPlaces vars w base low count → base + low + count ≤ length m → low ≤ k → k + temps e ≤ low + count →
+        ((o : Memory) → IsBeside (base + low) count m o → Reads vars w x o e) → IsSafe x e →
         Prepares vars w x base k e turns m }
 {}
 
