@@ -2,7 +2,7 @@
 
 use crate::commands::tool_case;
 use crate::laws::laws_case;
-use crate::nets::{emit_case, form_case, load_case};
+use crate::nets::{emit_case, form_case, frame_case, load_case, widths_case};
 use crate::scopes::{find_case, scopes_case};
 use crate::sources::{copy_case, source_case};
 use crate::tokens::front_case;
@@ -20,6 +20,8 @@ impl Calls for CifCalls {
             "form" => form_case(fields, page),
             "load" => load_case(fields, page),
             "emit" => emit_case(fields, page),
+            "frame" => frame_case(fields, page),
+            "widths" => widths_case(fields, page),
             "uses" => uses_case(fields, page),
             "scopes" | "resolve" => scopes_case(call, fields, page),
             "find" => find_case(fields, page),

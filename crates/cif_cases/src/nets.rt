@@ -1,17 +1,20 @@
 //! Cases of nets: sources of the forms that are built, their nets with the choices of all events, and their programs.
 
-ghost use Rattle.std.specs.Prelude.{◌≡◌, ◌≤◌, true, length, IfOk};
-ghost use Rattle.cif_net.specs.View.{net_tree};
-ghost use Rattle.plc_gen.specs.Makes.{is_dataless};
+ghost use Rattle.std.specs.Prelude.{◌≡◌, ◌≤◌, [], map, true, length, IfOk};
+ghost use Rattle.cif_model.specs.Table.{IsGuarded};
+ghost use Rattle.cif_net.specs.View.{choice_tree, net_tree};
+ghost use Rattle.plc_gen.specs.Makes.{is_dataless, needs_tests_alone};
 
 use crate::sources::{put_no_tree, spec_of};
 use case_text::{Fault, Fields, Put, put_lines, put_text};
-use cif_base::Text;
+use cif_base::{Items, Memory, Text};
 use cif_form::misfit;
 use cif_front::{Refusal, load};
-use cif_net::{Auto, Choice, Class, Event, Guarded, Move, NetEdge, State};
+use cif_measure::{check_intervals, depth_of};
+use cif_net::{Auto, Choice, Class, Event, Guarded, Move, Net, NetEdge, State};
 use plc_back::generate_text;
-use plc_gen::Bounds;
+use plc_gen::{Bounds, emit, frame};
+use st_print::print;
 use std::alloc::Global;
 
 /// The most bytes of a source that is loaded.
@@ -58,6 +61,24 @@ fn put_guarded(alloc: Global, page: &mut String, guarded: &Guarded) -> Result<()
     put_choices(page, guarded.choices.as_slice())?;
     let state = State::initial(alloc, net)?;
     Ok(put_numbers(page, "  starts in", state.locs.as_slice())?)
+}
+
+/// `widths TEXT`: whether the expressions of the net of a source divide by no 0 and stay in 64 bits, and how deep they are.
+pub fn widths_case(fields: &Fields<'_>, page: &mut String) -> Result<(), Fault> {
+    let text = fields.text()?;
+    match loaded(fields.alloc, text.as_slice())? {
+        Err(refusal) => Ok(writeln!(page, "  {refusal:?}")?),
+        Ok(guarded) => put_widths(fields.alloc, page, &guarded.plain.net),
+    }
+}
+
+fn put_widths(alloc: Global, page: &mut String, net: &Net) -> Result<(), Fault> {
+    if !net.algs.is_empty() {
+        return Err(Fault::Form("a source without algebraic variables is wanted"));
+    }
+    let widths = check_intervals(alloc, net);
+    let depth = depth_of(net);
+    Ok(writeln!(page, "  {widths:?}, depth {depth}")?)
 }
 
 fn put_events(page: &mut String, events: &[Event]) -> Put {
@@ -140,8 +161,11 @@ fn put_choices(page: &mut String, choices: &[Choice]) -> Put {
     Ok(())
 }
 
-/// `emit TEXT | UNC CON`: the program of a source, with these most rounds.
-pub fn emit_case(fields: &Fields<'_>, page: &mut String) -> Result<(), Fault> {
+/// The bounds of the rounds that the field after the text has.
+fn bounds_of(fields: &Fields<'_>) -> Result<Bounds, Fault>
+    ensures unc { IfOk result (λ b. b.unc ≤ 10000) }
+    ensures con { IfOk result (λ b. b.con ≤ 10000) }
+{
     let numbers = fields.numbers(fields.written(1))?;
     let [unc, con] = numbers.as_slice() else {
         return Err(Fault::Form("two bounds are wanted"));
@@ -150,8 +174,61 @@ pub fn emit_case(fields: &Fields<'_>, page: &mut String) -> Result<(), Fault> {
     if unc > MOST_ROUNDS || con > MOST_ROUNDS {
         return Err(Fault::Form("a bound is at most 10000"));
     }
+    Ok(Bounds { unc, con })
+}
+
+/// `emit TEXT | UNC CON`: the program of a source, with these most rounds.
+pub fn emit_case(fields: &Fields<'_>, page: &mut String) -> Result<(), Fault> {
+    let bounds = bounds_of(fields)?;
     let text = fields.text()?;
-    put_program(fields.alloc, page, text.as_slice(), Bounds { unc, con })
+    put_program(fields.alloc, page, text.as_slice(), bounds)
+}
+
+/// `frame TEXT | UNC CON`: the frame round the statements of no event, for a source without events.
+pub fn frame_case(fields: &Fields<'_>, page: &mut String) -> Result<(), Fault> {
+    let bounds = bounds_of(fields)?;
+    let text = fields.text()?;
+    match loaded(fields.alloc, text.as_slice())? {
+        Err(refusal) => Ok(writeln!(page, "  {refusal:?}")?),
+        Ok(guarded) => {
+            if !guarded.plain.net.events.is_empty() {
+                return Err(Fault::Form("a source without events is wanted"));
+            }
+            let program = framed(fields.alloc, &guarded, bounds)?;
+            Ok(put_lines(page, "program", program.as_slice())?)
+        }
+    }
+}
+
+/// The text of the frame of a net without events.
+fn framed(alloc: Global, guarded: &Guarded, bounds: Bounds) -> Result<Vec<u8>, Memory>
+    requires data { is_dataless (net_tree guarded.now.plain.net) ≡ true }
+    requires events { (net_tree guarded.now.plain.net).events ≡ [] }
+    requires unc { bounds.unc ≤ 10000 }
+    requires con { bounds.con ≤ 10000 }
+{
+    let net = &guarded.plain.net;
+    let choices = guarded.choices.as_slice();
+    framed_text(alloc, net, choices, bounds)
+}
+
+fn framed_text(
+    alloc: Global,
+    net: &Net,
+    choices: &[Choice],
+    bounds: Bounds,
+) -> Result<Vec<u8>, Memory>
+    requires guarded { IsGuarded (net_tree net.now) (map choice_tree choices.now) }
+    requires tests { needs_tests_alone (net_tree net.now) (map choice_tree choices.now) ≡ true }
+    requires events { (net_tree net.now).events ≡ [] }
+    requires unc { bounds.unc ≤ 10000 }
+    requires con { bounds.con ≤ 10000 }
+{
+    // That the program of the net could be emitted tells that its enumerations are small.
+    let _emitted = emit(alloc, net, choices, bounds)?;
+    let parts = Items::new(alloc);
+    let program = frame(alloc, net, bounds, parts)?;
+    print(alloc, &program)
 }
 
 /// The program of a source, or why there is none.

@@ -1,0 +1,19 @@
+//! The calls that a case may make.
+
+use crate::intervals::interval_case;
+use crate::rules::{rules_case, value_case};
+use case_text::{Calls, Fault, Fields};
+
+/// The calls of this program.
+pub struct DataCalls;
+
+impl Calls for DataCalls {
+    fn answer(&self, call: &str, fields: &Fields<'_>, page: &mut String) -> Result<(), Fault> {
+        match call {
+            "interval" => interval_case(fields, page),
+            "rules" => rules_case(fields, page),
+            "value" => value_case(fields, page),
+            _ => Err(Fault::Form("no such call")),
+        }
+    }
+}

@@ -1,0 +1,26 @@
+//! Cases of expressions, and of the rules on kinds, constants and updates, as data: asks the public calls of the libraries what
+//! the standard input says, and prints what they answer. The file `stdout` beside this crate has the expected answers, which are
+//! never taken from a run. `case_text` says how lines and texts are written.
+//!
+//! The calls:
+//!
+//! - `interval NUMBERS | EXPR`: the interval, the size and the depth of an expression, in which `a` is the first variable, `b` the
+//!   second and so on; the numbers are the lower and the upper bound of what is received, and then those of each variable;
+//! - `rules TEXT`: what the rules on constants, on assigned variables and on definitions of algebraic variables say of a source, and
+//!   the kind of each name of each of its bodies, with the lists of literals by their numbers;
+//! - `value TEXT`: the value of the constant that a source declares last, in which each name of a constant has the value 0.
+#![tactic(auto)]
+
+mod calls;
+mod expressions;
+mod intervals;
+mod rules;
+mod sources;
+
+use crate::calls::DataCalls;
+use case_text::run;
+use std::process::ExitCode;
+
+fn main(rt: HostRuntime) -> ExitCode {
+    run(&rt, &DataCalls)
+}
