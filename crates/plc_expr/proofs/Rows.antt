@@ -1,5 +1,5 @@
 -- The texts of expressions, one for each form: what is computed is what an engineer would write.
-use Rattle.std.proofs.Common.{◌≡◌, ℕ, pos, negsuc, true, false, ◌∷◌, refl}
+use Rattle.std.proofs.Common.{◌≡◌, ℕ, pos, negsuc, true, false, ◌∷◌, ◌++◌, refl}
 use Rattle.std.specs.Prelude.{codes, decimal}
 use Rattle.std.specs.Fmt.{digits}
 use Rattle.grammar.specs.Pieces.{Text}
@@ -14,7 +14,7 @@ name l k = l ∷ decimal k
 
 abbrev w : Naming
 w = record {
-  located = λ a p. equal (named (name 76 a)) true (number (pos p));
+  located = λ a p. equal (named (name 76 a ++ codes "_A")) true (number (pos p));
   variable = λ k. name 86 k;
   input = λ k. name 72 k;
   received = codes "S";
@@ -44,7 +44,7 @@ abbrev at_2 : NetExpr
 at_2 = e (n_loc 1 2)
 
 abbrev At_2 : Expr
-At_2 = equal (named (codes "L1")) true (number (pos 2))
+At_2 = equal (named (codes "L1_A")) true (number (pos 2))
 
 abbrev one : NetExpr
 one = e (n_number (pos 1))
@@ -100,7 +100,7 @@ nots : shown (n_not x) ≡ complement X
 unfolding digits
 nots = refl
 
--- NOT (L1 = 2)
+-- NOT (L1_A = 2)
 nots_of_tests : shown (n_not at_2) ≡ complement (paren At_2)
 unfolding digits
 nots_of_tests = refl
@@ -182,19 +182,19 @@ at_least : shown (n_compare x ge y) ≡ order X cmp.Ge Y
 unfolding digits
 at_least = refl
 
--- V0 = (L1 = 2)
+-- V0 = (L1_A = 2)
 equal_tests : shown (n_compare x eq at_2) ≡ equal X true (paren At_2)
 unfolding digits
 equal_tests = refl
 
 -- ---- truth
 
--- L1 = 2 AND V0 < H1
+-- L1_A = 2 AND V0 < H1
 ands : shown (n_and (net_exprs at_2 (net_exprs (e (n_truth true)) (net_exprs (e (n_compare x lt y)) no_net_exprs)))) ≡ all_of (exprs At_2 (exprs (order X cmp.Lt Y) no_exprs))
 unfolding digits
 ands = refl
 
--- L1 = 2 OR (V0 AND H1)
+-- L1_A = 2 OR (V0 AND H1)
 ors : shown (n_or (net_exprs at_2 (net_exprs (e (n_truth false)) (net_exprs (e (n_and (net_exprs x (net_exprs y no_net_exprs)))) no_net_exprs))))
     ≡ any_of (exprs At_2 (exprs (paren (all_of (exprs X (exprs Y no_exprs)))) no_exprs))
 unfolding digits
@@ -203,7 +203,7 @@ ors = refl
 false_alone : shown (n_or (net_exprs (e (n_truth false)) no_net_exprs)) ≡ truth false
 false_alone = refl
 
--- NOT (L1 = 2) OR V0
+-- NOT (L1_A = 2) OR V0
 implications : shown (n_implies at_2 x) ≡ any_of (exprs (complement (paren At_2)) (exprs X no_exprs))
 unfolding digits
 implications = refl
@@ -216,14 +216,14 @@ false_implies : shown (n_implies (e (n_truth false)) x) ≡ truth true
 unfolding digits
 false_implies = refl
 
--- (L1 = 2) = V0
+-- (L1_A = 2) = V0
 equivalences : shown (n_iff at_2 x) ≡ equal (paren At_2) true X
 unfolding digits
 equivalences = refl
 
 -- ---- if
 
--- T5, where IF L1 = 2 THEN T5 := 1; ELSE T5 := V0; END_IF; stands before
+-- T5, where IF L1_A = 2 THEN T5 := 1; ELSE T5 := V0; END_IF; stands before
 ifs : text w 5 if_at_2 ≡ named (codes "T5")
 unfolding digits
 ifs = refl
