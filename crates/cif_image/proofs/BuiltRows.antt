@@ -6,8 +6,8 @@ use Rattle.cif_ast.specs.declared.declarations.Class.TheVariants as class
 use Rattle.cif_source.specs.Source.{no_type, syncs, event_decl, decl_item, component_item, group_body, automaton_body, Source}
 use Rattle.cif_source.proofs.Terms.{word, dotted, event_use, edge_by, place, behaviour, source_list}
 use Rattle.cif_source.proofs.Rows.{two_classes, counter, invariant, frames}
-use Rattle.cif_image.specs.Built.{has_no_definitions, has_no_data, has_no_channels, has_no_invariants, is_flat}
-use Rattle.cif_image.proofs.Trees.{channel, classless, fixed, monitored}
+use Rattle.cif_image.specs.Built.{has_no_definitions, has_no_data, has_no_channels, has_no_invariants, has_no_algebra, has_no_received, is_built, is_flat}
+use Rattle.cif_image.proofs.Trees.{channel, classless, circular, fixed, monitored, safe_division, swap}
 
 two_classes_is_flat : is_flat two_classes ≡ true
 two_classes_is_flat = refl
@@ -55,3 +55,29 @@ invariant_has_invariants = refl
 -- alphabets and monitors
 monitored_is_flat : is_flat monitored ≡ true
 monitored_is_flat = refl
+
+-- data is built
+counter_is_built : is_built counter ≡ true
+counter_is_built = refl
+
+swap_is_built : is_built swap ≡ true
+swap_is_built = refl
+
+division_is_built : is_built safe_division ≡ true
+division_is_built = refl
+
+fixed_is_built : is_built fixed ≡ true
+fixed_is_built = refl
+
+monitored_is_built : is_built monitored ≡ true
+monitored_is_built = refl
+
+-- an algebraic variable, and a `?`
+circular_has_algebra : has_no_algebra circular ≡ false
+circular_has_algebra = refl
+
+channel_receives : has_no_received channel ≡ false
+channel_receives = refl
+
+channel_is_not_built : is_built channel ≡ false
+channel_is_not_built = refl

@@ -2,9 +2,10 @@
 use Rattle.std.specs.Prelude.{Bool, true, false, ◌&&◌, List, [], ◌∷◌}
 use Rattle.std.specs.List.{list_all}
 use Rattle.cif_ast.specs.Tree.{UpdateTrees, no_updates, updates}
-use Rattle.cif_source.specs.Source.{no_type, void_type, value_type, syncs, sends, receives, UseTree, EdgeTree, LocationTree, DeclTree, event_decl, invariant_decl, SourceItem, decl_item, component_item, definition_item, instance_item, SourceBody, Source}
+use Rattle.cif_source.specs.Source.{no_type, void_type, value_type, syncs, sends, receives, UseTree, EdgeTree, LocationTree, DeclTree, event_decl, alg_decl, input_decl, equation_decl, invariant_decl, SourceItem, decl_item, component_item, definition_item, instance_item, SourceBody, Source}
 use Rattle.cif_source.specs.Components.{body_of}
 use Rattle.cif_source.specs.Objects.{bodies, items_in, decls_in, locs_in}
+use Rattle.cif_image.specs.Received.{decl_without, location_without}
 
 -- ---- tests of all bodies
 
@@ -78,7 +79,30 @@ is_no_invariant _ = true
 abbrev pub has_no_invariants : Source → Bool
 has_no_invariants t = every_decl is_no_invariant t
 
+-- ---- inputs, algebraic variables and their equations
+
+abbrev pub is_no_algebra : DeclTree → Bool
+is_no_algebra (alg_decl ty n e) = false
+is_no_algebra (input_decl ty n) = false
+is_no_algebra (equation_decl q) = false
+is_no_algebra _ = true
+
+abbrev pub has_no_equations : LocationTree → Bool
+has_no_equations l = is_nothing l.equations
+
+abbrev pub has_no_algebra : Source → Bool
+has_no_algebra t = every_decl is_no_algebra t && every_location has_no_equations t
+
+-- ---- received values
+
+abbrev pub has_no_received : Source → Bool
+has_no_received t = every_decl decl_without t && every_location location_without t
+
 -- ---- all
+
+-- groups and automata with events, locations and edges, discrete variables, constants, types, guards, updates and marking predicates
+abbrev pub is_built : Source → Bool
+is_built t = has_no_definitions t && has_no_algebra t && has_no_channels t && has_no_invariants t && has_no_received t
 
 -- the forms that are built: groups and automata with events, locations and edges
 abbrev pub is_flat : Source → Bool
