@@ -1,0 +1,106 @@
+-- What holds in the body of a component holds in its declarations and its edges, and bounds what its edges assign.
+use Rattle.std.proofs.Common.{◌≡◌, ℕ, ◌<◌, inl, inr, List, [], ◌∷◌, map, length, sym, subst, arith}
+use Rattle.std.specs.Prelude.{flat_map}
+use Rattle.std.specs.List.{AllByRecursion, sum_by}
+use Rattle.std.proofs.lemmas.List.Sums.{sum_by-cons}
+use Rattle.cif_ast.specs.Tree.{Tree, declaration, component, definition, instance, ItemTrees, no_items, items, BodyTree, group, automaton}
+use Rattle.cif_ast.specs.View.{view}
+use Rattle.cif_ast.specs.Throughout.{HoldsInTree, HoldsInUpdateTrees, HoldsInExpr, HoldsInDecl, HoldsInEdge, HoldsInLoc, HoldsInItemTrees, HoldsInBodyTree}
+use Rattle.cif_ast.specs.Countable.{count_of_edge, count_of_loc, count_of_body_tree}
+use Rattle.cif_ast.specs.SmallNumbers.{AreFewLiterals, small_parts}
+use Rattle.cif_ast.specs.declared.names.Ident.{Ident}
+use Rattle.cif_ast.specs.declared.expressions.Expr.{Expr}
+use Rattle.cif_ast.specs.declared.declarations.Decl.{Decl}
+use Rattle.cif_ast.specs.declared.declarations.Decl.TheVariants as decl
+use Rattle.cif_ast.specs.declared.edges.Edge.{Edge}
+use Rattle.cif_ast.specs.declared.edges.Loc.{Loc}
+use Rattle.cif_system.specs.Words.{Member}
+use Rattle.cif_system.proofs.Distinct.{member-append}
+use Rattle.cif_source.specs.Source.{EdgeTree, edge_tree, LocationTree, location_tree, enum_decl, decl_tree, source_items, source_body, list_of_items}
+use Rattle.cif_source.specs.Objects.{item_decls, decls_in, locs_in}
+use Rattle.cif_rules.specs.BodyRules.{targets_of_all}
+use Rattle.cif_small.proofs.UpdateLaws.{holds-view_updates, assigned-counted}
+
+-- ---- declarations
+
+decl-literals : (d : Decl) → HoldsInDecl small_parts d → (n : Ident) (ls : List Ident) → enum_decl n ls ≡ decl_tree d → AreFewLiterals ls
+decl-literals (decl.TypeName name ty) h n ls e = cc
+decl-literals (decl.Enum name literals) h n ls e = let same : literals ≡ ls = cc in subst AreFewLiterals same h
+decl-literals (decl.Event class c name) h n ls e = cc
+decl-literals (decl.Const ty name value) h n ls e = cc
+decl-literals (decl.Alg ty name value) h n ls e = cc
+decl-literals (decl.Input ty name) h n ls e = cc
+decl-literals (decl.Disc ty name value) h n ls e = cc
+decl-literals (decl.Equation name value) h n ls e = cc
+decl-literals (decl.Inv i) h n ls e = cc
+decl-literals (decl.Marked p) h n ls e = cc
+
+decls-literals : (ds : List Decl) → AllByRecursion (HoldsInDecl small_parts) ds → (n : Ident) (ls : List Ident) → Member (enum_decl n ls) (map decl_tree ds) → AreFewLiterals ls
+decls-literals [] h n ls m = absurd m
+decls-literals (d ∷ ds) h n ls m = elim m [ inl e ↦ decl-literals d h.0 n ls e | inr r ↦ decls-literals ds h.1 n ls r ]
+
+items-literals : (is : ItemTrees) → HoldsInItemTrees small_parts is → (n : Ident) (ls : List Ident)
+    → Member (enum_decl n ls) (flat_map item_decls (list_of_items (source_items is))) → AreFewLiterals ls
+items-literals no_items h n ls m = absurd m
+items-literals (items (declaration d) is) h n ls m = elim m [ inl e ↦ decl-literals d h.0 n ls e | inr r ↦ items-literals is h.1 n ls r ]
+items-literals (items (component x b) is) h n ls m = items-literals is h.1 n ls m
+items-literals (items (definition x ps b) is) h n ls m = items-literals is h.1 n ls m
+items-literals (items (instance i) is) h n ls m = items-literals is h.1 n ls m
+
+-- the enumerations of a body
+pub body-literals : (b : BodyTree) → HoldsInBodyTree small_parts b → (n : Ident) (ls : List Ident) → Member (enum_decl n ls) (decls_in (source_body b)) → AreFewLiterals ls
+body-literals (group is) h n ls m = items-literals is h n ls m
+body-literals (automaton a) h n ls m = decls-literals a.decls h.0 n ls m
+
+-- ---- edges
+
+-- an edge that is written, in which small parts stand, and that assigns fewer names than the limit
+pub record IsSmallEdge (limit : ℕ) (x : EdgeTree) : Type 0 where
+  pub written : Edge
+  pub is : x ≡ edge_tree written
+  pub holds : HoldsInEdge small_parts written
+  pub few : count_of_edge written < limit
+
+edges-small : (limit : ℕ) (es : List Edge) → AllByRecursion (HoldsInEdge small_parts) es → sum_by count_of_edge es < limit
+    → (x : EdgeTree) → Member x (map edge_tree es) → IsSmallEdge limit x
+edges-small limit [] h f x m = absurd m
+edges-small limit (e ∷ es) h f x m =
+    let sum = sum_by-cons count_of_edge e es in
+    elim m [
+      | inl same ↦ record { written = e; is = same; holds = h.0; few = omega arith }
+      | inr r ↦ edges-small limit es h.1 (omega arith) x r
+    ]
+
+locs-small : (limit : ℕ) (ls : List Loc) → AllByRecursion (HoldsInLoc small_parts) ls → sum_by count_of_loc ls < limit
+    → (x : EdgeTree) → Member x (flat_map (λ (l : LocationTree). l.edges) (map location_tree ls)) → IsSmallEdge limit x
+locs-small limit [] h f x m = absurd m
+locs-small limit (l ∷ ls) h f x m =
+    let sum = sum_by-cons count_of_loc l ls in
+    elim (member-append x (map edge_tree l.edges) (flat_map (λ (l : LocationTree). l.edges) (map location_tree ls)) m) [
+      | inl r ↦ edges-small limit l.edges h.0.2 (omega arith) x r
+      | inr r ↦ locs-small limit ls h.1 (omega arith) x r
+    ]
+
+-- the edges of a body
+pub body-edges : (limit : ℕ) (b : BodyTree) → HoldsInBodyTree small_parts b → count_of_body_tree b < limit
+    → (x : EdgeTree) → Member x (flat_map (λ (l : LocationTree). l.edges) (locs_in (source_body b))) → IsSmallEdge limit x
+body-edges limit (group is) h f x m = absurd m
+body-edges limit (automaton a) h f x m = locs-small limit a.locs h.3 (omega arith) x m
+
+-- ---- in an edge
+
+exprs-hold : (es : List Expr) → AllByRecursion (HoldsInExpr small_parts) es → (e : Tree) → Member e (map view es) → HoldsInTree small_parts e
+exprs-hold [] h e m = absurd m
+exprs-hold (x ∷ es) h e m = elim m [ inl same ↦ subst (HoldsInTree small_parts) (sym same) h.0.0 | inr r ↦ exprs-hold es h.1 e r ]
+
+module _ (limit : ℕ) (x : EdgeTree) (small : IsSmallEdge limit x) where
+  pub edge-guards : (e : Tree) → Member e x.guards → HoldsInTree small_parts e
+  edge-guards e m = exprs-hold small.written.guards small.holds.1 e (subst (λ (y : EdgeTree). Member e y.guards) small.is m)
+
+  pub edge-updates : HoldsInUpdateTrees small_parts x.updates
+  edge-updates = subst (λ (y : EdgeTree). HoldsInUpdateTrees small_parts y.updates) (sym small.is) (holds-view_updates small_parts small.written.updates small.holds.2)
+
+  pub edge-few : length (targets_of_all x.updates) < limit
+  edge-few =
+      let P : EdgeTree → Type 0 = λ y. length (targets_of_all y.updates) < limit in
+      subst P (sym small.is) (omega (arith, assigned-counted small.written.updates, small.few))

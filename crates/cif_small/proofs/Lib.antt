@@ -1,0 +1,3 @@
+pub mod UpdateLaws
+pub mod BodyLaws
+pub mod SmallLaws
