@@ -1,0 +1,5 @@
+use Rattle.cif_fits.proofs.FitLaws.{expressions-fit}
+use Rattle.cif_fits.proofs.laws.expressions_keep_their_kinds.Goals as goal
+
+pub returns : goal.returns
+returns c = expressions-fit

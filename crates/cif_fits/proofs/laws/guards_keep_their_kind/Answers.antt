@@ -1,0 +1,5 @@
+use Rattle.cif_fits.proofs.FitLaws.{guards-fit}
+use Rattle.cif_fits.proofs.laws.guards_keep_their_kind.Goals as goal
+
+pub returns : goal.returns
+returns c = λ t d at all built keeps small m. guards-fit t d built keeps small m at all

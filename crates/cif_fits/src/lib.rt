@@ -1,0 +1,7 @@
+//! That the expressions of a CIF source keep their kinds in its flat net, as laws for the crates above (CIF 3 language
+//! reference, "Expressions", "Types").
+#![tactic(auto)]
+
+mod laws;
+
+pub use laws::{conditions_keep_their_kind, expressions_keep_their_kinds, guards_keep_their_kind};
