@@ -1,0 +1,119 @@
+-- The alphabets of a net have events of the net, and the events that an automaton monitors or synchronises on.
+use Rattle.std.proofs.Common.{◌≡◌, ℕ, ◌<◌, true, false, inl, inr, List, [], ◌∷◌, ◌++◌, length, map, Option, Some, None, refl, sym, ◌∙◌, ap, subst, arith}
+use Rattle.std.specs.Prelude.{not, nat_eq, flat_map, unwrap_or, IsTrue, if◌then◌else◌}
+use Rattle.std.specs.List.{list_all, Any, cons_option}
+use Rattle.cif_ast.specs.declared.names.Name.{Name}
+use Rattle.cif_system.specs.Words.{Member}
+use Rattle.cif_system.specs.System.{syncing}
+use Rattle.cif_system.specs.Step.{same_role}
+use Rattle.cif_system.proofs.Picks.{append-left, append-right, map-member}
+use Rattle.cif_system.proofs.Distinct.{member-map}
+use Rattle.cif_model.specs.Facts.{has}
+use Rattle.cif_source.specs.Source.{syncs, AutomatonTree, automaton_body, Source}
+use Rattle.cif_source.specs.Components.{Component, body_of}
+use Rattle.cif_source.specs.Lookup.{denotes}
+use Rattle.cif_source.specs.Objects.{automata, bodies, EventEdge, event_edges, events}
+use Rattle.cif_source.specs.Uses.{uses}
+use Rattle.cif_source.specs.Step.{event_at, role_of, synchronises}
+use Rattle.cif_rules.specs.InstanceRules as rules
+use Rattle.cif_rules.specs.InstanceRules.{synchronised_name, is_lacking}
+use Rattle.cif_image.specs.Flat.{event_number, named_events, alphabet_in, alphabet_of, monitored_in, monitored_events}
+use Rattle.cif_image.proofs.SystemLaws.{alphabet-same}
+use Rattle.cif_image.proofs.KeptLaws.{member-passes}
+use Rattle.cif_image.proofs.RuleLaws.{member-any, all-from}
+use Rattle.cif_nets.proofs.Sound.{IsSound, alphabets}
+use Rattle.cif_nets.proofs.Forms.{automaton-body, edge-of, use-of, way-syncs}
+use Rattle.cif_nets.proofs.Finding.{event-use, leads-event}
+use Rattle.cif_nets.proofs.Uses.{event-used, alphabet-used, monitor-used}
+use Rattle.cif_nets.proofs.Numbers.{Numbered, numbered}
+use Rattle.cif_nets.proofs.Tests.{eq-true, true-else}
+
+named-are : (c : Component) (nms : List Name) → ((nm : Name) → Member nm nms → event_at (denotes c nm) ≡ Some (event_number c nm)) → named_events c nms ≡ map (event_number c) nms
+named-are c [] h = refl
+named-are c (nm ∷ nms) h = ap (λ o. cons_option o (named_events c nms)) (h nm (inl refl)) ∙ ap (λ es. event_number c nm ∷ es) (named-are c nms (λ x m. h x (inr m)))
+
+-- the name of the event of an edge
+abbrev use_name : EventEdge → Name
+use_name w = w.event_use.name
+
+synchronised-all : (ws : List EventEdge) → ((w : EventEdge) → Member w ws → w.event_use.role ≡ syncs) → flat_map synchronised_name ws ≡ map use_name ws
+synchronised-all [] all = refl
+synchronised-all (w ∷ ws) all =
+    ap (λ r. (if same_role syncing (role_of r) then w.event_use.name ∷ [] else []) ++ flat_map synchronised_name ws) (all w (inl refl))
+    ∙ ap (λ xs. w.event_use.name ∷ xs) (synchronised-all ws (λ v m. all v (inr m)))
+
+-- the names there that are to be in the alphabet
+abbrev asked_names : Component → List Name
+asked_names c = flat_map synchronised_name (event_edges c) ++ rules.monitored_in (body_of c)
+
+module _ (t : Source) (h : IsSound t) where
+  used-numbered : (c : Component) → Member c (bodies t) → (nm : Name) → Member (event-use nm) (uses c) → Numbered t h c nm
+  used-numbered c m nm k = numbered t h c nm (leads-event t h c m nm k)
+
+  pub edge-numbered : (c : Component) → Member c (bodies t) → (w : EventEdge) → Member w (event_edges c) → Numbered t h c w.event_use.name
+  edge-numbered c m w k = used-numbered c m w.event_use.name (event-used c w.edge (edge-of c w k) w.event_use (use-of c w k))
+
+  -- an event that is asked for stands in the alphabet
+  inside-alphabet : (c : Component) → Member c (automata t) → (nm : Name) → Member nm (asked_names c) → event_at (denotes c nm) ≡ Some (event_number c nm) → has (alphabet_of c) (event_number c nm) ≡ true
+  inside-alphabet c m nm k number =
+      alphabet-same c (event_number c nm)
+      ∙ true-else (synchronises (event_number c nm) c) (λ g.
+      alphabets t h nm.at (member-any (λ d. Any (λ (x : Name). (x.at ≡ nm.at) × IsTrue (is_lacking d x)) (asked_names d)) c (automata t) m (member-any (λ (x : Name). (x.at ≡ nm.at) × IsTrue (is_lacking c x)) nm (asked_names c) k
+      (refl, ap (λ o. elim o [ None ↦ false | Some x ↦ not (synchronises x c) ]) number ∙ ap not g))))
+
+  -- the event of an edge stands in the alphabet
+  pub edge-inside : (c : Component) → Member c (automata t) → (w : EventEdge) → Member w (event_edges c) → has (alphabet_of c) (event_number c w.event_use.name) ≡ true
+  edge-inside c a w k =
+      let m = automaton-body t h c a in
+      inside-alphabet c a w.event_use.name
+      (append-left w.event_use.name (flat_map synchronised_name (event_edges c)) (rules.monitored_in (body_of c))
+      (subst (Member w.event_use.name) (sym (synchronised-all (event_edges c) (way-syncs t h c m))) (map-member use_name w (event_edges c) k)))
+      (edge-numbered c m w k).number
+
+  module _ (c : Component) (m : Member c (automata t)) (a : AutomatonTree) (e : body_of c ≡ automaton_body a) where
+    home : Member c (bodies t)
+    home = automaton-body t h c m
+
+    alphabet-numbered : (nm : Name) → Member nm (unwrap_or a.alphabet []) → Numbered t h c nm
+    alphabet-numbered nm k = used-numbered c home nm (alphabet-used c a e nm k)
+
+    monitor-numbered : (nm : Name) → Member nm (unwrap_or a.monitor []) → Numbered t h c nm
+    monitor-numbered nm k = used-numbered c home nm (monitor-used c a e nm k)
+
+    -- ---- numbers below that of all events
+
+    below-of : (nms : List Name) → ((nm : Name) → Member nm nms → Numbered t h c nm) → (x : ℕ) → Member x (named_events c nms) → x < length (events t)
+    below-of nms u x y =
+        let nm = member-map (event_number c) x nms (subst (Member x) (named-are c nms (λ nm k. (u nm k).number)) y) in
+        omega (arith, nm.2, (u nm.0 nm.1).below)
+
+    synchronised-numbered : (nm : Name) → Member nm (flat_map synchronised_name (event_edges c)) → Numbered t h c nm
+    synchronised-numbered nm k =
+        let w = member-map use_name nm (event_edges c) (subst (Member nm) (synchronised-all (event_edges c) (way-syncs t h c home)) k) in
+        subst (Numbered t h c) (sym w.2) (edge-numbered c home w.0 w.1)
+
+    pub alphabet-below : (x : ℕ) → Member x (alphabet_of c) → x < length (events t)
+    alphabet-below x y = named a.alphabet alphabet-numbered (subst (Member x) (ap (alphabet_in c) e) y)
+      where
+        named : (o : Option (List Name)) → ((nm : Name) → Member nm (unwrap_or o []) → Numbered t h c nm)
+            → Member x (named_events c (elim o [ None ↦ flat_map synchronised_name (event_edges c) | Some nms ↦ nms ])) → x < length (events t)
+        named None u y = below-of (flat_map synchronised_name (event_edges c)) synchronised-numbered x y
+        named (Some nms) u y = below-of nms u x y
+
+    -- ---- what is monitored
+
+    pub monitors-inside : list_all (has (alphabet_of c)) (monitored_in c (body_of c)) ≡ true
+    monitors-inside = ap (λ b. list_all (has (alphabet_of c)) (monitored_in c b)) e ∙ named a.monitor refl
+      where
+        each : (nms : List Name) → a.monitor ≡ Some nms → (x : ℕ) → Member x (named_events c nms) → has (alphabet_of c) x ≡ true
+        each nms is x y =
+            let known = λ (nm : Name) (k : Member nm nms). monitor-numbered nm (subst (λ o. Member nm (unwrap_or o [])) (sym is) k) in
+            let nm = member-map (event_number c) x nms (subst (Member x) (named-are c nms (λ nm k. (known nm k).number)) y) in
+            let asked : Member nm.0 (rules.monitored_in (body_of c)) = subst (λ b. Member nm.0 (rules.monitored_in b)) (sym e) (subst (λ o. Member nm.0 (unwrap_or o [])) (sym is) nm.1) in
+            ap (has (alphabet_of c)) nm.2
+            ∙ inside-alphabet c m nm.0 (append-right nm.0 (flat_map synchronised_name (event_edges c)) (rules.monitored_in (body_of c)) asked) (known nm.0 nm.1).number
+
+        named : (o : Option (List Name)) → a.monitor ≡ o → list_all (has (alphabet_of c)) (monitored_events c o) ≡ true
+        named None is = refl
+        named (Some []) is = all-from (has (alphabet_of c)) (alphabet_of c) (λ x k. member-passes (λ y. nat_eq x y) (alphabet_of c) x k (eq-true x x refl))
+        named (Some (nm ∷ nms)) is = all-from (has (alphabet_of c)) (named_events c (nm ∷ nms)) (each (nm ∷ nms) is)

@@ -1,0 +1,74 @@
+-- Each expression of a body has the kind that its position asks for, and so have the guards and the updates of an edge, where
+-- nothing is received.
+use Rattle.std.proofs.Common.{◌≡◌, ◌⊎◌, false, inl, List, [], ◌∷◌, ◌++◌, refl, ◌∙◌, ap, subst}
+use Rattle.std.specs.Prelude.{flat_map}
+use Rattle.cif_ast.specs.Tree.{Tree}
+use Rattle.cif_system.specs.Words.{Member}
+use Rattle.cif_system.proofs.Picks.{append-left, append-right, flat_map-member}
+use Rattle.cif_system.proofs.Distinct.{member-flat_map}
+use Rattle.cif_source.specs.Source.{syncs, sends, receives, UseTree, EdgeTree, LocationTree, Source, tree_at}
+use Rattle.cif_source.specs.Components.{Component}
+use Rattle.cif_source.specs.Objects.{bodies, decls_of, locs_of}
+use Rattle.cif_rules.specs.Kinds.{Kind, bool_kind, int_kind, no_kind, enum_kind, kind_of, same_kind, Demand}
+use Rattle.cif_rules.specs.Constants.{bound_values}
+use Rattle.cif_rules.specs.Demands.{asked_for, use_demands, edge_received, received_by, carried_kind, event_channel, one_kind, updates_demands, edge_demands, equation_demands, location_demands, decl_demands, argument_demands, arguments_in, demands}
+use Rattle.cif_rules.specs.BodyRules.{edges_of, BadValue, BadUse, BadArgument}
+use Rattle.cif_image.proofs.RuleLaws.{member-any}
+use Rattle.cif_fits.specs.Kinds.{AreMet}
+use Rattle.cif_nets.proofs.Sound.{IsSound, matched}
+use Rattle.cif_nets.proofs.Forms.{edge-syncs}
+use Rattle.cif_nets.proofs.Tests.{true-else}
+
+-- ---- parts of what is met
+
+pub met-left : (c : Component) (xs ys : List Demand) → AreMet c (xs ++ ys) → AreMet c xs
+met-left c xs ys h d m = h d (append-left d xs ys m)
+
+pub met-right : (c : Component) (xs ys : List Demand) → AreMet c (xs ++ ys) → AreMet c ys
+met-right c xs ys h d m = h d (append-right d xs ys m)
+
+pub met-each : {A : Type 0} (c : Component) (f : A → List Demand) (xs : List A) → AreMet c (flat_map f xs) → (x : A) → Member x xs → AreMet c (f x)
+met-each c f xs h x m d k = h d (flat_map-member f x xs d m k)
+
+-- ---- nothing is received
+
+received-nothing : (c : Component) (u : UseTree) → u.role ≡ syncs → received_by c u ≡ no_kind
+received-nothing c u e = ap (λ r. elim r [ syncs ↦ no_kind | sends e ↦ no_kind | receives ↦ carried_kind (event_channel c u.name) ]) e
+
+none-one : (k : Kind) → one_kind no_kind k ≡ no_kind
+none-one bool_kind = refl
+none-one int_kind = refl
+none-one no_kind = refl
+none-one (enum_kind ls) = refl
+
+all-nothing : (c : Component) (us : List UseTree) → ((u : UseTree) → Member u us → u.role ≡ syncs) → edge_received c us ≡ no_kind
+all-nothing c [] h = refl
+all-nothing c (u ∷ []) h = received-nothing c u (h u (inl refl))
+all-nothing c (u ∷ v ∷ us) h = ap (λ k. one_kind k (edge_received c (v ∷ us))) (received-nothing c u (h u (inl refl))) ∙ none-one (edge_received c (v ∷ us))
+
+module _ (t : Source) (h : IsSound t) (c : Component) (m : Member c (bodies t)) where
+  all-met : AreMet c (demands c)
+  all-met d k =
+      true-else (same_kind (kind_of c d.received_kind d.value) d.kind) (λ g.
+      matched t h (tree_at d.value) (member-any (λ c. BadValue c (tree_at d.value) ⊎ BadUse c (tree_at d.value) ⊎ BadArgument c (tree_at d.value)) c (bodies t) m
+      (inl (member-any (λ (x : Demand). (tree_at x.value ≡ tree_at d.value) × (same_kind (kind_of c x.received_kind x.value) x.kind ≡ false)) d (demands c) k (refl, g)))))
+
+  edge-met : (e : EdgeTree) → Member e (edges_of c) → AreMet c (edge_demands c e)
+  edge-met e k =
+      let l = member-flat_map (λ (l : LocationTree). l.edges) e (locs_of c) k in
+      met-each c (edge_demands c) l.0.edges
+      (met-right c (flat_map (asked_for c bool_kind) l.0.marked ++ flat_map (equation_demands c) l.0.equations) (flat_map (edge_demands c) l.0.edges)
+      (met-each c (location_demands c) (locs_of c)
+      (met-right c (flat_map (asked_for c int_kind) (bound_values c) ++ flat_map (decl_demands c) (decls_of c) ++ flat_map (argument_demands c) (arguments_in c)) (flat_map (location_demands c) (locs_of c)) all-met)
+      l.0 l.1)) e l.2
+
+  pub guards-met : (e : EdgeTree) → Member e (edges_of c) → (g : Tree) → Member g e.guards → AreMet c (asked_for c bool_kind g)
+  guards-met e k g i =
+      met-each c (asked_for c bool_kind) e.guards
+      (met-right c (flat_map (use_demands c) e.uses) (flat_map (asked_for c bool_kind) e.guards)
+      (met-left c (flat_map (use_demands c) e.uses ++ flat_map (asked_for c bool_kind) e.guards) (updates_demands c (edge_received c e.uses) e.updates) (edge-met e k))) g i
+
+  pub updates-met : (e : EdgeTree) → Member e (edges_of c) → AreMet c (updates_demands c no_kind e.updates)
+  updates-met e k =
+      subst (λ r. AreMet c (updates_demands c r e.updates)) (all-nothing c e.uses (edge-syncs t h c m e k))
+      (met-right c (flat_map (use_demands c) e.uses ++ flat_map (asked_for c bool_kind) e.guards) (updates_demands c (edge_received c e.uses) e.updates) (edge-met e k))

@@ -1,0 +1,16 @@
+pub mod Sound
+pub mod Forms
+pub mod Finding
+pub mod Uses
+pub mod Numbers
+pub mod Represented
+pub mod Tests
+pub mod Things
+pub mod Types
+pub mod Targets
+pub mod Alphabets
+pub mod Demanded
+pub mod Assigning
+pub mod Updates
+pub mod Apart
+pub mod Net

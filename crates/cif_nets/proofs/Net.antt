@@ -1,0 +1,190 @@
+-- The net of a source that keeps its rules is a net.
+use Rattle.std.proofs.Common.{◌≡◌, ◌<◌, Bool, true, [], ◌∷◌, ◌++◌, length, map, Some, None, refl, sym, ◌∙◌, ap, arith}
+use Rattle.std.specs.Prelude.{◌&&◌, nat_eq, nat_le, nat_lt, option_map}
+use Rattle.std.specs.List.{list_all}
+use Rattle.cif_ast.specs.declared.names.Name.{Name}
+use Rattle.cif_system.specs.Words.{Member}
+use Rattle.cif_system.specs.System.{syncing}
+use Rattle.cif_system.proofs.Lists.{false-true, filter-within, filter-passes, map-length}
+use Rattle.cif_system.proofs.Distinct.{member-map}
+use Rattle.cif_model.specs.Kinds.{bool_kind, fits}
+use Rattle.cif_model.specs.Net.{NetEdge, Net}
+use Rattle.cif_model.specs.Exprs.{Written, writes_all, edge_values}
+use Rattle.cif_model.specs.Facts.{is_net, things, event_stands, stored_stands, auto_stands, alg_stands, exclusion_stands, invariant_stands, edge_stands, updates_stand, are_below, has, auto_targets, are_all_apart}
+use Rattle.cif_source.specs.Source.{tree_at, syncs, DeclTree, type_decl, enum_decl, event_decl, const_decl, alg_decl, input_decl, disc_decl, equation_decl, invariant_decl, marked_decl, SourceBody, group_body, automaton_body, AutomatonTree, Source}
+use Rattle.cif_source.specs.Components.{Component, body_of}
+use Rattle.cif_source.specs.Objects.{components_of, bodies, automata, is_automaton, locs_of, EventEdge, event_edges, events, variables, is_variable, Declared, declarations, decls_of}
+use Rattle.cif_source.specs.Step.{end_of, first_place, role_of}
+use Rattle.cif_rules.specs.BodyRules.{targets_of_all}
+use Rattle.cif_image.specs.Built.{is_built}
+use Rattle.cif_image.specs.Flat.{net_of_source, net_auto, net_edge, net_event, net_stored, event_number, location_name, alphabet_of, monitored_in, sent_tree, net_updates_of, variable_number}
+use Rattle.cif_image.specs.Translation.{net_of, net_guard}
+use Rattle.cif_image.specs.Small.{HasSmallParts}
+use Rattle.cif_image.specs.WellFormed.{algebraic, KeepsBefore}
+use Rattle.cif_image.proofs.RuleLaws.{all-from}
+use Rattle.cif_nets.proofs.Sound.{IsSound}
+use Rattle.cif_nets.proofs.Forms.{automaton-body, edge-of, way-syncs}
+use Rattle.cif_nets.proofs.Things.{net-is, things-few, events-stand, declared-home}
+use Rattle.cif_nets.proofs.Types.{variable-stands}
+use Rattle.cif_nets.proofs.Targets.{from-small, end-small, first-small}
+use Rattle.cif_nets.proofs.Alphabets.{edge-numbered, edge-inside, alphabet-below, monitors-inside}
+use Rattle.cif_nets.proofs.Demanded.{guards-met, updates-met}
+use Rattle.cif_nets.proofs.Assigning.{targets-are, leads, lists-apart}
+use Rattle.cif_nets.proofs.Updates.{KeepKinds, updates-stand}
+use Rattle.cif_nets.proofs.Apart.{autos-apart}
+use Rattle.cif_nets.proofs.Tests.{both, le-true, lt-true, eq-true}
+
+-- ---- tests of an edge and of a net
+
+edge-tests : (a b c d f g h i : Bool) → a ≡ true → b ≡ true → c ≡ true → d ≡ true → f ≡ true → g ≡ true → h ≡ true → i ≡ true → (a && b && c && d && true && f && g && h && i) ≡ true
+edge-tests a b c d f g h i j k l m n o p q =
+    both (a && b && c && d && true && f && g && h) i
+    (both (a && b && c && d && true && f && g) h
+    (both (a && b && c && d && true && f) g
+    (both (a && b && c && d && true) f
+    (both (a && b && c && d) true
+    (both (a && b && c) d (both (a && b) c (both a b j k) l) m) refl) n) o) p) q
+
+net-tests : (a b c d e f g h i : Bool) → a ≡ true → b ≡ true → c ≡ true → d ≡ true → e ≡ true → f ≡ true → g ≡ true → h ≡ true → i ≡ true → (a && b && c && d && e && f && g && h && i) ≡ true
+net-tests a b c d e f g h i j k l m n o p q r =
+    both (a && b && c && d && e && f && g && h) i
+    (both (a && b && c && d && e && f && g) h
+    (both (a && b && c && d && e && f) g
+    (both (a && b && c && d && e) f
+    (both (a && b && c && d) e
+    (both (a && b && c) d (both (a && b) c (both a b j k) l) m) n) o) p) q) r
+
+-- an edge that synchronises
+abbrev sync_edge : Component → EventEdge → NetEdge
+sync_edge c w = record {
+  event = event_number c w.event_use.name;
+  role = syncing;
+  from = w.from;
+  to = end_of c w;
+  guard = net_guard c w.event_use.name.at w.edge.guards;
+  sent = None;
+  updates = net_updates_of c w.edge.updates;
+  places = map (λ (nm : Name). nm.at) (targets_of_all w.edge.updates);
+}
+
+edge-syncs : (c : Component) (w : EventEdge) → w.event_use.role ≡ syncs → net_edge c w ≡ sync_edge c w
+edge-syncs c w e = λ i. record {
+  event = event_number c w.event_use.name;
+  role = role_of (e i);
+  from = w.from;
+  to = end_of c w;
+  guard = net_guard c w.event_use.name.at w.edge.guards;
+  sent = option_map (net_of c) (sent_tree (e i));
+  updates = net_updates_of c w.edge.updates;
+  places = (elim (sent_tree (e i)) [ None ↦ [] | Some x ↦ tree_at x ∷ [] ]) ++ map (λ (nm : Name). nm.at) (targets_of_all w.edge.updates);
+}
+
+automaton-tree : (b : SourceBody) → is_automaton b ≡ true → (a : AutomatonTree) × (b ≡ automaton_body a)
+automaton-tree (group_body is) g = absurd (false-true refl g)
+automaton-tree (automaton_body a) g = (a, refl)
+
+module _ (t : Source) (h : IsSound t) (small : HasSmallParts t) (kept : KeepKinds t) where
+  -- ---- edges
+
+  -- a place for each value
+  placed : (c : Component) (w : EventEdge) → length (sync_edge c w).places ≡ length (edge_values (sync_edge c w))
+  placed c w =
+      map-length (λ (nm : Name). nm.at) (targets_of_all w.edge.updates)
+      ∙ sym (map-length (variable_number c) (targets_of_all w.edge.updates))
+      ∙ sym (ap length (targets-are c w.edge.updates))
+      ∙ map-length (λ (x : Written). x.var) (writes_all (net_updates_of c w.edge.updates))
+      ∙ sym (map-length (λ (x : Written). x.value) (writes_all (net_updates_of c w.edge.updates)))
+
+  few-places : (c : Component) → Member c (bodies t) → (w : EventEdge) → Member w (event_edges c) → length (sync_edge c w).places < 4294967296
+  few-places c m w k =
+      let few : length (targets_of_all w.edge.updates) < 2147483648 = small.few c m w.edge (edge-of c w k) in
+      omega (arith, few, map-length (λ (nm : Name). nm.at) (targets_of_all w.edge.updates))
+
+  module _ (c : Component) (auto : Member c (automata t)) (a : AutomatonTree) (body : body_of c ≡ automaton_body a) where
+    home : Member c (bodies t)
+    home = automaton-body t h c auto
+
+    edge-updates : (w : EventEdge) → Member w (event_edges c) → updates_stand (net_of_source t) None (net_updates_of c w.edge.updates) ≡ true
+    edge-updates w k =
+        let e = edge-of c w k in
+        updates-stand t h kept c home w.edge.updates (updates-met t h c home w.edge e) (small.updates c home w.edge e) (leads t h c home w.edge e) (lists-apart t h c home w.edge e)
+
+    one-edge : (w : EventEdge) → Member w (event_edges c) → edge_stands (net_of_source t) (net_auto c) (net_edge c w) ≡ true
+    one-edge w k =
+        let number = edge-numbered t h c home w k in
+        ap (edge_stands (net_of_source t) (net_auto c)) (edge-syncs c w (way-syncs t h c home w k))
+        ∙ edge-tests (nat_lt (event_number c w.event_use.name) (length (map net_event (events t)))) (nat_lt w.from (length (map location_name (locs_of c)))) (nat_lt (end_of c w) (length (map location_name (locs_of c))))
+        (fits (net_of_source t) None bool_kind (net_guard c w.event_use.name.at w.edge.guards)) (updates_stand (net_of_source t) None (net_updates_of c w.edge.updates))
+        (nat_eq (length (sync_edge c w).places) (length (edge_values (sync_edge c w)))) (nat_lt (length (sync_edge c w).places) 4294967296) (has (alphabet_of c) (event_number c w.event_use.name))
+        (lt-true (event_number c w.event_use.name) (length (map net_event (events t))) (omega (arith, number.below, map-length net_event (events t))))
+        (lt-true w.from (length (map location_name (locs_of c))) (omega (arith, from-small c w k, map-length location_name (locs_of c))))
+        (lt-true (end_of c w) (length (map location_name (locs_of c))) (omega (arith, end-small t h c home a body w k, map-length location_name (locs_of c))))
+        (kept.guards c w.event_use.name.at w.edge.guards home (guards-met t h c home w.edge (edge-of c w k)) (small.guards c home w.edge (edge-of c w k)))
+        (edge-updates w k)
+        (eq-true (length (sync_edge c w).places) (length (edge_values (sync_edge c w))) (placed c w))
+        (lt-true (length (sync_edge c w).places) 4294967296 (few-places c home w k))
+        (edge-inside t h c auto w k)
+
+    -- ---- automata
+
+    one-auto : is_automaton (body_of c) ≡ true → auto_stands (net_of_source t) (net_auto c) ≡ true
+    one-auto is =
+        both (nat_lt (first_place c) (length (map location_name (locs_of c))) && are_below (length (map net_event (events t))) (alphabet_of c) && list_all (has (alphabet_of c)) (monitored_in c (body_of c))) (list_all (edge_stands (net_of_source t) (net_auto c)) (map (net_edge c) (event_edges c)))
+        (both (nat_lt (first_place c) (length (map location_name (locs_of c))) && are_below (length (map net_event (events t))) (alphabet_of c)) (list_all (has (alphabet_of c)) (monitored_in c (body_of c)))
+        (both (nat_lt (first_place c) (length (map location_name (locs_of c)))) (are_below (length (map net_event (events t))) (alphabet_of c))
+        (lt-true (first_place c) (length (map location_name (locs_of c))) (omega (arith, first-small t h c home is, map-length location_name (locs_of c))))
+        (all-from (λ e. nat_lt e (length (map net_event (events t)))) (alphabet_of c) (λ e k.
+        lt-true e (length (map net_event (events t))) (omega (arith, alphabet-below t h c auto a body e k, map-length net_event (events t))))))
+        (monitors-inside t h c auto a body))
+        (all-from (edge_stands (net_of_source t) (net_auto c)) (map (net_edge c) (event_edges c)) (λ x k.
+        let w = member-map (net_edge c) x (event_edges c) k in
+        ap (edge_stands (net_of_source t) (net_auto c)) w.2 ∙ one-edge w.0 w.1))
+
+  autos-stand : list_all (auto_stands (net_of_source t)) (map net_auto (automata t)) ≡ true
+  autos-stand =
+      all-from (auto_stands (net_of_source t)) (map net_auto (automata t)) (λ x m.
+      let c = member-map net_auto x (automata t) m in
+      let is : is_automaton (body_of c.0) ≡ true = filter-passes (λ c. is_automaton (body_of c)) (components_of t) c.0 c.1 in
+      let tree = automaton-tree (body_of c.0) is in
+      ap (auto_stands (net_of_source t)) c.2 ∙ one-auto c.0 c.1 tree.0 tree.1 is)
+
+  -- ---- variables
+
+  one-stored : (c : Component) → Member c (bodies t) → (d : DeclTree) → Member d (decls_of c) → is_variable d ≡ true → stored_stands (net_stored (c, d)) ≡ true
+  one-stored c m (disc_decl ty n e) k v = variable-stands t h small c m ty n e k
+  one-stored c m (type_decl n ty) k v = absurd (false-true refl v)
+  one-stored c m (enum_decl n ls) k v = absurd (false-true refl v)
+  one-stored c m (event_decl x y n) k v = absurd (false-true refl v)
+  one-stored c m (const_decl ty n e) k v = absurd (false-true refl v)
+  one-stored c m (alg_decl ty n e) k v = absurd (false-true refl v)
+  one-stored c m (input_decl ty n) k v = absurd (false-true refl v)
+  one-stored c m (equation_decl q) k v = absurd (false-true refl v)
+  one-stored c m (invariant_decl i) k v = absurd (false-true refl v)
+  one-stored c m (marked_decl p) k v = absurd (false-true refl v)
+
+  stored-stand : list_all stored_stands (map net_stored (variables t)) ≡ true
+  stored-stand =
+      all-from stored_stands (map net_stored (variables t)) (λ x m.
+      let d = member-map net_stored x (variables t) m in
+      let k = declared-home t h d.0 (filter-within (λ (d : Declared). is_variable d.1) (declarations t) d.0 d.1) in
+      ap stored_stands d.2 ∙ one-stored d.0.0 k.0 d.0.1 k.1 (filter-passes (λ (d : Declared). is_variable d.1) (declarations t) d.0 d.1))
+
+  -- ---- the net
+
+  sound-net : is_net (net_of_source t) ≡ true
+  sound-net =
+      let n = net_of_source t in
+      net-tests (nat_le (things n) 100000) (list_all event_stands n.events) (list_all stored_stands n.inputs) (list_all stored_stands n.vars) (list_all (auto_stands n) n.autos) (list_all (alg_stands n) n.algs) (list_all (exclusion_stands n) n.exclusions) (list_all (invariant_stands n) n.invariants) (are_all_apart (map auto_targets n.autos))
+      (le-true (things n) 100000 (things-few t h))
+      (events-stand t h)
+      (ap (λ (x : Net). list_all stored_stands x.inputs) (net-is t h))
+      stored-stand
+      autos-stand
+      (ap (λ (x : Net). list_all (alg_stands n) x.algs) (net-is t h))
+      (ap (λ (x : Net). list_all (exclusion_stands n) x.exclusions) (net-is t h))
+      (ap (λ (x : Net). list_all (invariant_stands n) x.invariants) (net-is t h))
+      (autos-apart t h)
+
+-- the net of a source is a net, where its expressions keep their kinds
+pub net-stands : (t : Source) → is_built t ≡ true → KeepsBefore t algebraic → HasSmallParts t → KeepKinds t → is_net (net_of_source t) ≡ true
+net-stands t built keeps small kept = sound-net t (record { built = built; keeps = keeps }) small kept

@@ -1,0 +1,218 @@
+-- The net of a source has automata, events and variables alone, no more than there may be, and no channels.
+use Rattle.std.proofs.Common.{◌≡◌, ℕ, ◌+◌, ◌≤◌, Bool, true, false, cond, List, [], ◌∷◌, length, map, refl, sym, ◌∙◌, ap, subst, arith}
+use Rattle.std.specs.Prelude.{flat_map, filter, sum}
+use Rattle.std.specs.List.{list_all}
+use Rattle.std.proofs.lemmas.List.{length-append}
+use Rattle.std.proofs.lemmas.List.Sums.{sum_by-cons, sum-map}
+use Rattle.cif_system.specs.Words.{Member}
+use Rattle.cif_system.proofs.Lists.{false-true, filter-within, map-length}
+use Rattle.cif_system.proofs.Distinct.{member-map}
+use Rattle.cif_model.specs.Net.{NetAuto, Net}
+use Rattle.cif_model.specs.Facts.{things, event_stands}
+use Rattle.cif_source.specs.Source.{no_type, void_type, value_type, DeclTree, type_decl, enum_decl, event_decl, const_decl, alg_decl, input_decl, disc_decl, equation_decl, invariant_decl, marked_decl, Source}
+use Rattle.cif_source.specs.Components.{Component, body_of}
+use Rattle.cif_source.specs.Objects.{bodies, automata, is_automaton, locs_of, event_edges, events, variables, is_event, is_input, is_variable, is_alg, Declared, declarations, decls_of}
+use Rattle.cif_rules.specs.InstanceRules.{decl_objects, component_objects}
+use Rattle.cif_image.specs.Built.{is_no_channel, is_no_invariant, is_no_algebra}
+use Rattle.cif_image.specs.Flat.{net_of_source, net_auto, net_edge, net_event, net_stored, net_alg, net_exclusions, net_invariants, location_name}
+use Rattle.cif_image.proofs.RuleLaws.{declaration-cases, all-from}
+use Rattle.cif_image.proofs.NumberLaws.{append-kept}
+use Rattle.cif_image.proofs.FormLaws.{flat-nothing}
+use Rattle.cif_nets.proofs.Sound.{IsSound, few-objects, listed, from-home}
+use Rattle.cif_nets.proofs.Forms.{decl-algebra, decl-channel, decl-invariant}
+use Rattle.cif_nets.proofs.Tests.{filter-nothing}
+
+-- ---- other forms
+
+no-input : (d : DeclTree) → is_no_algebra d ≡ true → is_input d ≡ false
+no-input (input_decl ty n) g = absurd (false-true refl g)
+no-input (alg_decl ty n e) g = refl
+no-input (equation_decl q) g = refl
+no-input (type_decl n ty) g = refl
+no-input (enum_decl n ls) g = refl
+no-input (event_decl k x n) g = refl
+no-input (const_decl ty n e) g = refl
+no-input (disc_decl ty n e) g = refl
+no-input (invariant_decl i) g = refl
+no-input (marked_decl e) g = refl
+
+no-alg : (d : DeclTree) → is_no_algebra d ≡ true → is_alg d ≡ false
+no-alg (alg_decl ty n e) g = absurd (false-true refl g)
+no-alg (input_decl ty n) g = refl
+no-alg (equation_decl q) g = refl
+no-alg (type_decl n ty) g = refl
+no-alg (enum_decl n ls) g = refl
+no-alg (event_decl k x n) g = refl
+no-alg (const_decl ty n e) g = refl
+no-alg (disc_decl ty n e) g = refl
+no-alg (invariant_decl i) g = refl
+no-alg (marked_decl e) g = refl
+
+no-exclusion : (c : Component) (d : DeclTree) → is_no_invariant d ≡ true → net_exclusions (c, d) ≡ []
+no-exclusion c (invariant_decl i) g = absurd (false-true refl g)
+no-exclusion c (alg_decl ty n e) g = refl
+no-exclusion c (input_decl ty n) g = refl
+no-exclusion c (equation_decl q) g = refl
+no-exclusion c (type_decl n ty) g = refl
+no-exclusion c (enum_decl n ls) g = refl
+no-exclusion c (event_decl k x n) g = refl
+no-exclusion c (const_decl ty n e) g = refl
+no-exclusion c (disc_decl ty n e) g = refl
+no-exclusion c (marked_decl e) g = refl
+
+no-invariant : (c : Component) (d : DeclTree) → is_no_invariant d ≡ true → net_invariants (c, d) ≡ []
+no-invariant c (invariant_decl i) g = absurd (false-true refl g)
+no-invariant c (alg_decl ty n e) g = refl
+no-invariant c (input_decl ty n) g = refl
+no-invariant c (equation_decl q) g = refl
+no-invariant c (type_decl n ty) g = refl
+no-invariant c (enum_decl n ls) g = refl
+no-invariant c (event_decl k x n) g = refl
+no-invariant c (const_decl ty n e) g = refl
+no-invariant c (disc_decl ty n e) g = refl
+no-invariant c (marked_decl e) g = refl
+
+no-channel : (c : Component) (d : DeclTree) → is_no_channel d ≡ true → event_stands (net_event (c, d)) ≡ true
+no-channel c (event_decl k no_type n) g = refl
+no-channel c (event_decl k void_type n) g = refl
+no-channel c (event_decl k (value_type ty) n) g = absurd (false-true refl g)
+no-channel c (invariant_decl i) g = refl
+no-channel c (alg_decl ty n e) g = refl
+no-channel c (input_decl ty n) g = refl
+no-channel c (equation_decl q) g = refl
+no-channel c (type_decl n ty) g = refl
+no-channel c (enum_decl n ls) g = refl
+no-channel c (const_decl ty n e) g = refl
+no-channel c (disc_decl ty n e) g = refl
+no-channel c (marked_decl e) g = refl
+
+-- ---- counts
+
+-- how many of a sort components declare
+abbrev sort_total : (DeclTree → Bool) → List Component → ℕ
+sort_total sort [] = 0
+sort_total sort (c ∷ cs) = length (filter sort (decls_of c)) + sort_total sort cs
+
+kept-length : (sort : DeclTree → Bool) (c : Component) (ds : List DeclTree) → length (filter (λ (d : Declared). sort d.1) (map (λ d. (c, d)) ds)) ≡ length (filter sort ds)
+kept-length sort c [] = refl
+kept-length sort c (d ∷ ds) =
+    (elim (sort d) as (λ b. length (cond b ((c, d) ∷ filter (λ (x : Declared). sort x.1) (map (λ x. (c, x)) ds)) (filter (λ (x : Declared). sort x.1) (map (λ x. (c, x)) ds))) ≡ length (cond b (d ∷ filter sort ds) (filter sort ds))) [
+      | true ↦ omega (arith, kept-length sort c ds)
+      | false ↦ kept-length sort c ds
+    ])
+
+sort-length : (sort : DeclTree → Bool) (cs : List Component) → length (filter (λ (d : Declared). sort d.1) (flat_map (λ c. map (λ d. (c, d)) (decls_of c)) cs)) ≡ sort_total sort cs
+sort-length sort [] = refl
+sort-length sort (c ∷ cs) =
+    ap length (append-kept (λ (d : Declared). sort d.1) (map (λ d. (c, d)) (decls_of c)) (flat_map (λ c. map (λ d. (c, d)) (decls_of c)) cs))
+    ∙ omega (
+      arith,
+      kept-length sort c (decls_of c),
+      sort-length sort cs,
+      length-append (filter (λ (d : Declared). sort d.1) (map (λ d. (c, d)) (decls_of c))) (filter (λ (d : Declared). sort d.1) (flat_map (λ c. map (λ d. (c, d)) (decls_of c)) cs)),
+    )
+
+-- an event and a variable are one declaration each
+one-object : (d : DeclTree) → length (filter is_event (d ∷ [])) + length (filter is_variable (d ∷ [])) ≤ decl_objects d
+one-object (event_decl c x n) = omega arith
+one-object (type_decl n ty) = omega arith
+one-object (enum_decl n ls) = omega arith
+one-object (const_decl ty n e) = omega arith
+one-object (alg_decl ty n e) = omega arith
+one-object (input_decl ty n) = omega arith
+one-object (disc_decl ty n e) = omega arith
+one-object (equation_decl q) = omega arith
+one-object (invariant_decl x) = omega arith
+one-object (marked_decl e) = omega arith
+
+filter-first : (sort : DeclTree → Bool) (d : DeclTree) (ds : List DeclTree) → length (filter sort (d ∷ ds)) ≡ length (filter sort (d ∷ [])) + length (filter sort ds)
+filter-first sort d ds =
+    (elim (sort d) as (λ b. length (cond b (d ∷ filter sort ds) (filter sort ds)) ≡ length (cond b (d ∷ []) []) + length (filter sort ds)) [
+      | true ↦ omega arith
+      | false ↦ omega arith
+    ])
+
+declared-fewer : (ds : List DeclTree) → length (filter is_event ds) + length (filter is_variable ds) ≤ sum (map decl_objects ds)
+declared-fewer [] = omega arith
+declared-fewer (d ∷ ds) = omega (arith, declared-fewer ds, one-object d, filter-first is_event d ds, filter-first is_variable d ds, sum-map decl_objects (d ∷ ds), sum_by-cons decl_objects d ds, sum-map decl_objects ds)
+
+abbrev auto_things : NetAuto → ℕ
+auto_things a = length a.locs + length a.edges
+
+abbrev autos_of : List Component → List Component
+autos_of cs = filter (λ c. is_automaton (body_of c)) cs
+
+things-fewer : (cs : List Component) → length (autos_of cs) + sum (map auto_things (map net_auto (autos_of cs))) + sort_total is_event cs + sort_total is_variable cs ≤ sum (map component_objects cs)
+things-fewer [] = omega arith
+things-fewer (c ∷ cs) =
+    (elim (is_automaton (body_of c)) as (λ b. length (cond b (c ∷ autos_of cs) (autos_of cs)) + sum (map auto_things (map net_auto (cond b (c ∷ autos_of cs) (autos_of cs)))) + sort_total is_event (c ∷ cs) + sort_total is_variable (c ∷ cs) ≤ sum (map component_objects (c ∷ cs))) [
+      | true ↦
+          omega (
+            arith,
+            things-fewer cs,
+            declared-fewer (decls_of c),
+            own,
+            sum-map component_objects (c ∷ cs),
+            sum_by-cons component_objects c cs,
+            sum-map component_objects cs,
+            map-length location_name (locs_of c),
+            map-length (net_edge c) (event_edges c),
+            sum-map auto_things (net_auto c ∷ map net_auto (autos_of cs)),
+            sum_by-cons auto_things (net_auto c) (map net_auto (autos_of cs)),
+            sum-map auto_things (map net_auto (autos_of cs)),
+          )
+      | false ↦ omega (arith, things-fewer cs, declared-fewer (decls_of c), own, sum-map component_objects (c ∷ cs), sum_by-cons component_objects c cs, sum-map component_objects cs)
+    ])
+  where
+    own : component_objects c ≡ 1 + sum (map decl_objects (decls_of c)) + length (locs_of c) + length (event_edges c)
+    own = refl
+
+-- ---- the net
+
+-- the automata, events and variables alone
+abbrev data_net : Source → Net
+data_net t = record { autos = map net_auto (automata t); events = map net_event (events t); inputs = []; vars = map net_stored (variables t); algs = []; exclusions = []; invariants = [] }
+
+module _ (t : Source) (h : IsSound t) where
+  pub declared-home : (d : Declared) → Member d (declarations t) → Member d.0 (bodies t) × Member d.1 (decls_of d.0)
+  declared-home d m = let c = declaration-cases t d m in (from-home t h d.0 c.0, c.1)
+
+  pub net-is : net_of_source t ≡ data_net t
+  net-is = λ i. record {
+    autos = map net_auto (automata t);
+    events = map net_event (events t);
+    inputs = map net_stored (filter-nothing (λ (d : Declared). is_input d.1) (declarations t) (λ d m. let k = declared-home d m in no-input d.1 (decl-algebra t h d.0 k.0 d.1 k.1)) i);
+    vars = map net_stored (variables t);
+    algs = map net_alg (filter-nothing (λ (d : Declared). is_alg d.1) (declarations t) (λ d m. let k = declared-home d m in no-alg d.1 (decl-algebra t h d.0 k.0 d.1 k.1)) i);
+    exclusions = flat-nothing net_exclusions (declarations t) (λ d m. let k = declared-home d m in no-exclusion d.0 d.1 (decl-invariant t h d.0 k.0 d.1 k.1)) i;
+    invariants = flat-nothing net_invariants (declarations t) (λ d m. let k = declared-home d m in no-invariant d.0 d.1 (decl-invariant t h d.0 k.0 d.1 k.1)) i;
+  }
+
+  sort-counted : (sort : DeclTree → Bool) → length (filter (λ (d : Declared). sort d.1) (declarations t)) ≡ sort_total sort (bodies t)
+  sort-counted sort = ap (λ cs. length (filter (λ (d : Declared). sort d.1) (flat_map (λ c. map (λ d. (c, d)) (decls_of c)) cs))) (listed t h) ∙ sort-length sort (bodies t)
+
+  few-things : things (data_net t) ≤ 100000
+  few-things =
+      let autos : automata t ≡ autos_of (bodies t) = ap autos_of (listed t h) in
+      omega (
+        arith,
+        things-fewer (bodies t),
+        few-objects t h,
+        map-length net_event (events t),
+        sort-counted is_event,
+        map-length net_stored (variables t),
+        sort-counted is_variable,
+        map-length net_auto (automata t),
+        ap length autos,
+        ap (λ cs. sum (map auto_things (map net_auto cs))) autos,
+      )
+
+  pub things-few : things (net_of_source t) ≤ 100000
+  things-few = subst (λ n. things n ≤ 100000) (sym net-is) few-things
+
+  pub events-stand : list_all event_stands (map net_event (events t)) ≡ true
+  events-stand =
+      all-from event_stands (map net_event (events t)) (λ x m.
+      let d = member-map net_event x (events t) m in
+      let k = declared-home d.0 (filter-within (λ (d : Declared). is_event d.1) (declarations t) d.0 d.1) in
+      ap event_stands d.2 ∙ no-channel d.0.0 d.0.1 (decl-channel t h d.0.0 k.0 d.0.1 k.1))
