@@ -1,0 +1,3 @@
+pub mod ClassLaws
+pub mod FitLaws
+pub mod ArgumentLaws
