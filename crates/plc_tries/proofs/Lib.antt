@@ -1,0 +1,7 @@
+pub mod Safe
+pub mod Silent
+pub mod Free
+pub mod Places
+pub mod Own
+pub mod Declared
+pub mod Tried

@@ -1,0 +1,110 @@
+-- The expressions of the choices of a table are safe in each state, where nothing is received: each has a kind, and stays in
+-- 64 bits.
+use Rattle.std.proofs.Common.{◌≡◌, ℕ, zero, suc, ℤ, pos, Bool, true, false, List, [], ◌∷◌, ◌++◌, map, Option, Some, None, subst, slice_get, arith}
+use Rattle.std.specs.Prelude.{IsTrue, option_to_list}
+use Rattle.std.specs.List.{list_all, AllByRecursion}
+use Rattle.std.proofs.lemmas.Int.{ints}
+use Rattle.cif_base.specs.declared.types.Ty.{Ty}
+use Rattle.cif_system.specs.System.{Range, State, IsState, in_range}
+use Rattle.cif_system.proofs.Lists.{none-some, some-same}
+use Rattle.cif_term.specs.Tree.{NetExpr, NetUpdate, net_set, net_choose, NetUpdates, no_net_updates, net_updates, NetUpdateBranches, no_net_update_branches, net_update_branches}
+use Rattle.cif_model.specs.Net.{NetStored, Net}
+use Rattle.cif_model.specs.Exprs.{updates_exprs, update_exprs, branches_exprs}
+use Rattle.cif_model.specs.Facts.{assigns_kind, branches_stand, channel_of, is_net, literals_fit, stored_stands, update_stands, updates_stand, var_kind}
+use Rattle.cif_model.specs.Interval.{declared_ranges, range_of}
+use Rattle.cif_model.specs.Kinds.{Kind, bool_kind, fits}
+use Rattle.cif_model.specs.Listing.{NetChoice}
+use Rattle.cif_model.specs.Meaning.{system_of_net}
+use Rattle.cif_model.specs.Parts.{divides, parts, is_narrow}
+use Rattle.cif_model.specs.Reads.{names_no_alg}
+use Rattle.cif_model.specs.Rules.{is_plain_expr}
+use Rattle.cif_model.specs.Shown.{channel_range}
+use Rattle.cif_model.specs.Table.{carried_type, choice_stands}
+use Rattle.cif_model.proofs.Orders.{Lies, lies-from_test}
+use Rattle.cif_model.proofs.Passing.{and-left, and-right}
+use Rattle.cif_model.proofs.PartLaws.{all-append, parts_hold}
+use Rattle.cif_model.proofs.PlainLaws.{fit-at, never}
+use Rattle.plc_gen.proofs.Facts.{Standing, standing}
+use Rattle.plc_expr.specs.Safe.{HasBits, IsSafe, Setting, value_at}
+use Rattle.plc_expr.proofs.Plain.{safe}
+use Rattle.plc_act.specs.Asked.{setting_of}
+use Rattle.plc_act.specs.Ready.{IsSafeChoice}
+
+-- ---- one expression
+
+literals-at : (vs : List NetStored) → list_all stored_stands vs ≡ true → (k : ℕ) (w : NetStored) → slice_get vs k ≡ Some w → literals_fit w.type_of w.literals ≡ true
+literals-at [] h k w e = absurd cc
+literals-at (u ∷ us) h zero w e = subst (λ (t : NetStored). literals_fit t.type_of t.literals ≡ true) (some-same u w e) (and-right _ _ (and-left _ _ (and-left _ _ h)))
+literals-at (u ∷ us) h (suc k) w e = literals-at us (and-right _ _ h) k w e
+
+narrow-bits : (r : Range) (z : ℤ) → is_narrow r ≡ true → Lies r z → HasBits z
+narrow-bits r z h l = grind (arith, ints)
+
+all-bits : (f : NetExpr → Range) (x : Setting) (ps : List NetExpr) → AllByRecursion (λ p. Lies (f p) (value_at x p)) ps → list_all (λ p. is_narrow (f p)) ps ≡ true → AllByRecursion (λ p. HasBits (value_at x p)) ps
+all-bits f x [] l h = tt
+all-bits f x (p ∷ ps) l h = (narrow-bits (f p) (value_at x p) (and-left _ _ h) l.0, all-bits f x ps l.1 (and-right _ _ h))
+
+module _ (n : Net) (net : is_net n ≡ true) (s : State) (is_state : IsState (system_of_net n) s) (r : Range) (received : IsTrue (in_range r (pos 0))) where
+  facts : Standing n
+  facts = standing n net
+
+  abbrev x : Setting
+  x = setting_of n s (pos 0)
+
+  -- it names no algebraic variable, divides by no 0, and stays in 64 bits
+  pub expr-safe : (k : Kind) (e : NetExpr) → is_plain_expr n (record { value = e; received = r }) ≡ true → fits n None k e ≡ true → IsSafe (setting_of n s (pos 0)) e
+  expr-safe k e plain fit =
+      let no_alg : names_no_alg e ≡ true = and-left _ _ (and-left _ _ plain) in
+      let no_zero : divides (declared_ranges n r) e ≡ true = and-right _ _ (and-left _ _ plain) in
+      let zero_lies : Lies r (pos 0) = lies-from_test r (pos 0) received in
+      safe n r x None (λ i. fit-at n.vars s.vals i is_state.values) (λ i. fit-at n.inputs s.ins i is_state.inputs) zero_lies (λ t h. absurd (none-some t h)) (literals-at n.vars facts.vars) (literals-at n.inputs facts.inputs)
+      k e no_alg no_zero
+      (all-bits (range_of (declared_ranges n r)) x (parts e)
+      (parts_hold (declared_ranges n r) x.algs s (pos 0) (λ i. false) (λ i. fit-at n.vars s.vals i is_state.values) (λ i. fit-at n.inputs s.ins i is_state.inputs) (λ i h. never h) zero_lies e no_alg no_zero)
+      (and-right _ _ plain)) fit
+
+  pub all-safe : (es : List NetExpr) → list_all (is_plain_expr n) (map (λ e. record { value = e; received = r }) es) ≡ true → AllByRecursion (λ e. (k : Kind) × (fits n None k e ≡ true)) es → AllByRecursion (IsSafe (setting_of n s (pos 0))) es
+  all-safe [] plain kinds = tt
+  all-safe (e ∷ es) plain kinds = (expr-safe kinds.0.0 e (and-left _ _ plain) kinds.0.1, all-safe es (and-right _ _ plain) kinds.1)
+
+-- ---- updates
+
+module _ (n : Net) (r : Option Ty) where
+  abbrev HasKind : NetExpr → Type 0
+  HasKind e = (k : Kind) × (fits n r k e ≡ true)
+
+  assigned-kind : (o : Option Kind) (e : NetExpr) → assigns_kind n r o e ≡ true → HasKind e
+  assigned-kind None e h = never h
+  assigned-kind (Some k) e h = (k, h)
+
+  mutual
+    -- each condition and each value has a kind
+    pub updates-kinds : (us : NetUpdates) → updates_stand n r us ≡ true → AllByRecursion (λ e. (k : Kind) × (fits n r k e ≡ true)) (updates_exprs us)
+    updates-kinds no_net_updates h = tt
+    updates-kinds (net_updates u us) h = all-append HasKind (update_exprs u) (updates_exprs us) (update-kinds u (and-left _ _ (and-left _ _ h))) (updates-kinds us (and-right _ _ h))
+
+    update-kinds : (u : NetUpdate) → update_stands n r u ≡ true → AllByRecursion HasKind (update_exprs u)
+    update-kinds (net_set v e) h = (assigned-kind (var_kind (slice_get n.vars v)) e h, tt)
+    update-kinds (net_choose bs us) h = all-append HasKind (branches_exprs bs) (updates_exprs us) (branches-kinds bs (and-left _ _ h)) (updates-kinds us (and-right _ _ h))
+
+    branches-kinds : (bs : NetUpdateBranches) → branches_stand n r bs ≡ true → AllByRecursion HasKind (branches_exprs bs)
+    branches-kinds no_net_update_branches h = tt
+    branches-kinds (net_update_branches c us bs) h =
+        ((bool_kind, and-left _ _ (and-left _ _ h)), all-append HasKind (updates_exprs us) (branches_exprs bs) (updates-kinds us (and-right _ _ (and-left _ _ h))) (branches-kinds bs (and-right _ _ h)))
+
+-- ---- choices
+
+plain-parts : {A : Type 0} (p : A → Bool) (f : NetExpr → A) (xs ys : List NetExpr) → list_all p (map f (xs ++ ys)) ≡ true → list_all p (map f ys) ≡ true
+plain-parts p f [] ys h = h
+plain-parts p f (e ∷ xs) ys h = plain-parts p f xs ys (and-right _ _ h)
+
+pub choice-safe : (n : Net) (c : NetChoice) → is_net n ≡ true → IsTrue (in_range (channel_range (channel_of n c.event)) (pos 0)) → carried_type n c ≡ None → choice_stands n c ≡ true → IsSafeChoice n c
+choice-safe n c net received carried stands s is_state =
+    let plain = and-right _ _ (and-left _ _ stands) in
+    let up : updates_stand n None c.writes ≡ true = subst (λ t. updates_stand n t c.writes ≡ true) carried (and-right _ _ (and-left _ _ (and-left _ _ stands))) in (
+      expr-safe n net s is_state (channel_range (channel_of n c.event)) received bool_kind c.test (and-left _ _ plain) (and-left _ _ (and-left _ _ (and-left _ _ (and-left _ _ stands)))),
+      (λ h.
+          all-safe n net s is_state (channel_range (channel_of n c.event)) received (updates_exprs c.writes)
+          (plain-parts (is_plain_expr n) (λ e. record { value = e; received = channel_range (channel_of n c.event) }) (option_to_list c.sent) (updates_exprs c.writes) (and-right _ _ plain))
+          (updates-kinds n None c.writes up)),
+    )
