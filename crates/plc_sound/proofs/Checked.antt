@@ -1,0 +1,169 @@
+-- The statements of the part of an event break no check, where its own variables are declared one after another.
+use Rattle.std.proofs.Common.{◌≡◌, ℕ, suc, ◌+◌, Bool, true, false, ◌||◌, List, [], ◌∷◌, ◌++◌, map, flat_map, length, Some, None, nat_eq, refl, sym, ap, subst, ◌∙◌, arith, eqb-true, if◌then◌else◌}
+use Rattle.std.specs.Prelude.{option_map, slice_get}
+use Rattle.std.specs.List.{AllByRecursion, list_any}
+use Rattle.std.proofs.lemmas.Option.{slice_get-map}
+use Rattle.cif_system.proofs.Lists.{map-length}
+use Rattle.cif_term.specs.Tree.{NetExpr}
+use Rattle.cif_model.specs.Net.{NetAuto, NetStored, Net}
+use Rattle.cif_model.specs.Exprs.{targets}
+use Rattle.cif_model.specs.Facts.{has}
+use Rattle.cif_model.specs.Kinds.{Kind, bool_kind, fits, is_bool}
+use Rattle.cif_model.specs.Listing.{NetChoice}
+use Rattle.cif_model.specs.Reads.{names_no_alg}
+use Rattle.st_ast.specs.Tree.{Stms, no_stms, stms}
+use Rattle.st_ast.specs.Names.{declared}
+use Rattle.st_ast.specs.declared.tree.StVar.{StVar}
+use Rattle.st_ast.specs.declared.tree.StClass.{StClass}
+use Rattle.st_ast.specs.declared.tree.StClass.TheVariants as class
+use Rattle.st_ast.specs.declared.tree.StTy.{StTy}
+use Rattle.st_ast.specs.declared.tree.StTy.TheVariants as ty
+use Rattle.plc_face.specs.declared.letter.Letter.{Letter}
+use Rattle.plc_face.specs.declared.letter.Letter.TheVariants as letter
+use Rattle.plc_face.specs.Names.{name_for}
+use Rattle.plc_face.specs.Face.{VariableFace, IsDeclared, declaration, place_face}
+use Rattle.plc_face.specs.Frame.{fired}
+use Rattle.plc_gen.specs.Faces.{auto_face, st_type}
+use Rattle.plc_gen.specs.Tests.{place_name}
+use Rattle.plc_gen.specs.Events.{done_face, moves_text, own_name}
+use Rattle.plc_gen.proofs.Checking.{AllChecked}
+use Rattle.plc_gen.proofs.Declaring.{AllDeclared, declared-at}
+use Rattle.plc_expr.specs.Texts.{Naming, before, temps, text}
+use Rattle.plc_expr.specs.Sorts.{AreOwn, HasSort, NamesHaveSorts, OwnIs, own_types}
+use Rattle.plc_expr.proofs.Checking.{AllChecked as ExprChecked, expr-checked, text-sorted}
+use Rattle.plc_expr.proofs.Sorting.{own-both, types-length}
+use Rattle.plc_act.specs.Writes.{NewNames, any_tested}
+use Rattle.plc_act.specs.Own.{choice_temps, choice_types, data_faces, data_naming, event_vars, if_face, new_face, new_face_of, new_names, new_type, place_in, range_face, range_faces, tests_range, updates_types, variable_name}
+use Rattle.plc_act.specs.Events.{all_written, data_written}
+use Rattle.plc_act.specs.Parts.{data_first, data_part, done_faces, event_faces, ifs_from, needs_done}
+use Rattle.plc_act.proofs.Clean.{act-clean}
+use Rattle.plc_act.proofs.Parts.{choice-length, mark-is}
+use Rattle.plc_act.proofs.Targets.{has-append, once-all, target-there, tested-any}
+use Rattle.plc_sound.proofs.Stating.{WrittenChecked, event-checked, moves-checked}
+use Rattle.plc_sound.proofs.Told.{Told}
+
+-- ---- lists
+
+in-left : (a b : Bool) → a ≡ true → (a || b) ≡ true
+in-left true b h = refl
+in-left false b h = absurd cc
+
+in-right : (a b : Bool) → b ≡ true → (a || b) ≡ true
+in-right true b h = refl
+in-right false b h = h
+
+-- a variable of the list stands where it is found
+position-at : (vs : List ℕ) (v : ℕ) → has vs v ≡ true → slice_get vs (place_in vs v) ≡ Some v
+position-at [] v h = absurd cc
+position-at (u ∷ vs) v h = go (nat_eq v u) refl (λ q. position-at vs v q)
+  where
+    other : (a b : Bool) → a ≡ false → (a || b) ≡ true → b ≡ true
+    other true b e h = absurd cc
+    other false b e h = h
+
+    go : (b : Bool) → nat_eq v u ≡ b → (has vs v ≡ true → slice_get vs (place_in vs v) ≡ Some v) → slice_get (u ∷ vs) (if b then 0 else suc (place_in vs v)) ≡ Some v
+    go true e rest = ap Some (sym (eqb-true v u e))
+    go false e rest = rest (other (nat_eq v u) (has vs v) e h)
+
+pub declared-parts : (vars : List StVar) (l : Letter) (c : StClass) (j : ℕ) (xs ys : List VariableFace) → AllDeclared vars l c j (xs ++ ys) → AllDeclared vars l c j xs × AllDeclared vars l c (j + length xs) ys
+declared-parts vars l c j [] ys h = (tt, subst (λ i. AllDeclared vars l c i ys) (omega arith) h)
+declared-parts vars l c j (x ∷ xs) ys h =
+    let r = declared-parts vars l c (j + 1) xs ys h.1 in
+    ((h.0, r.0), subst (λ i. AllDeclared vars l c i ys) (omega arith) r.1)
+
+own-at : (vars : List StVar) (k : ℕ) (x : VariableFace) → declared vars (name_for letter.T k x.path) ≡ Some (declaration letter.T class.Plain (k, x)) → OwnIs vars (name_for letter.T k x.path) x.ty
+own-at vars k x at = record { variable = declaration letter.T class.Plain (k, x); is_declared = at; type_is = refl; can = refl }
+
+-- none of the statements breaks a check, by the same words in two crates
+same-checked : (vars : List StVar) (ss : Stms) → ExprChecked vars ss → AllChecked vars ss
+same-checked vars no_stms h = tt
+same-checked vars (stms s ss) h = (h.0, same-checked vars ss h.1)
+
+-- ---- an event
+
+module _ (n : Net) (vars : List StVar) (names : NamesHaveSorts vars (data_naming n fired) n None) (values : (i : ℕ) (d : NetStored) → slice_get n.vars i ≡ Some d → OwnIs vars (variable_name n i) (st_type d.type_of))
+    (places : (k : ℕ) (a : NetAuto) → slice_get n.autos k ≡ Some a → declared vars (place_name n k) ≡ Some (declaration letter.L class.Plain (k, place_face (auto_face a)))) (mark : IsDeclared vars fired ty.Bool) where
+  abbrev w : Naming
+  w = data_naming n fired
+
+  ifs-own : (k : ℕ) (us : List StTy) → AllDeclared vars letter.T class.Plain k (map if_face us) → AreOwn vars w k us
+  ifs-own k [] h = tt
+  ifs-own k (u ∷ us) h = (own-at vars k (if_face u) h.0, ifs-own (k + 1) us h.1)
+
+  own_length : (e : NetExpr) → length (own_types n None e) ≡ temps e
+  own_length e = types-length n None e
+
+  module _ (ds : List NetChoice) (j : ℕ) (all : AllDeclared vars letter.T class.Plain j (event_faces n ds)) where
+    abbrev first : ℕ
+    first = data_first n ds j
+
+    abbrev y : NewNames
+    y = new_names n ds (data_first n ds j)
+
+    abbrev news : List VariableFace
+    news = map (new_face n) (event_vars ds)
+
+    abbrev ifs : List VariableFace
+    ifs = map if_face (flat_map (choice_types n None) ds)
+
+    dones : AllDeclared vars letter.T class.Plain j (done_faces n ds) × AllDeclared vars letter.T class.Plain first (data_faces n None ds)
+    dones = declared-parts vars letter.T class.Plain j (done_faces n ds) (data_faces n None ds) all
+
+    ranges : AllDeclared vars letter.T class.Plain first (range_faces n ds) × AllDeclared vars letter.T class.Plain (first + length (range_faces n ds)) (news ++ ifs)
+    ranges = declared-parts vars letter.T class.Plain first (range_faces n ds) (news ++ ifs) dones.1
+
+    others : AllDeclared vars letter.T class.Plain (first + length (range_faces n ds)) news × AllDeclared vars letter.T class.Plain (first + length (range_faces n ds) + length news) ifs
+    others = declared-parts vars letter.T class.Plain (first + length (range_faces n ds)) news ifs ranges.1
+
+    done-own : needs_done n ds ≡ true → OwnIs vars (own_name (j, done_face)) ty.Bool
+    done-own t = own-at vars j done_face (subst (λ b. AllDeclared vars letter.T class.Plain j (if b then done_face ∷ [] else [])) t dones.0).0
+
+    range-own : tests_range n ds ≡ true → OwnIs vars y.in_range ty.Bool
+    range-own t = own-at vars first range_face (subst (λ b. AllDeclared vars letter.T class.Plain first (if b then range_face ∷ [] else [])) t ranges.0).0
+
+    next-own : (i : ℕ) (d : NetStored) → has (event_vars ds) i ≡ true → slice_get n.vars i ≡ Some d → OwnIs vars (y.next i) (new_type d.type_of)
+    next-own i d here at =
+        subst (λ u. OwnIs vars (y.next i) u) (ap (λ o. (new_face_of o).ty) at)
+        (own-at vars (first + length (range_faces n ds) + place_in (event_vars ds) i) (new_face n i)
+        (declared-at vars letter.T class.Plain (first + length (range_faces n ds)) news (place_in (event_vars ds) i) (new_face n i) others.0
+        (slice_get-map (new_face n) (event_vars ds) (place_in (event_vars ds) i) ∙ ap (option_map (new_face n)) (position-at (event_vars ds) i here))))
+
+    all-own : AreOwn vars w (ifs_from n ds j) (flat_map (choice_types n None) ds)
+    all-own = ifs-own (ifs_from n ds j) (flat_map (choice_types n None) ds)
+        (subst (λ l. AllDeclared vars letter.T class.Plain (first + length (range_faces n ds) + l) ifs) (map-length (new_face n) (event_vars ds)) others.1)
+
+    -- ---- its choices
+
+    text-sort : (kind : Kind) (k : ℕ) (e : NetExpr) → fits n None kind e ≡ true → names_no_alg e ≡ true → AreOwn vars w k (own_types n None e) → HasSort vars (text w k e) (is_bool kind)
+    text-sort kind k e h none o = text-sorted vars w n None kind k e names h none o
+
+    before-clean : (kind : Kind) (k : ℕ) (e : NetExpr) → fits n None kind e ≡ true → names_no_alg e ≡ true → AreOwn vars w k (own_types n None e) → AllChecked vars (before w k e)
+    before-clean kind k e h none o = same-checked vars (before w k e) (expr-checked vars w n None names kind k e h none o)
+
+    written-checked : (c : NetChoice) (k : ℕ) → Told n c → ((v : ℕ) → has (targets c.writes) v ≡ true → has (event_vars ds) v ≡ true) → (any_tested n c.writes ≡ true → tests_range n ds ≡ true)
+        → AreOwn vars w k (choice_types n None c) → WrittenChecked vars (data_written n w y k c)
+    written-checked c k t sub tests o =
+        let q = own-both vars w k (temps c.test) (own_types n None c.test) (updates_types n None c.writes) (own_length c.test) o in
+        record {
+          before = before-clean bool_kind k c.test t.test t.test_names q.0;
+          test = text-sort bool_kind k c.test t.test t.test_names q.0;
+          act = λ rest clean.
+              act-clean n vars w y own_length (λ i. has (targets c.writes) i ≡ true) text-sort before-clean (λ i d here at. next-own i d (sub i here) at) (λ i here is. range-own (tests (tested-any n i is c.writes here)))
+              (λ i here. target-there n None i c.writes t.writes here) (λ i d here at. values i d at) c.writes (k + temps c.test) (moves_text n c.moves rest) (λ i h. h) (λ is. range-own (tests is)) q.1 t.writes t.writes_names
+              (moves-checked vars n places c.moves rest clean);
+        }
+
+    all-checked : (cs : List NetChoice) (k : ℕ) → AllByRecursion (Told n) cs → ((v : ℕ) → has (flat_map (λ (c : NetChoice). targets c.writes) cs) v ≡ true → has (event_vars ds) v ≡ true)
+        → (list_any (λ (c : NetChoice). any_tested n c.writes) cs ≡ true → tests_range n ds ≡ true) → AreOwn vars w k (flat_map (choice_types n None) cs) → AllByRecursion (WrittenChecked vars) (all_written n w y k cs)
+    all-checked [] k t sub tests o = tt
+    all-checked (c ∷ cs) k t sub tests o =
+        let q = own-both vars w k (choice_temps c) (choice_types n None c) (flat_map (choice_types n None) cs) (choice-length n own_length c) o in (
+          written-checked c k t.0 (λ v h. sub v (has-append (targets c.writes) (flat_map (λ (d : NetChoice). targets d.writes) cs) v ∙ in-left _ _ h)) (λ is. tests (in-left _ _ is)) q.0,
+          all-checked cs (k + choice_temps c) t.1 (λ v h. sub v (has-append (targets c.writes) (flat_map (λ (d : NetChoice). targets d.writes) cs) v ∙ in-right _ _ h)) (λ is. tests (in-right _ _ is)) q.1,
+        )
+
+    pub part-checked : AllByRecursion (Told n) ds → AllChecked vars (data_part n fired j ds).body
+    part-checked t =
+        event-checked vars mark (own_name (j, done_face)) (all_written n w y (ifs_from n ds j) ds)
+        (all-checked ds (ifs_from n ds j) t (λ v h. once-all (flat_map (λ (c : NetChoice). targets c.writes) ds) v ∙ h) (λ is. is) all-own)
+        (λ is. done-own (sym (mark-is n w y (ifs_from n ds j) ds) ∙ is))

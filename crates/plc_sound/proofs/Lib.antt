@@ -1,0 +1,11 @@
+pub mod Own
+pub mod Literals
+pub mod Faces
+pub mod Variables
+pub mod Stating
+pub mod Told
+pub mod Checked
+pub mod Nested
+pub mod Spelled
+pub mod Worded
+pub mod Whole

@@ -1,0 +1,155 @@
+-- The statements of the part of an event have a spelling, where the updates of its choices nest no deeper than is allowed.
+use Rattle.std.proofs.Common.{◌≡◌, ℕ, zero, suc, ◌+◌, ◌<◌, ◌≤◌, pos, Bool, true, false, ◌&&◌, List, [], ◌∷◌, length, Option, Some, None, refl, subst, arith, le-leb, if◌then◌else◌}
+use Rattle.std.specs.Prelude.{codes, nat_le, option_and_then, slice_get}
+use Rattle.std.specs.List.{AllByRecursion}
+use Rattle.grammar.specs.Pieces.{Text}
+use Rattle.cif_model.specs.Net.{NetAuto, NetEdge, NetStored, Net}
+use Rattle.cif_model.specs.Kinds.{bool_kind, places_of}
+use Rattle.cif_model.specs.Listing.{NetChoice, NetMove}
+use Rattle.st_ast.specs.Tokens.{greatest}
+use Rattle.st_ast.specs.Grammar.{at_or}
+use Rattle.st_ast.specs.Spelled.{are_branches, are_stms, is_expr, is_name, is_type_spelled, is_whole_expr}
+use Rattle.st_ast.specs.Tree.{Expr, truth, number, named, complement, equal, Stms, assign, stms, append, no_branches, branches}
+use Rattle.plc_face.specs.declared.letter.Letter.TheVariants as letter
+use Rattle.plc_face.specs.Frame.{fired}
+use Rattle.plc_gen.specs.Faces.{st_type}
+use Rattle.plc_gen.specs.Tests.{path_in, place_name}
+use Rattle.plc_gen.specs.Events.{Written, all_bare, alone, chain, chain_branches, done_face, event_text, marks, marks_with, move_text, moves_text, own_name, parts_text, tested, unless_done}
+use Rattle.plc_gen.proofs.Moving.{EndsWithin, edge_stands}
+use Rattle.plc_gen.proofs.Spelling.{append-spelled, both-true, name-spelled}
+use Rattle.plc_expr.specs.Texts.{Naming, temps}
+use Rattle.plc_expr.specs.Sorts.{NamesAreSpelled}
+use Rattle.plc_act.specs.Writes.{NewNames}
+use Rattle.plc_act.specs.Own.{choice_temps, data_naming, event_vars, new_face, new_names, path_of, place_in, range_face, range_faces}
+use Rattle.plc_act.specs.Events.{all_written, data_written}
+use Rattle.plc_act.specs.Parts.{data_first, data_part, ifs_from}
+use Rattle.plc_sound.proofs.Nested.{Shallow}
+use Rattle.plc_sound.proofs.Spelled.{act-spelled, before-spelled, whole-spelled}
+use Rattle.plc_sound.proofs.Told.{Told}
+
+-- ---- events
+
+-- at each depth
+abbrev pub Always : Stms → Type 0
+Always ss = (d : ℕ) → are_stms d ss ≡ true
+
+-- What is written for a choice: the statements before its test nest no deeper than an IF.
+pub record WrittenSpelled (w : Written) : Type 0 where
+  pub before : (d : ℕ) → 1 ≤ d → are_stms d w.before ≡ true
+  pub test : is_whole_expr w.test ≡ true
+  pub act : (rest : Stms) → Always rest → (d : ℕ) → 397 ≤ d → are_stms d (w.act rest) ≡ true
+
+tested-spelled : (d : ℕ) (c : Expr) (ss : Stms) → is_whole_expr c ≡ true → are_stms d ss ≡ true → are_stms (suc d) (tested c ss) ≡ true
+tested-spelled d c ss h g =
+    both-true (are_branches d (branches c ss no_branches) && true) true
+    (both-true (are_branches d (branches c ss no_branches)) true (both-true (is_whole_expr c) (are_stms d ss && true) h (both-true (are_stms d ss) true g refl)) refl) refl
+
+marks-spelled : Always marks
+marks-spelled d = refl
+
+alone-spelled : (w : Written) → WrittenSpelled w → are_stms 399 (alone w) ≡ true
+alone-spelled w h = append-spelled 399 w.before (tested w.test (w.act marks)) (h.before 399 (omega arith)) (tested-spelled 398 w.test (w.act marks) h.test (h.act marks marks-spelled 398 (omega arith)))
+
+chain-branches-spelled : (ws : List Written) → AllByRecursion WrittenSpelled ws → are_branches 398 (chain_branches ws) ≡ true
+chain-branches-spelled [] h = refl
+chain-branches-spelled (w ∷ ws) h =
+    both-true (is_whole_expr w.test) (are_stms 398 (w.act marks) && are_branches 398 (chain_branches ws)) h.0.test
+    (both-true (are_stms 398 (w.act marks)) (are_branches 398 (chain_branches ws)) (h.0.act marks marks-spelled 398 (omega arith)) (chain-branches-spelled ws h.1))
+
+chain-spelled : (w : Written) (ws : List Written) → AllByRecursion WrittenSpelled (w ∷ ws) → are_stms 399 (chain (w ∷ ws)) ≡ true
+chain-spelled w ws h = let b = chain-branches-spelled (w ∷ ws) h in rw b refl
+
+module _ (done : Text) (done_name : is_name done ≡ true) where
+  with-spelled : Always (marks_with done)
+  with-spelled d = both-true (is_name done && true) true (both-true (is_name done) true done_name refl) refl
+
+  parts-spelled : (ws : List Written) → AllByRecursion WrittenSpelled ws → are_stms 399 (parts_text done ws) ≡ true
+  parts-spelled [] h = refl
+  parts-spelled (w ∷ ws) h =
+      append-spelled 399 (unless_done done w) (parts_text done ws)
+      (tested-spelled 398 (complement (named done)) (append w.before (tested w.test (w.act (marks_with done)))) done_name
+      (append-spelled 398 w.before (tested w.test (w.act (marks_with done))) (h.0.before 398 (omega arith))
+      (tested-spelled 397 w.test (w.act (marks_with done)) h.0.test (h.0.act (marks_with done) with-spelled 397 (omega arith)))))
+      (parts-spelled ws h.1)
+
+  event-spelled : (ws : List Written) → AllByRecursion WrittenSpelled ws → are_stms 399 (event_text done ws) ≡ true
+  event-spelled [] h = refl
+  event-spelled (w ∷ []) h = alone-spelled w h.0
+  event-spelled (w ∷ v ∷ ws) h = go (all_bare (w ∷ v ∷ ws))
+    where
+      go : (b : Bool) → are_stms 399 (if b then chain (w ∷ v ∷ ws) else stms (assign done (truth false)) (parts_text done (w ∷ v ∷ ws))) ≡ true
+      go true = chain-spelled w (v ∷ ws) h
+      go false =
+          both-true (is_name done && true) (are_stms 399 (parts_text done (w ∷ v ∷ ws))) (both-true (is_name done) true done_name refl) (parts-spelled (w ∷ v ∷ ws) h)
+
+-- ---- choices
+
+module _ (n : Net) (small : (k : ℕ) → places_of (slice_get n.autos k) ≤ greatest) where
+  located-spelled : (a p : ℕ) → p < places_of (slice_get n.autos a) → (d : ℕ) → 1 ≤ d → is_expr d at_or (equal (named (place_name n a)) true (number (pos p))) ≡ true
+  located-spelled a p inside zero deep = absurd (omega (arith, deep))
+  located-spelled a p inside (suc d) deep =
+      let few = small a in
+      both-true (is_name (place_name n a)) (nat_le p greatest) (name-spelled letter.L a (path_in n.autos a)) (le-leb p greatest (omega (arith, few, inside)))
+
+  names-spelled : NamesAreSpelled (data_naming n fired) n
+  names-spelled = record {
+    located = located-spelled;
+    variable = λ k. name-spelled letter.V k (path_of n.vars k);
+    input = λ k. name-spelled letter.H k (path_of n.inputs k);
+    received = refl;
+    own = λ k. name-spelled letter.T k (codes "if");
+  }
+
+  module _ (within : EndsWithin n) where
+    move-spelled : (d : ℕ) (m : NetMove) (ss : Stms) → are_stms d ss ≡ true → are_stms d (move_text n m ss) ≡ true
+    move-spelled d m ss all = by-auto (slice_get n.autos m.auto) refl
+      where
+        by-edge : (a : NetAuto) → slice_get n.autos m.auto ≡ Some a → (o : Option NetEdge) → option_and_then (slice_get a.edges) m.edge ≡ o
+            → are_stms d (elim o [ None ↦ ss | Some x ↦ stms (assign (place_name n m.auto) (number (pos x.to))) ss ]) ≡ true
+        by-edge a is None e = all
+        by-edge a is (Some x) e =
+            let found = edge_stands a m.edge x e in
+            let inside = within m.auto a is found.0 x found.1 in
+            let few : length a.locs ≤ greatest = subst (λ (o : Option NetAuto). places_of o ≤ greatest) is (small m.auto) in
+            let fine : nat_le x.to greatest ≡ true = le-leb x.to greatest (omega (arith, inside, few)) in
+            both-true (is_name (place_name n m.auto) && nat_le x.to greatest) (are_stms d ss)
+            (both-true (is_name (place_name n m.auto)) (nat_le x.to greatest) (name-spelled letter.L m.auto (path_in n.autos m.auto)) fine) all
+
+        by-auto : (o : Option NetAuto) → slice_get n.autos m.auto ≡ o
+            → are_stms d (elim (option_and_then (λ (a : NetAuto). option_and_then (slice_get a.edges) m.edge) o) [ None ↦ ss | Some x ↦ stms (assign (place_name n m.auto) (number (pos x.to))) ss ]) ≡ true
+        by-auto None is = all
+        by-auto (Some a) is = by-edge a is (option_and_then (slice_get a.edges) m.edge) refl
+
+    moves-spelled : (d : ℕ) (ms : List NetMove) (ss : Stms) → are_stms d ss ≡ true → are_stms d (moves_text n ms ss) ≡ true
+    moves-spelled d [] ss all = all
+    moves-spelled d (m ∷ ms) ss all = move-spelled d m (moves_text n ms ss) (moves-spelled d ms ss all)
+
+    module _ (types : (v : ℕ) (d : NetStored) → slice_get n.vars v ≡ Some d → is_type_spelled (st_type d.type_of) ≡ true) (ds : List NetChoice) (j : ℕ) where
+      abbrev w : Naming
+      w = data_naming n fired
+
+      abbrev y : NewNames
+      y = new_names n ds (data_first n ds j)
+
+      mark-name : is_name y.in_range ≡ true
+      mark-name = name-spelled letter.T (data_first n ds j) range_face.path
+
+      next-name : (v : ℕ) → is_name (y.next v) ≡ true
+      next-name v = name-spelled letter.T (data_first n ds j + length (range_faces n ds) + place_in (event_vars ds) v) (new_face n v).path
+
+      written-spelled : (c : NetChoice) (k : ℕ) → Told n c → Shallow c.writes → WrittenSpelled (data_written n w y k c)
+      written-spelled c k t shallow = record {
+        before = λ d deep. before-spelled n w names-spelled y mark-name next-name types d bool_kind k c.test t.test t.test_low deep;
+        test = whole-spelled n w names-spelled y mark-name next-name types bool_kind k c.test t.test t.test_low;
+        act = λ rest all d deep.
+            act-spelled n w names-spelled y mark-name next-name types d c.writes (k + temps c.test) (moves_text n c.moves rest) (omega (arith, deep, shallow)) t.writes t.writes_low
+            (λ i. moves-spelled i c.moves rest (all i));
+      }
+
+      all-written : (cs : List NetChoice) (k : ℕ) → AllByRecursion (Told n) cs → AllByRecursion (λ (c : NetChoice). Shallow c.writes) cs → AllByRecursion WrittenSpelled (all_written n w y k cs)
+      all-written [] k t shallow = tt
+      all-written (c ∷ cs) k t shallow = (written-spelled c k t.0 shallow.0, all-written cs (k + choice_temps c) t.1 shallow.1)
+
+      pub part-spelled : AllByRecursion (Told n) ds → AllByRecursion (λ (c : NetChoice). Shallow c.writes) ds → are_stms 399 (data_part n fired j ds).body ≡ true
+      part-spelled t shallow =
+          event-spelled (own_name (j, done_face)) (name-spelled letter.T j done_face.path) (all_written n w y (ifs_from n ds j) ds) (all-written ds (ifs_from n ds j) t shallow)
