@@ -1,0 +1,67 @@
+-- The parts of a net with data meet what the frame asks, so its program makes what a frame makes.
+use Rattle.std.proofs.Common.{◌≡◌, ℕ, zero, suc, ◌+◌, ◌<◌, Bool, true, inl, inr, List, [], ◌∷◌, length, map, Option, Some, None, refl, ◌∙◌, ap, arith}
+use Rattle.std.specs.Prelude.{◌&&◌, nat_eq, slice_get}
+use Rattle.std.specs.List.{list_all, range_with_len}
+use Rattle.std.proofs.lemmas.Bool.Decides.{nat_tests}
+use Rattle.cif_system.specs.System.{Event, System, unc, con}
+use Rattle.cif_system.specs.Step.{has_class}
+use Rattle.cif_system.proofs.Lists.{map-length, slice_get-below}
+use Rattle.cif_system.proofs.Picks.{and-left, and-right}
+use Rattle.cif_model.specs.Net.{Net}
+use Rattle.cif_model.specs.Meaning.{system_of_net, event_in}
+use Rattle.cif_model.specs.Listing.{NetChoice}
+use Rattle.cif_model.specs.Facts.{is_net}
+use Rattle.cif_nesting.specs.Nesting.{is_shallow}
+use Rattle.plc_face.specs.Frame.{HasClass}
+use Rattle.plc_gen.specs.Events.{choices_of}
+use Rattle.plc_gen.specs.Given.{FrameFits}
+use Rattle.plc_gen.specs.Makes.{Makes}
+use Rattle.plc_gen.proofs.GivenLaws.{given-makes}
+use Rattle.plc_gen.proofs.Making.{range-length}
+use Rattle.plc_act.specs.Parts.{event_faces}
+use Rattle.plc_parts.specs.Parts.{HasParts, is_no_channel, parts_from, data_parts, data_program}
+use Rattle.plc_tries.proofs.Tried.{all-tried}
+use Rattle.plc_sound.proofs.Own.{own-are-own}
+use Rattle.plc_sound.proofs.Whole.{program-checked, program-spelled}
+
+-- ---- numbers of events
+
+-- an event of a class has a number of an event
+class-below : (sys : System) (e : ℕ) → HasClass sys e → e < length sys.events
+class-below sys e (inl h) = go (slice_get sys.events e) refl h
+  where
+    go : (o : Option Event) → slice_get sys.events e ≡ o → has_class unc o ≡ true → e < length sys.events
+    go None is t = absurd cc
+    go (Some x) is t = slice_get-below sys.events e x is
+class-below sys e (inr h) = go (slice_get sys.events e) refl h
+  where
+    go : (o : Option Event) → slice_get sys.events e ≡ o → has_class con o ≡ true → e < length sys.events
+    go None is t = absurd cc
+    go (Some x) is t = slice_get-below sys.events e x is
+
+parts-length : (n : Net) (cs : List NetChoice) (j : ℕ) (es : List ℕ) → length (parts_from n cs j es) ≡ length es
+parts-length n cs j [] = refl
+parts-length n cs j (e ∷ es) = ap suc (parts-length n cs (j + length (event_faces n (choices_of cs e))) es)
+
+nothing-listed : {A : Type 0} (xs : List A) → nat_eq (length xs) 0 ≡ true → xs ≡ []
+nothing-listed [] h = refl
+nothing-listed (x ∷ xs) h = absurd (grind (arith, nat_tests))
+
+-- ---- the frame
+
+pub fit : (n : Net) (cs : List NetChoice) (U C : ℕ) → HasParts n cs U C → is_shallow n ≡ true → FrameFits n U C (data_parts n cs)
+fit n cs U C h shallow = record {
+  no_invariants = nothing-listed n.invariants (and-right (nat_eq (length n.algs) 0) (nat_eq (length n.invariants) 0) (and-left (nat_eq (length n.algs) 0 && nat_eq (length n.invariants) 0) (list_all is_no_channel n.events) h.silent));
+  no_algs = nothing-listed n.algs (and-left (nat_eq (length n.algs) 0) (nat_eq (length n.invariants) 0) (and-left (nat_eq (length n.algs) 0 && nat_eq (length n.invariants) 0) (list_all is_no_channel n.events) h.silent));
+  one_each = parts-length n cs 2 (range_with_len 0 (length n.events)) ∙ range-length 0 (length n.events);
+  own = own-are-own n cs U C h;
+  spelled = program-spelled n cs U C h shallow;
+  checked = program-checked n cs U C h;
+  events = λ e c. let below = class-below (system_of_net n) e c in all-tried n cs U C h (program-checked n cs U C h) e (omega (arith, below, map-length event_in n.events));
+}
+
+pub fitted-makes : (n : Net) (cs : List NetChoice) (U C : ℕ) → HasParts n cs U C → is_shallow n ≡ true → Makes n U C (data_program n cs U C)
+fitted-makes n cs U C h shallow = given-makes n (data_parts n cs) U C net (fit n cs U C h shallow) h.turns
+  where
+    net : is_net n ≡ true
+    net = and-left _ _ (and-left _ _ (and-left _ _ h.plain))
