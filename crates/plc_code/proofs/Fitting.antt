@@ -1,0 +1,67 @@
+-- What a guarded net has so that its program can be made of parts.
+use Rattle.std.proofs.Common.{◌≡◌, ℕ, zero, suc, ◌+◌, ◌≤◌, true, false, List, [], ◌∷◌, map, length, Some, None, Result, Ok, Err, IfOk, slice_get, refl, subst, arith}
+use Rattle.std.specs.List.{AllByRecursion, list_all}
+use Rattle.cif_model.specs.Listing.{NetChoice}
+use Rattle.cif_model.specs.Meaning.{system_of_net}
+use Rattle.cif_model.specs.Net.{NetChan, no_net_chan, void_net_chan, net_chan_of, NetEvent, Net}
+use Rattle.cif_model.specs.Shown.{channel_type}
+use Rattle.cif_model.proofs.Passing.{and-left, and-right}
+use Rattle.cif_model.proofs.PlainLaws.{never}
+use Rattle.cif_net.specs.View.{choice_tree, net_tree}
+use Rattle.cif_net.specs.declared.guarded.Guarded.{Guarded}
+use Rattle.cif_choices.proofs.Steps.{guarded-steps}
+use Rattle.plc_gen.specs.Given.{own_variables}
+use Rattle.plc_gen.specs.Small.{are_small}
+use Rattle.plc_gen.proofs.Choosing.{all-of}
+use Rattle.plc_parts.specs.Parts.{HasParts, data_parts, is_no_channel, is_silent}
+use Rattle.plc_code.specs.Named.{IsNamedChoice}
+use Rattle.plc_code.specs.Order.{Ascending}
+use Rattle.plc_code.proofs.Sorted.{listed-ascend}
+use Rattle.plc_code.proofs.Stand.{choice-named}
+
+pub if-ok : {A E : Type 0} (r : Result A E) (P : Type 0) → P → IfOk r (λ x. P)
+if-ok (Ok x) P p = p
+if-ok (Err e) P p = tt
+
+-- ---- channels
+
+no-chan : (c : NetChan) (x : NetEvent) → x.chan ≡ c → is_no_channel x ≡ true → channel_type c ≡ None
+no-chan no_net_chan x is h = refl
+no-chan void_net_chan x is h = never (subst (λ (d : NetChan). (elim d [ no_net_chan ↦ true | _ ↦ false ]) ≡ true) is h)
+no-chan (net_chan_of t) x is h = never (subst (λ (d : NetChan). (elim d [ no_net_chan ↦ true | _ ↦ false ]) ≡ true) is h)
+
+none-carried : (es : List NetEvent) (k : ℕ) → list_all is_no_channel es ≡ true → channel_type (elim (slice_get es k) [ None ↦ no_net_chan | Some x ↦ x.chan ]) ≡ None
+none-carried [] k h = refl
+none-carried (x ∷ es) zero h = no-chan x.chan x refl (and-left _ _ h)
+none-carried (x ∷ es) (suc k) h = none-carried es k (and-right _ _ h)
+
+-- ---- a guarded net
+
+module _ (g : Guarded) where
+  abbrev n : Net
+  n = net_tree g.plain.net
+
+  abbrev cs : List NetChoice
+  cs = map choice_tree g.choices
+
+  pub in-order : Ascending 0 cs
+  in-order = listed-ascend n (system_of_net n) cs (guarded-steps g).each
+
+  pub all-there : is_silent n ≡ true → AllByRecursion (IsNamedChoice n) cs
+  all-there silent =
+      all-of (IsNamedChoice n) cs
+      (λ k c at. choice-named n c ((guarded-steps g).stands k c at) (none-carried n.events c.event (and-right _ _ silent)))
+
+  pub has-parts : (U C next : ℕ) → is_silent n ≡ true → are_small n.vars ≡ true → are_small n.inputs ≡ true → U ≤ 10000 → C ≤ 10000
+      → next ≡ 2 + length (own_variables (data_parts n cs)) → next ≤ 2147483648 → HasParts n cs U C
+  has-parts U C next silent vars inputs unc con next_is most = record {
+    plain = g.plain.plain;
+    guarded = guarded-steps g;
+    silent = silent;
+    small_variables = vars;
+    small_inputs = inputs;
+    few_own = omega (arith, next_is, most);
+    turns = omega (arith, unc, con);
+    unc = omega (arith, unc);
+    con = omega (arith, con);
+  }

@@ -1,0 +1,15 @@
+pub mod Bare
+pub mod Others
+pub mod Assigning
+pub mod Marking
+pub mod Steps
+pub mod Facing
+pub mod Agreeing
+pub mod Namings
+pub mod Sorted
+pub mod Stand
+pub mod Parting
+pub mod Fitting
+pub mod Several
+pub mod Eventwise
+pub mod Updating

@@ -1,0 +1,20 @@
+//! The Structured Text program of a net with data (IEC 61131-3): the parts of its events, from which `plc_gen` makes the
+//! program.
+#![tactic(auto)]
+
+mod acting;
+mod emitting;
+mod events;
+mod faces;
+mod marks;
+mod moves;
+mod naming;
+mod parts;
+mod program;
+mod ranges;
+mod selecting;
+mod targets;
+mod types;
+mod writing;
+
+pub use emitting::emit;

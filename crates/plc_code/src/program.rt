@@ -1,0 +1,47 @@
+//! The program of a net with data.
+
+ghost use Rattle.std.specs.Prelude.{◌≡◌, ◌≤◌, true, map, IfOk};
+ghost use Rattle.cif_net.specs.View.{choice_tree, net_tree};
+ghost use Rattle.st_ast.specs.View.{view};
+ghost use Rattle.plc_gen.specs.Given.{FrameFits};
+ghost use Rattle.plc_gen.specs.Makes.{Makes};
+ghost use Rattle.plc_parts.specs.Parts.{HasParts, data_parts, data_program, is_silent};
+
+use crate::naming::names_of;
+use crate::parts::{Parts, all_parts};
+use cif_base::Memory;
+use cif_net::Guarded;
+use plc_gen::{Bounds, frame};
+use st_ast::Program;
+use std::alloc::Global;
+
+/// The number behind those of the most own variables, which are numbered from 2 on in 31 bits.
+const MOST_OWN: u32 = 2_147_483_648;
+
+/// The program of a net with data, of which no algebraic variable, no state invariant and no channel is left, where its parts fit
+/// into the frame. Own variables past 31 bits are want of memory. The time is linear in the choices and in what is written.
+pub(crate) fn emit_fitting(
+    alloc: Global,
+    guarded: &Guarded,
+    bounds: Bounds,
+) -> Result<Program, Memory>
+    requires silent { is_silent (net_tree guarded.now.plain.net) ≡ true }
+    requires unc { bounds.unc ≤ 10000 }
+    requires con { bounds.con ≤ 10000 }
+    requires fits { HasParts (net_tree guarded.now.plain.net) (map choice_tree guarded.now.choices) bounds.unc bounds.con
+        → FrameFits (net_tree guarded.now.plain.net) bounds.unc bounds.con
+        (data_parts (net_tree guarded.now.plain.net) (map choice_tree guarded.now.choices)) }
+    ensures program { IfOk result
+        (λ p. view p ≡ data_program (net_tree guarded.now.plain.net) (map choice_tree guarded.now.choices) bounds.unc bounds.con) }
+    ensures parts { IfOk result
+        (λ p. HasParts (net_tree guarded.now.plain.net) (map choice_tree guarded.now.choices) bounds.unc bounds.con) }
+    ensures makes { IfOk result (λ p. Makes (net_tree guarded.now.plain.net) bounds.unc bounds.con (view p)) }
+{
+    let net = &guarded.plain.net;
+    let names = names_of(alloc, net)?;
+    let Parts { parts, next } = all_parts(alloc, net, &names, guarded.choices.as_slice())?;
+    if next > MOST_OWN {
+        return Err(Memory);
+    }
+    frame(alloc, net, bounds, parts)
+}
