@@ -19,7 +19,7 @@ use Rattle.cif_alg.specs.declared.error.AlgErr.TheVariants as alg
 use Rattle.cif_lin.specs.declared.error.LinErr.{LinErr}
 use Rattle.cif_lin.specs.declared.error.LinErr.TheVariants as lin
 use Rattle.cif_source.specs.Source.{source_of}
-use Rattle.cif_image.specs.Built.{is_flat}
+use Rattle.cif_image.specs.Built.{is_built}
 use Rattle.cif_image.specs.WellFormed as rule
 use Rattle.cif_image.specs.WellFormed.{Broken}
 use Rattle.cif_front.specs.Dues.{IsDue, LexDue, ParseDue, HasRule, SourceDue, scope_rule, type_rule, inst_rule, alg_rule, lin_rule}
@@ -53,15 +53,23 @@ module _ (text : Text) where
   scope_ends scope.Memory h = absurd h
 
   type_ends : (e : TypeErr) → HasRule (SourceDue text) (type_rule e) → SourceEnds text (type_status_of e)
+  type_ends (type.Mismatch at) h = h
+  type_ends (type.NotConstant at) h = h
   type_ends (type.Initials at count) h = h
+  type_ends (type.NotOwn at) h = h
+  type_ends (type.AssignedTwice at) h = h
+  type_ends (type.Equations at count) h = h
   type_ends type.Memory h = absurd h
 
   inst_ends : (e : InstErr) → HasRule (SourceDue text) (inst_rule e) → SourceEnds text (inst_status_of e)
   inst_ends (inst.AlphabetLacks at) h = h
   inst_ends (inst.TooManyObjects count) h = h
+  inst_ends (inst.ConstantRange at) h = h
   inst_ends inst.Memory h = absurd h
 
   alg_ends : (e : AlgErr) → HasRule (SourceDue text) (alg_rule e) → SourceEnds text (alg_status_of e)
+  alg_ends (alg.ZeroDivisor at) h = h
+  alg_ends (alg.TooWide at) h = h
   alg_ends (alg.TooLarge nodes depth) h = h
   alg_ends alg.Memory h = absurd h
 
@@ -101,14 +109,22 @@ module _ (text : Text) (t : Built) (reads : ReadsAsBuilt text t) where
   refused_reads_none (refusal.NotRead at) h = h.no_tree reads.tree reads.read
   refused_reads_none (refusal.NotBuilt at) h =
       let same : source_of reads.tree ≡ source_of h.tree = ap source_of (reads_one text reads.tree h.tree reads.read h.read) in
-      false-true h.other (sym (ap is_flat (reads.is ∙ same)) ∙ reads.built)
+      false-true h.other (sym (ap is_built (reads.is ∙ same)) ∙ reads.built)
   refused_reads_none (refusal.Unknown at) h = source_keeps (rule.unknown at) h
   refused_reads_none (refusal.Duplicate at first) h = source_keeps (rule.duplicate at first) h
   refused_reads_none (refusal.WrongKind at) h = source_keeps (rule.wrong_kind at) h
   refused_reads_none (refusal.DefinitionCycle at) h = source_keeps (rule.definition_cycle at) h
+  refused_reads_none (refusal.Mismatch at) h = source_keeps (rule.mismatch at) h
+  refused_reads_none (refusal.NotConstant at) h = source_keeps (rule.not_constant at) h
   refused_reads_none (refusal.Initials at count) h = source_keeps (rule.initials at count) h
+  refused_reads_none (refusal.NotOwn at) h = source_keeps (rule.not_own at) h
+  refused_reads_none (refusal.AssignedTwice at) h = source_keeps (rule.assigned_twice at) h
+  refused_reads_none (refusal.Equations at count) h = source_keeps (rule.equations at count) h
   refused_reads_none (refusal.AlphabetLacks at) h = source_keeps (rule.alphabet_lacks at) h
   refused_reads_none (refusal.TooManyObjects count) h = source_keeps (rule.too_many_objects count) h
+  refused_reads_none (refusal.ConstantRange at) h = source_keeps (rule.constant_range at) h
+  refused_reads_none (refusal.ZeroDivisor at) h = source_keeps (rule.zero_divisor at) h
+  refused_reads_none (refusal.TooWide at) h = source_keeps (rule.too_wide at) h
   refused_reads_none (refusal.TooLarge nodes depth) h = source_keeps (rule.too_large nodes depth) h
 
 -- a text reads as one source at most

@@ -38,15 +38,23 @@ scope_status_of (scope.DefinitionCycle at) = status.Refused (refusal.DefinitionC
 scope_status_of scope.Memory = status.Memory
 
 abbrev pub type_status_of : TypeErr → Status
+type_status_of (type.Mismatch at) = status.Refused (refusal.Mismatch at)
+type_status_of (type.NotConstant at) = status.Refused (refusal.NotConstant at)
 type_status_of (type.Initials at count) = status.Refused (refusal.Initials at count)
+type_status_of (type.NotOwn at) = status.Refused (refusal.NotOwn at)
+type_status_of (type.AssignedTwice at) = status.Refused (refusal.AssignedTwice at)
+type_status_of (type.Equations at count) = status.Refused (refusal.Equations at count)
 type_status_of type.Memory = status.Memory
 
 abbrev pub inst_status_of : InstErr → Status
 inst_status_of (inst.AlphabetLacks at) = status.Refused (refusal.AlphabetLacks at)
 inst_status_of (inst.TooManyObjects count) = status.Refused (refusal.TooManyObjects count)
+inst_status_of (inst.ConstantRange at) = status.Refused (refusal.ConstantRange at)
 inst_status_of inst.Memory = status.Memory
 
 abbrev pub alg_status_of : AlgErr → Status
+alg_status_of (alg.ZeroDivisor at) = status.Refused (refusal.ZeroDivisor at)
+alg_status_of (alg.TooWide at) = status.Refused (refusal.TooWide at)
 alg_status_of (alg.TooLarge nodes depth) = status.Refused (refusal.TooLarge nodes depth)
 alg_status_of alg.Memory = status.Memory
 

@@ -51,12 +51,16 @@ fn scope_status(error: ScopeErr) -> Status
 fn type_status(error: TypeErr) -> Status
     ensures { result ≡ r.type_status_of error }
 {
-    match error {
-        TypeErr::Initials { at, count } => Status::Refused {
-            why: Refusal::Initials { at, count },
-        },
-        TypeErr::Memory => Status::Memory,
-    }
+    let why = match error {
+        TypeErr::Mismatch { at } => Refusal::Mismatch { at },
+        TypeErr::NotConstant { at } => Refusal::NotConstant { at },
+        TypeErr::Initials { at, count } => Refusal::Initials { at, count },
+        TypeErr::NotOwn { at } => Refusal::NotOwn { at },
+        TypeErr::AssignedTwice { at } => Refusal::AssignedTwice { at },
+        TypeErr::Equations { at, count } => Refusal::Equations { at, count },
+        TypeErr::Memory => return Status::Memory,
+    };
+    Status::Refused { why }
 }
 
 fn inst_status(error: InstErr) -> Status
@@ -65,6 +69,7 @@ fn inst_status(error: InstErr) -> Status
     let why = match error {
         InstErr::AlphabetLacks { at } => Refusal::AlphabetLacks { at },
         InstErr::TooManyObjects { count } => Refusal::TooManyObjects { count },
+        InstErr::ConstantRange { at } => Refusal::ConstantRange { at },
         InstErr::Memory => return Status::Memory,
     };
     Status::Refused { why }
@@ -73,12 +78,13 @@ fn inst_status(error: InstErr) -> Status
 fn alg_status(error: AlgErr) -> Status
     ensures { result ≡ r.alg_status_of error }
 {
-    match error {
-        AlgErr::TooLarge { nodes, depth } => Status::Refused {
-            why: Refusal::TooLarge { nodes, depth },
-        },
-        AlgErr::Memory => Status::Memory,
-    }
+    let why = match error {
+        AlgErr::ZeroDivisor { at } => Refusal::ZeroDivisor { at },
+        AlgErr::TooWide { at } => Refusal::TooWide { at },
+        AlgErr::TooLarge { nodes, depth } => Refusal::TooLarge { nodes, depth },
+        AlgErr::Memory => return Status::Memory,
+    };
+    Status::Refused { why }
 }
 
 fn lin_status(error: LinErr) -> Status

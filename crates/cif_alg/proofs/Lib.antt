@@ -4,7 +4,8 @@ mod TallyLaws
 mod AutoLaws
 mod ProductLaws
 mod NodeLaws
-mod BareLaws
+mod RoleLaws
 mod KeepLaws
 mod InlineLaws
+mod LimitLaws
 mod Rows

@@ -1,15 +1,16 @@
 -- Worked examples, each by computing: the nodes of a net, and what is counted.
 use Rattle.std.proofs.Common.{◌≡◌, ℕ, ◌+◌, ◌*◌, true, false, List, [], ◌∷◌, length, replicate, refl}
+use Rattle.std.specs.List.{list_all}
 use Rattle.cif_system.specs.System.{plain}
 use Rattle.cif_system.specs.Choices.{all_choices}
-use Rattle.cif_term.specs.Tree.{no_net_updates}
-use Rattle.cif_model.specs.Net.{no_net_chan, NetEdge, NetAuto, Net}
+use Rattle.cif_term.specs.Tree.{NetExpr, lt, no_net_updates}
+use Rattle.cif_model.specs.Net.{no_net_chan, NetEdge, NetAuto, NetExclusion, Net}
 use Rattle.cif_model.specs.Meaning.{system_of_net}
 use Rattle.cif_model.specs.Counts.{nodes, depth}
 use Rattle.cif_model.specs.Rules.{is_plain}
-use Rattle.cif_model.proofs.Examples.{sure, event, edge, auto, net_with, counter, channel, bounded, cycle}
-use Rattle.cif_alg.specs.Bare.{is_bare}
-use Rattle.cif_alg.specs.Tallies.{counted}
+use Rattle.cif_model.proofs.Examples.{sure, num, var, compare, event, edge, auto, net_with, counter, channel}
+use Rattle.cif_alg.specs.Channels.{is_no_channel}
+use Rattle.cif_alg.specs.Tallies.{edge_nodes, exclusion_nodes, counted}
 
 -- so many edges for event 0
 abbrev with_edges : ℕ → NetAuto
@@ -22,14 +23,11 @@ abbrev net : List NetAuto → Net
 net autos = net_with (event plain no_net_chan) autos
 
 abbrev nodes_counted : Net → ℕ
-nodes_counted n = counted n.autos (length n.events)
+nodes_counted n = counted n.autos n.exclusions (length n.events)
 
 -- three edges and four: twelve choices, each itself, two parties and two guards
 abbrev two : Net
 two = net (with_edges 3 ∷ with_edges 4 ∷ [])
-
-two_is_bare : is_bare two ≡ true
-two_is_bare = refl
 
 two_is_plain : is_plain two ≡ true
 two_is_plain = refl
@@ -41,6 +39,7 @@ two_nodes : nodes two ≡ 12 * (1 + 2 + 2)
 two_nodes = refl
 
 two_counted : nodes_counted two ≡ 60
+unfolding edge_nodes exclusion_nodes
 two_counted = refl
 
 two_depth : depth two ≡ 0
@@ -54,6 +53,7 @@ watched_nodes : nodes watched ≡ 12 * (1 + 2 + 2) + 4 * (1 + 2 + 1)
 watched_nodes = refl
 
 watched_counted : nodes_counted watched ≡ 76
+unfolding edge_nodes exclusion_nodes
 watched_counted = refl
 
 -- an automaton that always stays
@@ -64,6 +64,7 @@ idle_nodes : nodes idle ≡ 1 + 1
 idle_nodes = refl
 
 idle_counted : nodes_counted idle ≡ 2
+unfolding edge_nodes exclusion_nodes
 idle_counted = refl
 
 -- one that has the event and no edge for it blocks it
@@ -74,6 +75,7 @@ blocked_nodes : nodes blocked ≡ 0
 blocked_nodes = refl
 
 blocked_counted : nodes_counted blocked ≡ 0
+unfolding edge_nodes exclusion_nodes
 blocked_counted = refl
 
 -- an event that nobody has
@@ -84,6 +86,7 @@ lonely_nodes : nodes lonely ≡ 0
 lonely_nodes = refl
 
 lonely_counted : nodes_counted lonely ≡ 0
+unfolding edge_nodes exclusion_nodes
 lonely_counted = refl
 
 -- one that stands twice in an alphabet
@@ -94,6 +97,7 @@ repeated_nodes : nodes repeated ≡ 3 * (1 + 1 + 1)
 repeated_nodes = refl
 
 repeated_counted : nodes_counted repeated ≡ 9
+unfolding edge_nodes exclusion_nodes
 repeated_counted = refl
 
 -- 1,000,000 nodes, and three more of another event
@@ -104,23 +108,58 @@ abbrev largest : Net
 largest = net (with_edges 400 ∷ with_edges 500 ∷ [])
 
 largest_counted : nodes_counted largest ≡ 1000000
+unfolding edge_nodes exclusion_nodes
 largest_counted = refl
 
 abbrev larger : Net
 larger = record largest { autos = with_edges 400 ∷ with_edges 500 ∷ auto (1 ∷ []) (second ∷ []) ∷ []; events = event plain no_net_chan ∷ event plain no_net_chan ∷ [] }
 
 larger_counted : nodes_counted larger ≡ 1000001
+unfolding edge_nodes exclusion_nodes
 larger_counted = refl
 
--- nets that read or write something
-counter_is_not_bare : is_bare (counter sure) ≡ false
-counter_is_not_bare = refl
+-- a guard of three forms, and an update of three
+abbrev small : NetExpr
+small = compare (var 0) lt (num 10)
 
-channel_is_not_bare : is_bare channel ≡ false
-channel_is_not_bare = refl
+counting_nodes : nodes (counter small) ≡ 1 + 1 + 3 + 3
+counting_nodes = refl
 
-bounded_is_not_bare : is_bare bounded ≡ false
-bounded_is_not_bare = refl
+counting_counted : nodes_counted (counter small) ≡ 8
+unfolding edge_nodes exclusion_nodes
+counting_counted = refl
 
-cycle_is_not_bare : is_bare cycle ≡ false
-cycle_is_not_bare = refl
+counting_depth : depth (counter small) ≡ 1
+counting_depth = refl
+
+counting_is_plain : is_plain (counter small) ≡ true
+counting_is_plain = refl
+
+-- each choice has the nodes of the exclusions of its event, and of no other
+abbrev exclusion : (event : ℕ) → NetExpr → NetExclusion
+exclusion e p = record { event = e; allows = true; pred = p }
+
+abbrev excluded : Net
+excluded = record two { exclusions = exclusion 0 small ∷ exclusion 0 sure ∷ exclusion 1 small ∷ []; events = event plain no_net_chan ∷ event plain no_net_chan ∷ [] }
+
+excluded_nodes : nodes excluded ≡ 12 * (1 + 2 + 2 + 3 + 1)
+excluded_nodes = refl
+
+excluded_counted : nodes_counted excluded ≡ 108
+unfolding edge_nodes exclusion_nodes
+excluded_counted = refl
+
+-- exclusions of an event that nobody has
+abbrev unheeded : Net
+unheeded = record lonely { exclusions = exclusion 0 small ∷ [] }
+
+unheeded_nodes : nodes unheeded ≡ 0
+unheeded_nodes = refl
+
+unheeded_counted : nodes_counted unheeded ≡ 0
+unfolding edge_nodes exclusion_nodes
+unheeded_counted = refl
+
+-- a net with a channel
+channel_has_one : list_all is_no_channel channel.events ≡ false
+channel_has_one = refl

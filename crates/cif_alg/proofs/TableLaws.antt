@@ -53,10 +53,10 @@ changed-table g k n f = let m : 0 + k ≡ k = omega arith in changed-from g k 0 
 
 -- ---- one change after another
 
-abbrev pub each_at : {X A : Type 0} → (X → ℕ) → (A → A) → List X → (j : ℕ) → A → A
+abbrev pub each_at : {X A : Type 0} → (X → ℕ) → (X → A → A) → List X → (j : ℕ) → A → A
 each_at key g [] j t = t
-each_at key g (x ∷ xs) j t = each_at key g xs j (changed_at g (key x) j t)
+each_at key g (x ∷ xs) j t = each_at key g xs j (changed_at (g x) (key x) j t)
 
-pub each-table : {X A : Type 0} (key : X → ℕ) (g : A → A) (xs : List X) (n : ℕ) (f : ℕ → A) → each_changed key g xs (table f 0 n) ≡ table (λ j. each_at key g xs j (f j)) 0 n
+pub each-table : {X A : Type 0} (key : X → ℕ) (g : X → A → A) (xs : List X) (n : ℕ) (f : ℕ → A) → each_changed key g xs (table f 0 n) ≡ table (λ j. each_at key g xs j (f j)) 0 n
 each-table key g [] n f = refl
-each-table key g (x ∷ xs) n f = ap (each_changed key g xs) (changed-table g (key x) n f) ∙ each-table key g xs n (λ j. changed_at g (key x) j (f j))
+each-table key g (x ∷ xs) n f = ap (each_changed key g xs) (changed-table (g x) (key x) n f) ∙ each-table key g xs n (λ j. changed_at (g x) (key x) j (f j))

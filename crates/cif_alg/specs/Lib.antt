@@ -1,4 +1,5 @@
-pub mod Bare
+pub mod Channels
 pub mod Keeps
+pub mod Refusals
 pub mod Weighed
 pub mod Tallies

@@ -1,6 +1,10 @@
 -- What is counted for each event, automaton by automaton.
 use Rattle.std.specs.Prelude.{ℕ, ◌+◌, true, false, List, [], ◌∷◌, Some, None, option_map, replicate, slice_get, slice_set, if◌then◌else◌}
-use Rattle.cif_model.specs.Net.{NetEdge, NetAuto}
+use Rattle.cif_term.specs.Tree.{NetExpr}
+use Rattle.cif_model.specs.Net.{NetEdge, NetAuto, NetExclusion}
+use Rattle.cif_model.specs.Exprs.{edge_exprs}
+use Rattle.cif_measure.specs.Meanings.{table_measure}
+use Rattle.cif_measure.specs.Sizes.{sizes_by}
 use Rattle.cif_alg.specs.declared.weighed.Weighed.{Weighed}
 use Rattle.cif_alg.specs.declared.tally.Options.{Options}
 use Rattle.cif_alg.specs.declared.tally.Tally.{Tally}
@@ -9,7 +13,7 @@ use Rattle.cif_alg.specs.Weighed.{cut, with_one, paired, all_nodes}
 -- ---- one event
 
 abbrev pub nothing_met : Tally
-nothing_met = record { choices = record { count = 1; nodes = 0 }; has_party = false; options = None }
+nothing_met = record { choices = record { count = 1; nodes = 0 }; has_party = false; options = None; besides = 0 }
 
 -- an automaton that has the event begins
 abbrev pub opened : Tally → Tally
@@ -37,12 +41,29 @@ all_options o = if o.stays then with_one 1 o.edges else o.edges
 abbrev pub closed : Tally → Tally
 closed t = elim t.options [
   | None ↦ t
-  | Some o ↦ record { choices = paired t.choices (all_options o); has_party = true; options = None }
+  | Some o ↦ record t { choices = paired t.choices (all_options o); has_party = true; options = None }
 ]
 
--- the nodes of all choices, of which there is none without a party
+-- the event has an exclusion, with so many nodes
+abbrev pub with_besides : (nodes : ℕ) → Tally → Tally
+with_besides nodes t = record t { besides = cut (t.besides + nodes) }
+
+-- the nodes of all choices, each with one of its own; there is none without a party
 abbrev pub tally_nodes : Tally → ℕ
-tally_nodes t = if t.has_party then all_nodes t.choices else 0
+tally_nodes t = if t.has_party then all_nodes (cut (1 + t.besides)) t.choices else 0
+
+-- ---- sizes
+
+-- what expressions weigh that name no algebraic variable
+abbrev pub plain_size : List NetExpr → ℕ
+plain_size es = cut (sizes_by (table_measure []) es)
+
+-- an edge as an option: the party, and its expressions
+unfoldable pub edge_nodes : NetEdge → ℕ
+edge_nodes x = cut (1 + plain_size (edge_exprs x))
+
+unfoldable pub exclusion_nodes : NetExclusion → ℕ
+exclusion_nodes x = plain_size (x.pred ∷ [])
 
 -- ---- all events
 
@@ -51,22 +72,24 @@ abbrev pub changed : {A : Type 0} → (A → A) → ℕ → List A → List A
 changed g k xs = elim (slice_get xs k) [ None ↦ xs | Some x ↦ slice_set xs k (g x) ]
 
 -- for each of the elements, at its key
-abbrev pub each_changed : {X A : Type 0} → (X → ℕ) → (A → A) → List X → List A → List A
+abbrev pub each_changed : {X A : Type 0} → (X → ℕ) → (X → A → A) → List X → List A → List A
 each_changed key g [] ts = ts
-each_changed key g (x ∷ xs) ts = each_changed key g xs (changed g (key x) ts)
+each_changed key g (x ∷ xs) ts = each_changed key g xs (changed (g x) (key x) ts)
 
 abbrev pub opened_for : (events : List ℕ) → List Tally → List Tally
-opened_for es ts = each_changed (λ e. e) opened es ts
+opened_for es ts = each_changed (λ e. e) (λ e. opened) es ts
 
--- an edge has two nodes: the party, and a guard of one form
 abbrev pub edges_noted : List NetEdge → List Tally → List Tally
-edges_noted xs ts = each_changed (λ (x : NetEdge). x.event) (with_edge 2) xs ts
+edges_noted xs ts = each_changed (λ (x : NetEdge). x.event) (λ x. with_edge (edge_nodes x)) xs ts
 
 abbrev pub stays_noted : (events : List ℕ) → List Tally → List Tally
-stays_noted es ts = each_changed (λ e. e) with_stay es ts
+stays_noted es ts = each_changed (λ e. e) (λ e. with_stay) es ts
 
 abbrev pub closed_for : (events : List ℕ) → List Tally → List Tally
-closed_for es ts = each_changed (λ e. e) closed es ts
+closed_for es ts = each_changed (λ e. e) (λ e. closed) es ts
+
+abbrev pub exclusions_noted : List NetExclusion → List Tally → List Tally
+exclusions_noted xs ts = each_changed (λ (x : NetExclusion). x.event) (λ x. with_besides (exclusion_nodes x)) xs ts
 
 -- an automaton is counted for the events of its alphabet
 abbrev pub tallied : NetAuto → List Tally → List Tally
@@ -80,5 +103,5 @@ abbrev pub tallies_nodes : ℕ → List Tally → ℕ
 tallies_nodes n [] = n
 tallies_nodes n (t ∷ ts) = tallies_nodes (cut (n + tally_nodes t)) ts
 
-abbrev pub counted : List NetAuto → (events : ℕ) → ℕ
-counted autos events = tallies_nodes 0 (all_tallied autos (replicate events nothing_met))
+abbrev pub counted : List NetAuto → List NetExclusion → (events : ℕ) → ℕ
+counted autos exclusions events = tallies_nodes 0 (exclusions_noted exclusions (all_tallied autos (replicate events nothing_met)))

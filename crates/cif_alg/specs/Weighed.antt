@@ -17,6 +17,6 @@ with_one nodes a = record { count = cut (a.count + 1); nodes = cut (a.nodes + no
 abbrev pub paired : Weighed → Weighed → Weighed
 paired a b = record { count = cut (a.count * b.count); nodes = cut (cut (a.nodes * b.count) + cut (a.count * b.nodes)) }
 
--- with one node more for each
-abbrev pub all_nodes : Weighed → ℕ
-all_nodes a = cut (a.count + a.nodes)
+-- the nodes of all, with so many more for each
+abbrev pub all_nodes : (each : ℕ) → Weighed → ℕ
+all_nodes each a = cut (cut (a.count * each) + a.nodes)

@@ -1,26 +1,26 @@
 //! The nodes of the choices of all events, without listing the choices.
 
 ghost use Rattle.std.specs.Prelude.{◌≡◌, length, map, IfOk};
-ghost use Rattle.cif_net.specs.View.{auto_tree, edge_tree};
-ghost use Rattle.cif_alg.specs.Tallies.{tallies_nodes, opened_for, edges_noted, stays_noted, closed_for, tallied, all_tallied, counted};
+ghost use Rattle.cif_net.specs.View.{auto_tree, edge_tree, exclusion_tree};
+ghost use Rattle.cif_alg.specs.Tallies.{tallies_nodes, edge_nodes, exclusion_nodes, opened_for, edges_noted, stays_noted, closed_for, tallied, all_tallied, exclusions_noted, counted};
 
 use crate::limit::sum;
 use crate::tally::Tally;
 use cif_base::{Items, Memory};
-use cif_net::{Auto, Net, NetEdge};
+use cif_measure::{edge_size, exclusion_size};
+use cif_net::{Auto, Exclusion, Net, NetEdge};
 use std::alloc::Global;
 
-/// The nodes of an edge as an option: the party, and a guard of one form.
-const EDGE_NODES: u64 = 2;
-
-/// The nodes of the choices of all events, where the count stops one past the limit. The time is linear in what alphabets,
-/// monitors, edges and events there are.
+/// The nodes of the choices of all events of a net without algebraic variables, state invariants and channels, where the count
+/// stops one past the limit. The time is linear in what alphabets, monitors, edges, exclusions and events there are, with their
+/// expressions.
 pub fn choice_nodes(alloc: Global, net: &Net) -> Result<u64, Memory>
     ensures { IfOk result
-        (λ nodes. nodes ≡ counted (map auto_tree net.now.autos) (length net.now.events)) }
+        (λ nodes. nodes ≡ counted (map auto_tree net.now.autos) (map exclusion_tree net.now.exclusions) (length net.now.events)) }
 {
     let mut tallies = Items::filled(alloc, Tally::new(), net.events.len())?;
     tally_all(&mut tallies, net.autos.as_slice());
+    note_exclusions(&mut tallies, net.exclusions.as_slice());
     Ok(all_nodes(tallies.as_slice()))
 }
 
@@ -69,9 +69,17 @@ fn note_edges(tallies: &mut Items<Tally>, edges: &[NetEdge])
     for edge in edges {
         let at = edge.event as usize;
         if let Some(tally) = tallies.get(at).copied() {
-            tallies.set(at, tally.with_edge(EDGE_NODES));
+            tallies.set(at, tally.with_edge(edge_nodes(edge)));
         }
     }
+}
+
+/// The nodes of an edge as an option: the party, and those of its expressions.
+#[tactic(auto, unfolding(crate::specs::Tallies::edge_nodes))]
+fn edge_nodes(edge: &NetEdge) -> u64
+    ensures { result ≡ edge_nodes (edge_tree edge.now) }
+{
+    sum(1, edge_size(&[], edge))
 }
 
 fn note_stays(tallies: &mut Items<Tally>, events: &[u32])
@@ -95,4 +103,23 @@ fn close_for(tallies: &mut Items<Tally>, events: &[u32])
             tallies.set(at, tally.closed());
         }
     }
+}
+
+fn note_exclusions(tallies: &mut Items<Tally>, exclusions: &[Exclusion])
+    ensures { tallies.new ≡ exclusions_noted (map exclusion_tree exclusions.now) tallies.old }
+{
+    for exclusion in exclusions {
+        let at = exclusion.event as usize;
+        if let Some(tally) = tallies.get(at).copied() {
+            tallies.set(at, tally.with_besides(exclusion_nodes(exclusion)));
+        }
+    }
+}
+
+/// The nodes of an exclusion, those of its predicate.
+#[tactic(auto, unfolding(crate::specs::Tallies::exclusion_nodes))]
+fn exclusion_nodes(exclusion: &Exclusion) -> u64
+    ensures { result ≡ exclusion_nodes (exclusion_tree exclusion.now) }
+{
+    exclusion_size(&[], exclusion)
 }

@@ -1,13 +1,19 @@
 //! Why a net is not made plain.
 
 ghost use Rattle.std.specs.Prelude.{◌≡◌};
+ghost use Rattle.cif_alg.specs.Refusals.{interval_refusal};
 ghost use Rattle.cif_alg.specs.declared.error.AlgErr.TheVariants.{Memory as no_memory};
 
 use cif_base::Memory;
+use cif_measure::{IntervalErr, WidthErr};
 
-/// Why a net is not made plain, or that memory ran out.
+/// Why a net is not made plain, or that memory ran out. `at` is the byte of the source where the divisor or the part begins.
 #[derive(Clone, Copy, Debug, PartialEq, Eq)]
 pub enum AlgErr {
+    /// The interval of the divisor has 0.
+    ZeroDivisor { at: u32 },
+    /// The interval of the part of an expression leaves 64 bits.
+    TooWide { at: u32 },
     /// The choices of the net have more than 1,000,000 nodes, or an expression is deeper than 100. Each count stops one past
     /// its limit.
     TooLarge { nodes: u32, depth: u32 },
@@ -19,5 +25,17 @@ impl From<Memory> for AlgErr {
 
     fn from(_error: Memory) -> AlgErr {
         AlgErr::Memory
+    }
+}
+
+impl From<IntervalErr> for AlgErr {
+    ghost from_gives = { λ e r. r ≡ interval_refusal e };
+
+    fn from(error: IntervalErr) -> AlgErr {
+        match error {
+            IntervalErr::Width(WidthErr::ZeroDivisor { at }) => AlgErr::ZeroDivisor { at },
+            IntervalErr::Width(WidthErr::TooWide { at }) => AlgErr::TooWide { at },
+            IntervalErr::Memory => AlgErr::Memory,
+        }
     }
 }

@@ -1,30 +1,69 @@
 //! Plain nets.
 
-ghost use Rattle.std.specs.Prelude.{◌≡◌, true, IfOk, IfErr};
+ghost use Rattle.std.specs.Prelude.{◌≡◌, nat_lt, true, false, ◌||◌, [], IfOk, IfErr};
+ghost use Rattle.std.specs.List.{list_all};
+ghost use Rattle.cif_model.specs.Counts.{most_nodes, most_depth, is_too_large};
+ghost use Rattle.cif_model.specs.Rules.{evaluated, is_plain_expr};
 ghost use Rattle.cif_net.specs.View.{net_tree};
-ghost use Rattle.cif_alg.specs.Bare.{is_bare};
+ghost use Rattle.cif_alg.specs.Channels.{is_no_channel};
 ghost use Rattle.cif_alg.specs.Keeps.{KeepsAlgebraic, due};
 
 use crate::counting::choice_nodes;
 use crate::error::AlgErr;
-use crate::limit::MOST_NODES;
+use cif_measure::{MOST_DEPTH, MOST_NODES, check_intervals, depth_of};
 use cif_net::{Net, Plain};
 use std::alloc::Global;
 
-/// The net with algebraic variables replaced by their definitions, which is the net itself where it has none. The depth of
-/// its expressions is 0.
+/// The net with algebraic variables replaced by their definitions (CIF 3 language reference, "Algebraic variables"), which is
+/// the net itself where it has none. It is refused where a divisor may be 0, where a part of an expression may leave 64 bits, and
+/// where its choices have too many nodes or an expression is too deep: see `AlgErr`.
 pub fn inline(alloc: Global, net: Net) -> Result<Plain, AlgErr>
-    requires forms { is_bare (net_tree net) ≡ true }
+    requires algs { (net_tree net).algs ≡ [] }
+    requires invariants { (net_tree net).invariants ≡ [] }
+    requires channels { list_all is_no_channel (net_tree net).events ≡ true }
     ensures plain { IfOk result (λ p. p.net ≡ net) }
     ensures keeps { IfOk result (λ p. KeepsAlgebraic (net_tree net)) }
     ensures refused { IfErr result (λ e. due (net_tree net) e) }
 {
-    let nodes = choice_nodes(alloc, &net)?;
-    if nodes > MOST_NODES {
+    check_rules(alloc, &net)?;
+    Ok(Plain { net })
+}
+
+/// Whether the interval of each part of an expression is in 64 bits, no divisor may be 0, and the net is within the limits.
+fn check_rules(alloc: Global, net: &Net) -> Result<(), AlgErr>
+    requires algs { (net_tree net.now).algs ≡ [] }
+    requires invariants { (net_tree net.now).invariants ≡ [] }
+    requires channels { list_all is_no_channel (net_tree net.now).events ≡ true }
+    ensures exprs { IfOk result (λ done. list_all (is_plain_expr (net_tree net.now)) (evaluated (net_tree net.now)) ≡ true) }
+    ensures small { IfOk result (λ done. is_too_large (net_tree net.now) ≡ false) }
+    ensures refused { IfErr result (λ e. due (net_tree net.now) e) }
+{
+    check_intervals(alloc, net)?;
+    check_size(alloc, net)
+}
+
+/// Whether the choices of a net have no more nodes than the limit, and its expressions are no deeper than theirs.
+fn check_size(alloc: Global, net: &Net) -> Result<(), AlgErr>
+    requires algs { (net_tree net.now).algs ≡ [] }
+    requires invariants { (net_tree net.now).invariants ≡ [] }
+    requires channels { list_all is_no_channel (net_tree net.now).events ≡ true }
+    ensures small { IfOk result (λ done. is_too_large (net_tree net.now) ≡ false) }
+    ensures refused { IfErr result (λ e. due (net_tree net.now) e) }
+{
+    let nodes = choice_nodes(alloc, net)?;
+    let depth = depth_of(net);
+    if is_over(nodes, depth) {
         return Err(AlgErr::TooLarge {
             nodes: nodes as u32,
-            depth: 0,
+            depth: depth as u32,
         });
     }
-    Ok(Plain { net })
+    Ok(())
+}
+
+/// Whether one of the counts is past its limit.
+fn is_over(nodes: u64, depth: u64) -> bool
+    ensures { result ≡ (nat_lt most_nodes nodes || nat_lt most_depth depth) }
+{
+    nodes > MOST_NODES || depth > MOST_DEPTH
 }

@@ -3,8 +3,7 @@
 ghost use Rattle.std.specs.Prelude.{◌≡◌, ◌+◌, ◌*◌};
 ghost use Rattle.cif_alg.specs.Weighed.{cut};
 
-/// The most nodes that the choices of a net may have.
-pub const MOST_NODES: u64 = 1_000_000;
+use cif_measure::MOST_NODES;
 
 /// The sum of two counts.
 pub fn sum(left: u64, right: u64) -> u64

@@ -1,17 +1,19 @@
 //! What is counted for one event, automaton by automaton.
 
 ghost use Rattle.std.specs.Prelude.{◌≡◌};
-ghost use Rattle.cif_alg.specs.Tallies.{nothing_met, opened, with_edge, with_stay, all_options, closed, tally_nodes};
+ghost use Rattle.cif_alg.specs.Tallies.{nothing_met, opened, with_edge, with_stay, all_options, closed, with_besides, tally_nodes};
 
+use crate::limit::sum;
 use crate::weighed::Weighed;
 
 /// The choices of the automata so far, and whether one of them has the event. While an automaton that has it is gone
-/// through, `options` are its options.
+/// through, `options` are its options. Each choice has the nodes `besides`, those of the exclusions of the event.
 #[derive(Clone, Copy)]
 pub struct Tally {
     pub choices: Weighed,
     pub has_party: bool,
     pub options: Option<Options>,
+    pub besides: u64,
 }
 
 /// What an automaton may do for the event: to take one of these edges, or to stay.
@@ -43,6 +45,7 @@ impl Tally {
             choices: Weighed { count: 1, nodes: 0 },
             has_party: false,
             options: None,
+            besides: 0,
         }
     }
 
@@ -57,6 +60,7 @@ impl Tally {
                 edges: Weighed { count: 0, nodes: 0 },
                 stays: false,
             }),
+            besides: self.besides,
         }
     }
 
@@ -73,6 +77,7 @@ impl Tally {
                     edges: options.edges.with_one(nodes),
                     stays: options.stays,
                 }),
+                besides: self.besides,
             },
         }
     }
@@ -90,6 +95,7 @@ impl Tally {
                     edges: options.edges,
                     stays: true,
                 }),
+                besides: self.besides,
             },
         }
     }
@@ -104,16 +110,29 @@ impl Tally {
                 choices: self.choices.paired(options.all()),
                 has_party: true,
                 options: None,
+                besides: self.besides,
             },
         }
     }
 
-    /// The nodes of the choices for the event, of which there is none without a party.
+    /// The event has an exclusion, with so many nodes.
+    pub fn with_besides(self, nodes: u64) -> Tally
+        ensures { result ≡ with_besides nodes self }
+    {
+        Tally {
+            choices: self.choices,
+            has_party: self.has_party,
+            options: self.options,
+            besides: sum(self.besides, nodes),
+        }
+    }
+
+    /// The nodes of the choices for the event, each with one of its own. There is none without a party.
     pub fn nodes(self) -> u64
         ensures { result ≡ tally_nodes self }
     {
         if self.has_party {
-            self.choices.all_nodes()
+            self.choices.all_nodes(sum(1, self.besides))
         } else {
             0
         }

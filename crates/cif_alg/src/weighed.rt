@@ -36,10 +36,10 @@ impl Weighed {
         }
     }
 
-    /// The nodes of all, with one more for each.
-    pub fn all_nodes(self) -> u64
-        ensures { result ≡ all_nodes self }
+    /// The nodes of all, with so many more for each.
+    pub fn all_nodes(self, each: u64) -> u64
+        ensures { result ≡ all_nodes each self }
     {
-        sum(self.count, self.nodes)
+        sum(product(self.count, each), self.nodes)
     }
 }

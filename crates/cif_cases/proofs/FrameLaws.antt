@@ -1,21 +1,15 @@
 -- For a net without events no part is to be given to the frame.
-use Rattle.std.proofs.Common.{◌≡◌, ℕ, ◌≤◌, true, List, [], map, length, ap, subst, arith}
+use Rattle.std.proofs.Common.{◌≡◌, ℕ, true, List, [], length, ap, subst}
 use Rattle.std.specs.List.{range_with_len}
 use Rattle.cif_model.specs.Net.{Net, NetEvent}
-use Rattle.cif_model.specs.Facts.{is_net}
 use Rattle.cif_model.specs.Listing.{NetChoice}
-use Rattle.cif_model.specs.Table.{IsGuarded}
-use Rattle.plc_gen.specs.Emitted.{parts_from}
-use Rattle.plc_gen.specs.Events.{written_for}
-use Rattle.plc_gen.specs.Given.{FrameFits, bare_part, emitted_parts}
-use Rattle.plc_gen.specs.Makes.{needs_tests_alone}
-use Rattle.plc_gen.specs.Small.{are_small}
-use Rattle.plc_gen.proofs.GivenLaws.{emitted-fit}
+use Rattle.cif_nesting.specs.Nesting.{is_shallow}
+use Rattle.plc_gen.specs.Given.{FrameFits}
+use Rattle.plc_parts.specs.Parts.{HasParts, parts_from, data_parts}
+use Rattle.plc_fits.proofs.FitLaws.{fit}
 
-no-parts : (n : Net) (cs : List NetChoice) → n.events ≡ [] → emitted_parts n cs ≡ []
-no-parts n cs none = ap (λ (es : List NetEvent). map bare_part (parts_from 2 (map (written_for n cs) (range_with_len 0 (length es))))) none
+no-parts : (n : Net) (cs : List NetChoice) → n.events ≡ [] → data_parts n cs ≡ []
+no-parts n cs none = ap (λ (es : List NetEvent). parts_from n cs 2 (range_with_len 0 (length es))) none
 
-pub nothing-fits : (n : Net) (cs : List NetChoice) (U C : ℕ) → is_net n ≡ true → IsGuarded n cs → needs_tests_alone n cs ≡ true → U ≤ 10000 → C ≤ 10000
-    → are_small n.vars ≡ true → are_small n.inputs ≡ true → n.events ≡ [] → FrameFits n U C []
-nothing-fits n cs U C net guarded alone u c vars inputs none =
-    subst (FrameFits n U C) (no-parts n cs none) (emitted-fit n cs U C net guarded alone (omega (arith, u, c)) (omega (arith, u)) (omega (arith, c)) vars inputs)
+pub nothing_fits : (n : Net) (cs : List NetChoice) (U C : ℕ) → HasParts n cs U C → is_shallow n ≡ true → n.events ≡ [] → FrameFits n U C []
+nothing_fits n cs U C h shallow none = subst (FrameFits n U C) (no-parts n cs none) (fit n cs U C h shallow)

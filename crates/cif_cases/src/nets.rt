@@ -1,9 +1,9 @@
 //! Cases of nets: sources of the forms that are built, their nets with the choices of all events, and their programs.
 
 ghost use Rattle.std.specs.Prelude.{◌≡◌, ◌≤◌, [], map, true, length, IfOk};
-ghost use Rattle.cif_model.specs.Table.{IsGuarded};
-ghost use Rattle.cif_net.specs.View.{choice_tree, net_tree};
-ghost use Rattle.plc_gen.specs.Makes.{is_dataless, needs_tests_alone};
+ghost use Rattle.cif_net.specs.View.{net_tree};
+ghost use Rattle.cif_nesting.specs.Nesting.{is_shallow};
+ghost use Rattle.plc_parts.specs.Parts.{is_silent};
 
 use crate::sources::{put_no_tree, spec_of};
 use case_text::{Fault, Fields, Put, put_lines, put_text};
@@ -13,7 +13,8 @@ use cif_front::{Refusal, load};
 use cif_measure::{check_intervals, depth_of};
 use cif_net::{Auto, Choice, Class, Event, Guarded, Move, Net, NetEdge, State};
 use plc_back::generate_text;
-use plc_gen::{Bounds, emit, frame};
+use plc_code::emit;
+use plc_gen::{Bounds, frame};
 use st_print::print;
 use std::alloc::Global;
 
@@ -44,9 +45,10 @@ pub fn load_case(fields: &Fields<'_>, page: &mut String) -> Result<(), Fault> {
     }
 }
 
-#[tactic(auto, using(crate::proofs::NetLaws::loads_dataless))]
+#[tactic(auto, using(crate::proofs::NetLaws::loads_silent, crate::proofs::NetLaws::loads_shallow))]
 fn loaded(alloc: Global, text: &[u8]) -> Result<Result<Guarded, Refusal>, Fault>
-    ensures { IfOk result (λ answer. IfOk answer (λ g. is_dataless (net_tree g.plain.net) ≡ true)) }
+    ensures silent { IfOk result (λ answer. IfOk answer (λ g. is_silent (net_tree g.plain.net) ≡ true)) }
+    ensures shallow { IfOk result (λ answer. IfOk answer (λ g. is_shallow (net_tree g.plain.net) ≡ true)) }
 {
     if text.len() > MOST_BYTES {
         return Err(Fault::Form("a source has at most 4194304 bytes"));
@@ -201,33 +203,18 @@ pub fn frame_case(fields: &Fields<'_>, page: &mut String) -> Result<(), Fault> {
 }
 
 /// The text of the frame of a net without events.
+#[tactic(auto, using(crate::proofs::FrameLaws::nothing_fits))]
 fn framed(alloc: Global, guarded: &Guarded, bounds: Bounds) -> Result<Vec<u8>, Memory>
-    requires data { is_dataless (net_tree guarded.now.plain.net) ≡ true }
+    requires silent { is_silent (net_tree guarded.now.plain.net) ≡ true }
+    requires shallow { is_shallow (net_tree guarded.now.plain.net) ≡ true }
     requires events { (net_tree guarded.now.plain.net).events ≡ [] }
     requires unc { bounds.unc ≤ 10000 }
     requires con { bounds.con ≤ 10000 }
 {
-    let net = &guarded.plain.net;
-    let choices = guarded.choices.as_slice();
-    framed_text(alloc, net, choices, bounds)
-}
-
-fn framed_text(
-    alloc: Global,
-    net: &Net,
-    choices: &[Choice],
-    bounds: Bounds,
-) -> Result<Vec<u8>, Memory>
-    requires guarded { IsGuarded (net_tree net.now) (map choice_tree choices.now) }
-    requires tests { needs_tests_alone (net_tree net.now) (map choice_tree choices.now) ≡ true }
-    requires events { (net_tree net.now).events ≡ [] }
-    requires unc { bounds.unc ≤ 10000 }
-    requires con { bounds.con ≤ 10000 }
-{
     // That the program of the net could be emitted tells that its enumerations are small.
-    let _emitted = emit(alloc, net, choices, bounds)?;
+    let _emitted = emit(alloc, guarded, bounds)?;
     let parts = Items::new(alloc);
-    let program = frame(alloc, net, bounds, parts)?;
+    let program = frame(alloc, &guarded.plain.net, bounds, parts)?;
     print(alloc, &program)
 }
 

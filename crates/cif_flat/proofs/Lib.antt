@@ -1,10 +1,4 @@
 pub mod Lists
 pub mod Walk
 pub mod Forms
-pub mod ScopeLaws
-pub mod BodyLaws
-pub mod InstanceLaws
-pub mod BareLaws
 pub mod NetLaws
-pub mod KeptLaws
-pub mod PlainLaws

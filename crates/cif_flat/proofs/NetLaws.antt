@@ -1,60 +1,99 @@
--- The net of a source of the forms built so far is bare.
-use Rattle.std.proofs.Common.{◌≡◌, Bool, true, false, [], ◌∷◌, ◌++◌, map, filter, Some, None, sym, ◌∙◌, ap, subst}
-use Rattle.std.specs.Prelude.{option_map}
-use Rattle.cif_ast.specs.declared.names.Name.{Name}
+-- The net of a source of the forms built so far has automata and variables alone.
+use Rattle.std.proofs.Common.{◌≡◌, Bool, true, false, [], map, filter, refl, ◌∙◌, ap}
+use Rattle.cif_ast.specs.declared.names.Ident.{Ident}
+use Rattle.cif_ast.specs.declared.declarations.Class.{Class}
 use Rattle.cif_system.specs.Words.{Member}
 use Rattle.cif_system.proofs.Lists.{false-true, filter-within, filter-passes}
 use Rattle.cif_system.proofs.Distinct.{member-map}
-use Rattle.cif_model.specs.Net.{NetEdge, NetAuto, NetEvent, no_net_chan}
-use Rattle.cif_source.specs.Source.{DeclTree, tree_at, Source}
-use Rattle.cif_source.specs.Components.{Component, body_of}
-use Rattle.cif_source.specs.Objects.{components_of, automata, is_automaton, EventEdge, event_edges, events, is_event, is_input, is_variable, is_alg, Declared, declarations}
-use Rattle.cif_source.specs.Step.{role_of}
-use Rattle.cif_rules.specs.BodyRules.{targets_of_all}
-use Rattle.cif_image.specs.Built.{is_flat}
-use Rattle.cif_image.specs.Flat.{net_of_source, net_auto, net_edge, net_event, net_stored, net_alg, net_exclusions, net_invariants, sent_tree, net_updates_of}
-use Rattle.cif_image.specs.Translation.{net_of, net_guard}
-use Rattle.cif_image.proofs.FormLaws.{IsEvent, IsBare, flat-nothing, only-bare}
-use Rattle.cif_flat.specs.Bare.{IsBareEdge, IsBareNet}
+use Rattle.cif_model.specs.Net.{NetEvent, no_net_chan}
+use Rattle.cif_source.specs.Source.{DeclTree, type_decl, enum_decl, event_decl, const_decl, alg_decl, input_decl, disc_decl, equation_decl, invariant_decl, marked_decl, ChannelTree, no_type, void_type, value_type, Source}
+use Rattle.cif_source.specs.Components.{Component}
+use Rattle.cif_source.specs.Objects.{events, is_event, is_input, is_alg, Declared, declarations}
+use Rattle.cif_image.specs.Built.{is_built, is_no_channel}
+use Rattle.cif_image.specs.Flat.{net_of_source, net_event, net_stored, net_alg, net_exclusions, net_invariants}
+use Rattle.cif_image.proofs.FormLaws.{flat-nothing}
+use Rattle.cif_flat.specs.Silent.{IsSilent}
 use Rattle.cif_flat.proofs.Lists.{empty}
-use Rattle.cif_flat.proofs.Forms.{its-body, declared-event}
+use Rattle.cif_flat.proofs.Forms.{IsBuiltDecl, declared-built}
 
-edge-bare : (c : Component) (w : EventEdge) → IsBare w → IsBareEdge (net_edge c w)
-edge-bare c w b = record {
-  role = ap role_of b.role;
-  guard = (w.event_use.name.at, ap (net_guard c w.event_use.name.at) b.guards);
-  sent = ap (λ r. option_map (net_of c) (sent_tree r)) b.role;
-  updates = ap (net_updates_of c) b.updates;
-  places = λ i. (elim (sent_tree (b.role i)) [ None ↦ [] | Some e ↦ tree_at e ∷ [] ]) ++ map (λ (nm : Name). nm.at) (targets_of_all (b.updates i));
-}
+no-alg : (d : DeclTree) → IsBuiltDecl d → is_alg d ≡ false
+no-alg (type_decl n ty) h = refl
+no-alg (enum_decl n ls) h = refl
+no-alg (event_decl k x n) h = refl
+no-alg (const_decl ty n e) h = refl
+no-alg (alg_decl ty n e) h = absurd (false-true refl h.algebra)
+no-alg (input_decl ty n) h = refl
+no-alg (disc_decl ty n e) h = refl
+no-alg (equation_decl q) h = refl
+no-alg (invariant_decl i) h = refl
+no-alg (marked_decl p) h = refl
 
-event-chan : (c : Component) (d : DeclTree) → IsEvent d → (net_event (c, d)).chan ≡ no_net_chan
-event-chan c d is = ap (λ x. (net_event (c, x)).chan) is.2
+no-input : (d : DeclTree) → IsBuiltDecl d → is_input d ≡ false
+no-input (type_decl n ty) h = refl
+no-input (enum_decl n ls) h = refl
+no-input (event_decl k x n) h = refl
+no-input (const_decl ty n e) h = refl
+no-input (alg_decl ty n e) h = refl
+no-input (input_decl ty n) h = absurd (false-true refl h.algebra)
+no-input (disc_decl ty n e) h = refl
+no-input (equation_decl q) h = refl
+no-input (invariant_decl i) h = refl
+no-input (marked_decl p) h = refl
 
-module _ (t : Source) (flat : is_flat t ≡ true) where
-  -- an event is of no other sort
-  none-of : (sort : DeclTree → Bool) → ((d : DeclTree) → IsEvent d → sort d ≡ false) → filter (λ (d : Declared). sort d.1) (declarations t) ≡ []
+no-exclusions : (c : Component) (d : DeclTree) → IsBuiltDecl d → net_exclusions (c, d) ≡ []
+no-exclusions c (type_decl n ty) h = refl
+no-exclusions c (enum_decl n ls) h = refl
+no-exclusions c (event_decl k x n) h = refl
+no-exclusions c (const_decl ty n e) h = refl
+no-exclusions c (alg_decl ty n e) h = refl
+no-exclusions c (input_decl ty n) h = refl
+no-exclusions c (disc_decl ty n e) h = refl
+no-exclusions c (equation_decl q) h = refl
+no-exclusions c (invariant_decl i) h = absurd (false-true refl h.invariant)
+no-exclusions c (marked_decl p) h = refl
+
+no-invariants : (c : Component) (d : DeclTree) → IsBuiltDecl d → net_invariants (c, d) ≡ []
+no-invariants c (type_decl n ty) h = refl
+no-invariants c (enum_decl n ls) h = refl
+no-invariants c (event_decl k x n) h = refl
+no-invariants c (const_decl ty n e) h = refl
+no-invariants c (alg_decl ty n e) h = refl
+no-invariants c (input_decl ty n) h = refl
+no-invariants c (disc_decl ty n e) h = refl
+no-invariants c (equation_decl q) h = refl
+no-invariants c (invariant_decl i) h = absurd (false-true refl h.invariant)
+no-invariants c (marked_decl p) h = refl
+
+no-channel : (c : Component) (k : Class) (x : ChannelTree) (n : Ident) → is_no_channel (event_decl k x n) ≡ true → (net_event (c, event_decl k x n)).chan ≡ no_net_chan
+no-channel c k no_type n h = refl
+no-channel c k void_type n h = absurd (false-true refl h)
+no-channel c k (value_type ty) n h = absurd (false-true refl h)
+
+event-chan : (c : Component) (d : DeclTree) → IsBuiltDecl d → (net_event (c, d)).chan ≡ no_net_chan
+event-chan c (type_decl n ty) h = refl
+event-chan c (enum_decl n ls) h = refl
+event-chan c (event_decl k x n) h = no-channel c k x n h.channel
+event-chan c (const_decl ty n e) h = refl
+event-chan c (alg_decl ty n e) h = refl
+event-chan c (input_decl ty n) h = refl
+event-chan c (disc_decl ty n e) h = refl
+event-chan c (equation_decl q) h = refl
+event-chan c (invariant_decl i) h = refl
+event-chan c (marked_decl p) h = refl
+
+module _ (t : Source) (built : is_built t ≡ true) where
+  none-of : (sort : DeclTree → Bool) → ((d : DeclTree) → IsBuiltDecl d → sort d ≡ false) → filter (λ (d : Declared). sort d.1) (declarations t) ≡ []
   none-of sort other = empty (filter (λ (d : Declared). sort d.1) (declarations t)) (λ d m.
       let home = filter-within (λ (d : Declared). sort d.1) (declarations t) d m in
-      false-true (other d.1 (declared-event t flat d home)) (filter-passes (λ (d : Declared). sort d.1) (declarations t) d m))
+      false-true (other d.1 (declared-built t built d home)) (filter-passes (λ (d : Declared). sort d.1) (declarations t) d m))
 
-  auto-bare : (c : Component) → Member c (automata t) → (x : NetEdge) → Member x (net_auto c).edges → IsBareEdge x
-  auto-bare c m x k =
-      let home = its-body t flat c (filter-within (λ c. is_automaton (body_of c)) (components_of t) c m) in
-      let w = member-map (net_edge c) x (event_edges c) k in
-      subst IsBareEdge (sym w.2) (edge-bare c w.0 (only-bare t flat c home w.0 w.1))
-
-  pub flat-net : IsBareNet (net_of_source t)
-  flat-net = record {
-    algs = ap (map net_alg) (none-of is_alg (λ d is. ap is_alg is.2));
-    vars = ap (map net_stored) (none-of is_variable (λ d is. ap is_variable is.2));
-    inputs = ap (map net_stored) (none-of is_input (λ d is. ap is_input is.2));
-    exclusions = flat-nothing net_exclusions (declarations t) (λ d m. ap (λ x. net_exclusions (d.0, x)) (declared-event t flat d m).2);
-    invariants = flat-nothing net_invariants (declarations t) (λ d m. ap (λ x. net_invariants (d.0, x)) (declared-event t flat d m).2);
+  pub silent : IsSilent (net_of_source t)
+  silent = record {
+    algs = ap (map net_alg) (none-of is_alg no-alg);
+    inputs = ap (map net_stored) (none-of is_input no-input);
+    exclusions = flat-nothing net_exclusions (declarations t) (λ d m. no-exclusions d.0 d.1 (declared-built t built d m));
+    invariants = flat-nothing net_invariants (declarations t) (λ d m. no-invariants d.0 d.1 (declared-built t built d m));
     channels = λ e m.
         let d = member-map net_event e (events t) m in
-        ap (λ (x : NetEvent). x.chan) d.2 ∙ event-chan d.0.0 d.0.1 (declared-event t flat d.0 (filter-within (λ (d : Declared). is_event d.1) (declarations t) d.0 d.1));
-    edges = λ a m x k.
-        let c = member-map net_auto a (automata t) m in
-        auto-bare c.0 c.1 x (subst (λ (y : NetAuto). Member x y.edges) c.2 k);
+        ap (λ (x : NetEvent). x.chan) d.2 ∙ event-chan d.0.0 d.0.1 (declared-built t built d.0 (filter-within (λ (d : Declared). is_event d.1) (declarations t) d.0 d.1));
   }

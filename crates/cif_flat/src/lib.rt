@@ -1,11 +1,7 @@
-//! What a CIF source of the forms that are built so far keeps by its form, and what its net looks like, as definitions for the
-//! crates above and the laws that these have.
+//! What the net of a CIF source of the forms that are built so far looks like, as a law for the
+//! crates above.
 #![tactic(auto)]
 
 mod laws;
 
-pub use laws::{
-    flat_keeps_all, flat_keeps_before_algebraic, flat_keeps_before_choices,
-    flat_keeps_before_instances, flat_keeps_before_kinds, flat_keeps_others, flat_net_is_bare,
-    flat_net_is_plain,
-};
+pub use laws::nets_of_built_sources_are_silent;

@@ -1,15 +1,18 @@
 -- A source has the built forms exactly where each of its items has one.
-use Rattle.std.proofs.Common.{◌≡◌, Bool, true, false, List, [], ◌∷◌, ◌++◌, refl}
+use Rattle.std.proofs.Common.{◌≡◌, Bool, true, false, List, [], ◌∷◌, ◌++◌, refl, ap}
 use Rattle.std.specs.Prelude.{◌&&◌, flat_map}
 use Rattle.std.specs.List.{list_all}
+use Rattle.cif_system.specs.Words.{Member}
 use Rattle.cif_system.proofs.Lists.{false-true}
 use Rattle.cif_system.proofs.Picks.{and-left, and-right}
-use Rattle.cif_model.proofs.Passing.{both-pass}
-use Rattle.cif_source.specs.Source.{no_type, void_type, value_type, EdgeTree, LocationTree, DeclTree, type_decl, enum_decl, event_decl, const_decl, alg_decl, input_decl, disc_decl, equation_decl, invariant_decl, marked_decl, SourceItem, decl_item, component_item, definition_item, instance_item, SourceBody, group_body, automaton_body, Source, no_source, source, list_of_items}
+use Rattle.cif_model.proofs.Passing.{both-pass, all-member}
+use Rattle.cif_source.specs.Source.{RoleTree, syncs, sends, receives, UseTree, EdgeTree, EquationTree, LocationTree, DeclTree, SourceItem, decl_item, component_item, definition_item, instance_item, SourceBody, group_body, automaton_body, Source, no_source, source, list_of_items}
 use Rattle.cif_source.specs.Components.{Component, whole, part, body_of}
 use Rattle.cif_source.specs.Objects.{bodies, bodies_in, bodies_at, bodies_under, items_in, item_decls, decls_in, locs_in}
-use Rattle.cif_image.specs.Built.{stands_alone, has_no_definitions, is_no_data, has_no_predicates, is_bare, has_no_data, is_no_channel, only_syncs, has_no_channels, is_no_invariant, has_no_invariants, every_decl, every_edge, every_location, is_flat}
-use Rattle.cif_form.specs.Forms.{decl_fits, use_fits, edge_fits, location_fits, items_fit, item_fits, body_fits}
+use Rattle.cif_image.specs.Received.{without_received, updates_without, decl_without, use_without, edge_without, location_without}
+use Rattle.cif_image.specs.Built.{stands_alone, has_no_definitions, is_nothing, is_no_algebra, has_no_algebra, has_no_equations, is_no_channel, only_syncs, has_no_channels, is_no_invariant, has_no_invariants, has_no_received, every_decl, every_edge, every_location, is_built}
+use Rattle.cif_image.proofs.RuleLaws.{all-from}
+use Rattle.cif_form.specs.Forms.{decl_fits, edge_fits, location_fits, items_fit, item_fits, body_fits}
 
 -- ---- tests
 
@@ -22,91 +25,69 @@ all-implied p q [] f h = refl
 all-implied p q (x ∷ xs) f h =
     and-both (q x) (list_all q xs) (f x (and-left (p x) (list_all p xs) h)) (all-implied p q xs f (and-right (p x) (list_all p xs) h))
 
-all-both : {A : Type 0} (p q : A → Bool) (xs : List A) → list_all p xs ≡ true → list_all q xs ≡ true → list_all (λ x. p x && q x) xs ≡ true
-all-both p q [] h g = refl
-all-both p q (x ∷ xs) h g =
-    and-both (p x && q x) (list_all (λ y. p y && q y) xs)
-    (and-both (p x) (q x) (and-left (p x) (list_all p xs) h) (and-left (q x) (list_all q xs) g))
-    (all-both p q xs (and-right (p x) (list_all p xs) h) (and-right (q x) (list_all q xs) g))
-
 all-joined : {A : Type 0} (p : A → Bool) (xs ys : List A) → list_all p xs ≡ true → list_all p ys ≡ true → list_all p (xs ++ ys) ≡ true
 all-joined p [] ys h g = g
 all-joined p (x ∷ xs) ys h g =
     and-both (p x) (list_all p (xs ++ ys)) (and-left (p x) (list_all p xs) h) (all-joined p xs ys (and-right (p x) (list_all p xs) h) g)
 
--- ---- declarations
+and-three : (a b c : Bool) → (a && b && c) ≡ true → (a ≡ true) × (b ≡ true) × (c ≡ true)
+and-three true true true h = (refl, refl, refl)
+and-three true true false h = absurd (false-true refl h)
+and-three true false c h = absurd (false-true refl h)
+and-three false b c h = absurd (false-true refl h)
 
-decl-data : (d : DeclTree) → decl_fits d ≡ true → is_no_data d ≡ true
-decl-data (event_decl k h n) f = refl
-decl-data (invariant_decl i) f = refl
-decl-data (type_decl n ty) f = absurd (false-true refl f)
-decl-data (enum_decl n ls) f = absurd (false-true refl f)
-decl-data (const_decl ty n e) f = absurd (false-true refl f)
-decl-data (alg_decl ty n e) f = absurd (false-true refl f)
-decl-data (input_decl ty n) f = absurd (false-true refl f)
-decl-data (disc_decl ty n e) f = absurd (false-true refl f)
-decl-data (equation_decl q) f = absurd (false-true refl f)
-decl-data (marked_decl p) f = absurd (false-true refl f)
+and-four : (a b c d : Bool) → (a && b && c && d) ≡ true → (a ≡ true) × (b ≡ true) × (c ≡ true) × (d ≡ true)
+and-four true true true true h = (refl, refl, refl, refl)
+and-four true true true false h = absurd (false-true refl h)
+and-four true true false d h = absurd (false-true refl h)
+and-four true false c d h = absurd (false-true refl h)
+and-four false b c d h = absurd (false-true refl h)
 
-decl-channel : (d : DeclTree) → decl_fits d ≡ true → is_no_channel d ≡ true
-decl-channel (event_decl k no_type n) f = refl
-decl-channel (event_decl k void_type n) f = absurd (false-true refl f)
-decl-channel (event_decl k (value_type ty) n) f = absurd (false-true refl f)
-decl-channel (invariant_decl i) f = refl
-decl-channel (type_decl n ty) f = refl
-decl-channel (enum_decl n ls) f = refl
-decl-channel (const_decl ty n e) f = refl
-decl-channel (alg_decl ty n e) f = refl
-decl-channel (input_decl ty n) f = refl
-decl-channel (disc_decl ty n e) f = refl
-decl-channel (equation_decl q) f = refl
-decl-channel (marked_decl p) f = refl
+all-three : (a b c : Bool) → a ≡ true → b ≡ true → c ≡ true → (a && b && c) ≡ true
+all-three a b c h g k = and-both (a && b) c (and-both a b h g) k
 
-decl-invariant : (d : DeclTree) → decl_fits d ≡ true → is_no_invariant d ≡ true
-decl-invariant (invariant_decl i) f = absurd (false-true refl f)
-decl-invariant (event_decl k h n) f = refl
-decl-invariant (type_decl n ty) f = refl
-decl-invariant (enum_decl n ls) f = refl
-decl-invariant (const_decl ty n e) f = refl
-decl-invariant (alg_decl ty n e) f = refl
-decl-invariant (input_decl ty n) f = refl
-decl-invariant (disc_decl ty n e) f = refl
-decl-invariant (equation_decl q) f = refl
-decl-invariant (marked_decl p) f = refl
+-- ---- declarations, edges and locations
 
-decl-all : (d : DeclTree) → (is_no_data d && is_no_channel d && is_no_invariant d) ≡ true → decl_fits d ≡ true
-decl-all (event_decl k no_type n) h = refl
-decl-all (event_decl k void_type n) h = absurd (false-true refl h)
-decl-all (event_decl k (value_type ty) n) h = absurd (false-true refl h)
-decl-all (invariant_decl i) h = absurd (false-true refl h)
-decl-all (type_decl n ty) h = absurd (false-true refl h)
-decl-all (enum_decl n ls) h = absurd (false-true refl h)
-decl-all (const_decl ty n e) h = absurd (false-true refl h)
-decl-all (alg_decl ty n e) h = absurd (false-true refl h)
-decl-all (input_decl ty n) h = absurd (false-true refl h)
-decl-all (disc_decl ty n e) h = absurd (false-true refl h)
-decl-all (equation_decl q) h = absurd (false-true refl h)
-decl-all (marked_decl p) h = absurd (false-true refl h)
+decl-fits : (d : DeclTree) → decl_fits d ≡ true → (is_no_algebra d ≡ true) × (is_no_channel d ≡ true) × (is_no_invariant d ≡ true) × (decl_without d ≡ true)
+decl-fits d h = and-four (is_no_algebra d) (is_no_channel d) (is_no_invariant d) (decl_without d) h
 
--- ---- edges and locations
+-- where nothing is sent, nothing sent is a `?`
+still-role : (r : RoleTree) → (elim r [ syncs ↦ true | sends e ↦ false | receives ↦ false ]) ≡ true → r ≡ syncs
+still-role syncs h = refl
+still-role (sends e) h = absurd (false-true refl h)
+still-role receives h = absurd (false-true refl h)
 
-edge-bare : (e : EdgeTree) → edge_fits e ≡ true → is_bare e ≡ true
-edge-bare e h = and-left (is_bare e) (list_all use_fits e.uses) h
+use-still : (u : UseTree) → only_syncs u ≡ true → use_without u ≡ true
+use-still u h = ap (λ r. use_without (record { name = u.name; role = r })) (still-role u.role h)
 
-edge-syncs : (e : EdgeTree) → edge_fits e ≡ true → list_all only_syncs e.uses ≡ true
-edge-syncs e h = and-right (is_bare e) (list_all use_fits e.uses) h
+edge-fits : (e : EdgeTree) → edge_fits e ≡ true → (list_all only_syncs e.uses ≡ true) × (list_all without_received e.guards ≡ true) × (updates_without e.updates ≡ true)
+edge-fits e h = and-three (list_all only_syncs e.uses) (list_all without_received e.guards) (updates_without e.updates) h
 
-edge-all : (e : EdgeTree) → (is_bare e && list_all only_syncs e.uses) ≡ true → edge_fits e ≡ true
-edge-all e h = h
+edge-still : (e : EdgeTree) → edge_fits e ≡ true → edge_without e ≡ true
+edge-still e h =
+    let f = edge-fits e h in
+    all-three (list_all use_without e.uses) (list_all without_received e.guards) (updates_without e.updates) (all-implied only_syncs use_without e.uses use-still f.0) f.1 f.2
 
-location-plain : (l : LocationTree) → location_fits l ≡ true → has_no_predicates l ≡ true
-location-plain l h = and-left (has_no_predicates l) (list_all edge_fits l.edges) h
+edge-all : (e : EdgeTree) → list_all only_syncs e.uses ≡ true → edge_without e ≡ true → edge_fits e ≡ true
+edge-all e h g =
+    let f = and-three (list_all use_without e.uses) (list_all without_received e.guards) (updates_without e.updates) g in
+    all-three (list_all only_syncs e.uses) (list_all without_received e.guards) (updates_without e.updates) h f.1 f.2
+
+none-still : (qs : List EquationTree) → is_nothing qs ≡ true → list_all (λ (q : EquationTree). without_received q.value) qs ≡ true
+none-still [] h = refl
+none-still (q ∷ qs) h = absurd (false-true refl h)
+
+location-fits : (l : LocationTree) → location_fits l ≡ true → (is_nothing l.equations ≡ true) × (list_all without_received l.marked ≡ true) × (list_all edge_fits l.edges ≡ true)
+location-fits l h = and-three (is_nothing l.equations) (list_all without_received l.marked) (list_all edge_fits l.edges) h
 
 location-edges : (l : LocationTree) → location_fits l ≡ true → list_all edge_fits l.edges ≡ true
-location-edges l h = and-right (has_no_predicates l) (list_all edge_fits l.edges) h
+location-edges l h = (location-fits l h).2
 
-location-all : (l : LocationTree) → has_no_predicates l ≡ true → list_all edge_fits l.edges ≡ true → location_fits l ≡ true
-location-all l h g = and-both (has_no_predicates l) (list_all edge_fits l.edges) h g
+location-still : (l : LocationTree) → location_fits l ≡ true → location_without l ≡ true
+location-still l h =
+    let f = location-fits l h in
+    all-three (list_all without_received l.marked) (list_all (λ (q : EquationTree). without_received q.value) l.equations) (list_all edge_without l.edges) f.1
+    (none-still l.equations f.0) (all-implied edge_fits edge_without l.edges edge-still f.2)
 
 -- ---- what a body has itself
 
@@ -208,110 +189,77 @@ module _ (t : Source) (h : list_all own_at (bodies t) ≡ true) where
   edges-fit : (test : EdgeTree → Bool) → ((e : EdgeTree) → edge_fits e ≡ true → test e ≡ true) → every_edge test t ≡ true
   edges-fit test f = locations-fit (λ l. list_all test l.edges) (λ l k. all-implied edge_fits test l.edges f (location-edges l k))
 
-  bodies-flat : is_flat t ≡ true
-  bodies-flat =
-      and-both (has_no_definitions t && has_no_data t && has_no_channels t) (has_no_invariants t)
-      (and-both (has_no_definitions t && has_no_data t) (has_no_channels t)
-      (and-both (has_no_definitions t) (has_no_data t)
+  bodies-built : is_built t ≡ true
+  bodies-built =
+      and-both (has_no_definitions t && has_no_algebra t && has_no_channels t && has_no_invariants t) (has_no_received t)
+      (and-both (has_no_definitions t && has_no_algebra t && has_no_channels t) (has_no_invariants t)
+      (all-three (has_no_definitions t) (has_no_algebra t) (has_no_channels t)
       (all-implied own_at (λ c. list_all stands_alone (items_in (body_of c))) (bodies t) (λ c k. own-alone (body_of c) k) h)
-      (and-both (every_decl is_no_data t && every_location has_no_predicates t) (every_edge is_bare t)
-      (and-both (every_decl is_no_data t) (every_location has_no_predicates t) (decls-fit is_no_data decl-data) (locations-fit has_no_predicates location-plain))
-      (edges-fit is_bare edge-bare)))
-      (and-both (every_decl is_no_channel t) (every_edge (λ e. list_all only_syncs e.uses) t) (decls-fit is_no_channel decl-channel) (edges-fit (λ e. list_all only_syncs e.uses) edge-syncs)))
-      (decls-fit is_no_invariant decl-invariant)
+      (and-both (every_decl is_no_algebra t) (every_location has_no_equations t) (decls-fit is_no_algebra (λ d f. (decl-fits d f).0)) (locations-fit has_no_equations (λ l f. (location-fits l f).0)))
+      (and-both (every_decl is_no_channel t) (every_edge (λ e. list_all only_syncs e.uses) t) (decls-fit is_no_channel (λ d f. (decl-fits d f).1)) (edges-fit (λ e. list_all only_syncs e.uses) (λ e f. (edge-fits e f).0))))
+      (decls-fit is_no_invariant (λ d f. (decl-fits d f).2)))
+      (and-both (every_decl decl_without t) (every_location location_without t) (decls-fit decl_without (λ d f. (decl-fits d f).3)) (locations-fit location_without location-still))
 
-module _ (t : Source) (h : is_flat t ≡ true) where
-  first_three : (has_no_definitions t && has_no_data t && has_no_channels t) ≡ true
-  first_three = and-left (has_no_definitions t && has_no_data t && has_no_channels t) (has_no_invariants t) h
+module _ (t : Source) (h : is_built t ≡ true) where
+  parts : (has_no_definitions t && has_no_algebra t && has_no_channels t && has_no_invariants t) ≡ true
+  parts = and-left (has_no_definitions t && has_no_algebra t && has_no_channels t && has_no_invariants t) (has_no_received t) h
 
-  first_two : (has_no_definitions t && has_no_data t) ≡ true
-  first_two = and-left (has_no_definitions t && has_no_data t) (has_no_channels t) first_three
+  each : (has_no_definitions t ≡ true) × (has_no_algebra t ≡ true) × (has_no_channels t ≡ true) × (has_no_invariants t ≡ true)
+  each = and-four (has_no_definitions t) (has_no_algebra t) (has_no_channels t) (has_no_invariants t) parts
 
-  data_free : has_no_data t ≡ true
-  data_free = and-right (has_no_definitions t) (has_no_data t) first_two
+  still : has_no_received t ≡ true
+  still = and-right (has_no_definitions t && has_no_algebra t && has_no_channels t && has_no_invariants t) (has_no_received t) h
 
-  channel_free : has_no_channels t ≡ true
-  channel_free = and-right (has_no_definitions t && has_no_data t) (has_no_channels t) first_three
+  -- a test that all bodies pass, of one of them
+  body-passes : (test : SourceBody → Bool) → list_all (λ c. test (body_of c)) (bodies t) ≡ true → (c : Component) → Member c (bodies t) → test (body_of c) ≡ true
+  body-passes test all c m = all-member (λ c. test (body_of c)) (bodies t) c all m
 
-  decls_and_places : (every_decl is_no_data t && every_location has_no_predicates t) ≡ true
-  decls_and_places = and-left (every_decl is_no_data t && every_location has_no_predicates t) (every_edge is_bare t) data_free
+  decl-passes : (test : DeclTree → Bool) → every_decl test t ≡ true → (c : Component) → Member c (bodies t) → (d : DeclTree) → Member d (decls_in (body_of c)) → test d ≡ true
+  decl-passes test all c m d k = all-member test (decls_in (body_of c)) d (body-passes (λ b. list_all test (decls_in b)) all c m) k
 
-  decls-flat : list_all (λ c. list_all decl_fits (decls_in (body_of c))) (bodies t) ≡ true
-  decls-flat = each (bodies t)
-      (and-left (every_decl is_no_data t) (every_location has_no_predicates t) decls_and_places)
-      (and-left (every_decl is_no_channel t) (every_edge (λ e. list_all only_syncs e.uses) t) channel_free)
-      (and-right (has_no_definitions t && has_no_data t && has_no_channels t) (has_no_invariants t) h)
-    where
-      of_body : (ds : List DeclTree) → list_all is_no_data ds ≡ true → list_all is_no_channel ds ≡ true → list_all is_no_invariant ds ≡ true → list_all decl_fits ds ≡ true
-      of_body [] a b d = refl
-      of_body (x ∷ xs) a b d =
-          and-both (decl_fits x) (list_all decl_fits xs)
-          (decl-all x
-          (and-both (is_no_data x && is_no_channel x) (is_no_invariant x)
-          (and-both (is_no_data x) (is_no_channel x) (and-left (is_no_data x) (list_all is_no_data xs) a) (and-left (is_no_channel x) (list_all is_no_channel xs) b))
-          (and-left (is_no_invariant x) (list_all is_no_invariant xs) d)))
-          (of_body xs (and-right (is_no_data x) (list_all is_no_data xs) a) (and-right (is_no_channel x) (list_all is_no_channel xs) b) (and-right (is_no_invariant x) (list_all is_no_invariant xs) d))
+  location-passes : (test : LocationTree → Bool) → every_location test t ≡ true → (c : Component) → Member c (bodies t) → (l : LocationTree) → Member l (locs_in (body_of c)) → test l ≡ true
+  location-passes test all c m l k = all-member test (locs_in (body_of c)) l (body-passes (λ b. list_all test (locs_in b)) all c m) k
 
-      each : (cs : List Component) → list_all (λ c. list_all is_no_data (decls_in (body_of c))) cs ≡ true → list_all (λ c. list_all is_no_channel (decls_in (body_of c))) cs ≡ true
-          → list_all (λ c. list_all is_no_invariant (decls_in (body_of c))) cs ≡ true → list_all (λ c. list_all decl_fits (decls_in (body_of c))) cs ≡ true
-      each [] a b d = refl
-      each (x ∷ xs) a b d =
-          and-both (list_all decl_fits (decls_in (body_of x))) (list_all (λ c. list_all decl_fits (decls_in (body_of c))) xs)
-          (of_body (decls_in (body_of x))
-          (and-left (list_all is_no_data (decls_in (body_of x))) (list_all (λ c. list_all is_no_data (decls_in (body_of c))) xs) a)
-          (and-left (list_all is_no_channel (decls_in (body_of x))) (list_all (λ c. list_all is_no_channel (decls_in (body_of c))) xs) b)
-          (and-left (list_all is_no_invariant (decls_in (body_of x))) (list_all (λ c. list_all is_no_invariant (decls_in (body_of c))) xs) d))
-          (each xs
-          (and-right (list_all is_no_data (decls_in (body_of x))) (list_all (λ c. list_all is_no_data (decls_in (body_of c))) xs) a)
-          (and-right (list_all is_no_channel (decls_in (body_of x))) (list_all (λ c. list_all is_no_channel (decls_in (body_of c))) xs) b)
-          (and-right (list_all is_no_invariant (decls_in (body_of x))) (list_all (λ c. list_all is_no_invariant (decls_in (body_of c))) xs) d))
+  decl-built : (c : Component) → Member c (bodies t) → (d : DeclTree) → Member d (decls_in (body_of c)) → decl_fits d ≡ true
+  decl-built c m d k =
+      and-both (is_no_algebra d && is_no_channel d && is_no_invariant d) (decl_without d)
+      (all-three (is_no_algebra d) (is_no_channel d) (is_no_invariant d)
+      (decl-passes is_no_algebra (and-left (every_decl is_no_algebra t) (every_location has_no_equations t) each.1) c m d k)
+      (decl-passes is_no_channel (and-left (every_decl is_no_channel t) (every_edge (λ e. list_all only_syncs e.uses) t) each.2) c m d k)
+      (decl-passes is_no_invariant each.3 c m d k))
+      (decl-passes decl_without (and-left (every_decl decl_without t) (every_location location_without t) still) c m d k)
 
-  edges-flat : (ls : List LocationTree) → list_all has_no_predicates ls ≡ true → list_all (λ (l : LocationTree). list_all is_bare l.edges) ls ≡ true
-      → list_all (λ (l : LocationTree). list_all (λ (e : EdgeTree). list_all only_syncs e.uses) l.edges) ls ≡ true → list_all location_fits ls ≡ true
-  edges-flat [] a b c = refl
-  edges-flat (l ∷ ls) a b c =
-      and-both (location_fits l) (list_all location_fits ls)
-      (location-all l (and-left (has_no_predicates l) (list_all has_no_predicates ls) a)
-      (all-implied _ edge_fits l.edges edge-all
-      (all-both is_bare (λ (e : EdgeTree). list_all only_syncs e.uses) l.edges
-      (and-left (list_all is_bare l.edges) (list_all (λ (m : LocationTree). list_all is_bare m.edges) ls) b)
-      (and-left (list_all (λ (e : EdgeTree). list_all only_syncs e.uses) l.edges) (list_all (λ (m : LocationTree). list_all (λ (e : EdgeTree). list_all only_syncs e.uses) m.edges) ls) c))))
-      (edges-flat ls (and-right (has_no_predicates l) (list_all has_no_predicates ls) a)
-      (and-right (list_all is_bare l.edges) (list_all (λ (m : LocationTree). list_all is_bare m.edges) ls) b)
-      (and-right (list_all (λ (e : EdgeTree). list_all only_syncs e.uses) l.edges) (list_all (λ (m : LocationTree). list_all (λ (e : EdgeTree). list_all only_syncs e.uses) m.edges) ls) c))
+  location-built : (c : Component) → Member c (bodies t) → (l : LocationTree) → Member l (locs_in (body_of c)) → location_fits l ≡ true
+  location-built c m l k =
+      let without = and-three (list_all without_received l.marked) (list_all (λ (q : EquationTree). without_received q.value) l.equations) (list_all edge_without l.edges)
+      (location-passes location_without (and-right (every_decl decl_without t) (every_location location_without t) still) c m l k) in
+      let syncing : list_all (λ (e : EdgeTree). list_all only_syncs e.uses) l.edges ≡ true =
+      location-passes (λ l. list_all (λ (e : EdgeTree). list_all only_syncs e.uses) l.edges) (and-right (every_decl is_no_channel t) (every_edge (λ e. list_all only_syncs e.uses) t) each.2) c m l k in
+      all-three (is_nothing l.equations) (list_all without_received l.marked) (list_all edge_fits l.edges)
+      (location-passes has_no_equations (and-right (every_decl is_no_algebra t) (every_location has_no_equations t) each.1) c m l k)
+      without.0
+      (all-from edge_fits l.edges (λ e i. edge-all e (all-member (λ (e : EdgeTree). list_all only_syncs e.uses) l.edges e syncing i) (all-member edge_without l.edges e without.2 i)))
 
-  locs-flat : (cs : List Component) → list_all (λ c. list_all has_no_predicates (locs_in (body_of c))) cs ≡ true
-      → list_all (λ c. list_all (λ (l : LocationTree). list_all is_bare l.edges) (locs_in (body_of c))) cs ≡ true
-      → list_all (λ c. list_all (λ (l : LocationTree). list_all (λ (e : EdgeTree). list_all only_syncs e.uses) l.edges) (locs_in (body_of c))) cs ≡ true
-      → list_all (λ c. list_all location_fits (locs_in (body_of c))) cs ≡ true
-  locs-flat [] a b c = refl
-  locs-flat (d ∷ ds) a b c =
-      and-both (list_all location_fits (locs_in (body_of d))) (list_all (λ c. list_all location_fits (locs_in (body_of c))) ds)
-      (edges-flat (locs_in (body_of d)) (and-left _ _ a) (and-left _ _ b) (and-left _ _ c))
-      (locs-flat ds (and-right (list_all has_no_predicates (locs_in (body_of d))) _ a)
-      (and-right (list_all (λ (l : LocationTree). list_all is_bare l.edges) (locs_in (body_of d))) _ b)
-      (and-right (list_all (λ (l : LocationTree). list_all (λ (e : EdgeTree). list_all only_syncs e.uses) l.edges) (locs_in (body_of d))) _ c))
+  body-built : (c : Component) → Member c (bodies t) → own_at c ≡ true
+  body-built c m =
+      and-both (list_all stands_alone (items_in (body_of c))) (inside (body_of c)) (body-passes (λ b. list_all stands_alone (items_in b)) each.0 c m)
+      (and-both (list_all decl_fits (decls_in (body_of c))) (list_all location_fits (locs_in (body_of c)))
+      (all-from decl_fits (decls_in (body_of c)) (decl-built c m)) (all-from location_fits (locs_in (body_of c)) (location-built c m)))
 
-  flat-bodies : list_all own_at (bodies t) ≡ true
-  flat-bodies =
-      all-both (λ c. list_all stands_alone (items_in (body_of c))) (λ c. inside (body_of c)) (bodies t) (and-left (has_no_definitions t) (has_no_data t) first_two)
-      (all-both (λ c. list_all decl_fits (decls_in (body_of c))) (λ c. list_all location_fits (locs_in (body_of c))) (bodies t) decls-flat
-      (locs-flat (bodies t)
-      (and-right (every_decl is_no_data t) (every_location has_no_predicates t) decls_and_places)
-      (and-right (every_decl is_no_data t && every_location has_no_predicates t) (every_edge is_bare t) data_free)
-      (and-right (every_decl is_no_channel t) (every_edge (λ e. list_all only_syncs e.uses) t) channel_free)))
+  built-bodies : list_all own_at (bodies t) ≡ true
+  built-bodies = all-from own_at (bodies t) body-built
 
-  flat-fits : items_fit t ≡ true
-  flat-fits =
-      fit-bodies t (whole t) (and-left (own (group_body t)) (list_all own_at (bodies_in (whole t) t)) flat-bodies)
-      (and-right (own (group_body t)) (list_all own_at (bodies_in (whole t) t)) flat-bodies)
+  built-fits : items_fit t ≡ true
+  built-fits =
+      fit-bodies t (whole t) (and-left (own (group_body t)) (list_all own_at (bodies_in (whole t) t)) built-bodies)
+      (and-right (own (group_body t)) (list_all own_at (bodies_in (whole t) t)) built-bodies)
 
-pub fitting : (t : Source) → items_fit t ≡ true → is_flat t ≡ true
-fitting t h = bodies-flat t (whole-fits t h)
+pub fitting : (t : Source) → items_fit t ≡ true → is_built t ≡ true
+fitting t h = bodies-built t (whole-fits t h)
 
-pub misfitting : (t : Source) → items_fit t ≡ false → is_flat t ≡ false
+pub misfitting : (t : Source) → items_fit t ≡ false → is_built t ≡ false
 misfitting t h =
-    (elim (is_flat t) as (λ b. is_flat t ≡ b → b ≡ false) [
-      | true ↦ λ e. absurd (false-true h (flat-fits t e))
+    (elim (is_built t) as (λ b. is_built t ≡ b → b ≡ false) [
+      | true ↦ λ e. absurd (false-true h (built-fits t e))
       | false ↦ λ e. refl
     ]) refl

@@ -1,24 +1,21 @@
 -- The forms that are built so far, item by item: as code goes through a tree.
-use Rattle.std.specs.Prelude.{◌≡◌, ℕ, Bool, true, false, ◌&&◌, Option, Some, None}
+use Rattle.std.specs.Prelude.{◌≡◌, ℕ, Bool, true, false, ◌&&◌, Result, Ok, Err}
 use Rattle.std.specs.List.{list_all}
-use Rattle.cif_source.specs.Source.{no_type, void_type, value_type, syncs, sends, receives, UseTree, EdgeTree, LocationTree, DeclTree, event_decl, AutomatonTree, SourceItem, decl_item, component_item, definition_item, instance_item, SourceBody, group_body, automaton_body, Source, no_source, source}
-use Rattle.cif_image.specs.Built.{is_nothing, updates_nothing}
+use Rattle.cif_source.specs.Source.{EdgeTree, LocationTree, DeclTree, AutomatonTree, SourceItem, decl_item, component_item, definition_item, instance_item, SourceBody, group_body, automaton_body, Source, no_source, source}
+use Rattle.cif_image.specs.Received.{without_received, updates_without, decl_without}
+use Rattle.cif_image.specs.Built.{is_nothing, only_syncs, is_no_algebra, is_no_channel, is_no_invariant}
 
--- an event that is no channel
+-- neither an input, an algebraic variable, an equation nor an invariant, an event that is no channel, and no `?` in it
 abbrev pub decl_fits : DeclTree → Bool
-decl_fits (event_decl k no_type n) = true
-decl_fits (event_decl k void_type n) = false
-decl_fits (event_decl k (value_type ty) n) = false
-decl_fits _ = false
+decl_fits d = is_no_algebra d && is_no_channel d && is_no_invariant d && decl_without d
 
-abbrev pub use_fits : UseTree → Bool
-use_fits u = elim u.role [ syncs ↦ true | sends e ↦ false | receives ↦ false ]
-
+-- it synchronises, and no `?` stands in it
 abbrev pub edge_fits : EdgeTree → Bool
-edge_fits e = is_nothing e.guards && updates_nothing e.updates && list_all use_fits e.uses
+edge_fits e = list_all only_syncs e.uses && list_all without_received e.guards && updates_without e.updates
 
+-- without equations and `?`
 abbrev pub location_fits : LocationTree → Bool
-location_fits l = is_nothing l.marked && is_nothing l.equations && list_all edge_fits l.edges
+location_fits l = is_nothing l.equations && list_all without_received l.marked && list_all edge_fits l.edges
 
 abbrev pub automaton_fits : AutomatonTree → Bool
 automaton_fits a = list_all decl_fits a.decls && list_all location_fits a.locs
@@ -38,7 +35,7 @@ abbrev mutual
   body_fits (group_body is) = items_fit is
   body_fits (automaton_body a) = automaton_fits a
 
--- the place of something that does not fit, or none
-abbrev pub Tells : Option ℕ → Bool → Type 0
-Tells None b = b ≡ true
-Tells (Some at) b = b ≡ false
+-- the answer tells whether it is so, and where it is not the place of something that does not fit
+abbrev pub Answers : Result (Unit {0}) ℕ → Bool → Type 0
+Answers (Ok u) b = b ≡ true
+Answers (Err at) b = b ≡ false

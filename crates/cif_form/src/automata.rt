@@ -1,104 +1,146 @@
 //! What of declarations, locations and edges has no form that is built.
 
-ghost use Rattle.std.specs.Prelude.{map};
+ghost use Rattle.std.specs.Prelude.{map, option_map};
 ghost use Rattle.std.specs.List.{list_all};
+ghost use Rattle.cif_ast.specs.View.{view};
 ghost use Rattle.cif_source.specs.Source as source;
+ghost use Rattle.cif_image.specs.Built.{is_nothing, only_syncs};
+ghost use Rattle.cif_image.specs.Received as received;
 ghost use Rattle.cif_form.specs.Forms as form;
-ghost use Rattle.cif_form.specs.Forms.{Tells};
+ghost use Rattle.cif_form.specs.Forms.{Answers};
 
-use crate::places::{decl_place, update_place};
-use cif_ast::{AutoBody, Chan, Decl, Edge, EventUse, Loc, Role};
+use crate::expressions::{check_expr, check_updates};
+use crate::places::decl_place;
+use cif_ast::{AutoBody, Chan, Decl, Edge, EventUse, Expr, Loc, LocEquation, Role, TypeUse};
 
-/// A declaration of something else than an event that is no channel.
-pub fn decl_misfit(decl: &Decl) -> Option<u32>
-    ensures { Tells result (form.decl_fits (source.decl_tree decl.now)) }
+fn check_type(ty: &TypeUse) -> Result<(), u32>
+    ensures { Answers result (received.type_without (source.type_tree ty.now)) }
+{
+    match ty {
+        TypeUse::Bool | TypeUse::Int | TypeUse::Named(_) => Ok(()),
+        TypeUse::Range(lower, upper) => {
+            check_expr(lower)?;
+            check_expr(upper)
+        }
+    }
+}
+
+fn check_value(value: &Option<Expr>) -> Result<(), u32>
+    ensures { Answers result (received.optional_without (option_map view value.now)) }
+{
+    match value {
+        Some(value) => check_expr(value),
+        None => Ok(()),
+    }
+}
+
+/// A declaration of a type, an enumeration, a constant, a variable, an event that is no channel, or a marking predicate.
+pub fn check_decl(decl: &Decl) -> Result<(), u32>
+    ensures { Answers result (form.decl_fits (source.decl_tree decl.now)) }
 {
     match decl {
-        Decl::Event { chan: Chan::No, .. } => None,
-        _ => Some(decl_place(decl)),
+        Decl::Event { chan: Chan::No, .. } | Decl::Enum { .. } => Ok(()),
+        Decl::TypeName { name: _, ty } => check_type(ty),
+        Decl::Const { ty, name: _, value } => {
+            check_type(ty)?;
+            check_expr(value)
+        }
+        Decl::Disc { ty, name: _, value } => {
+            check_type(ty)?;
+            check_value(value)
+        }
+        Decl::Marked(predicate) => check_expr(predicate),
+        Decl::Event { .. }
+        | Decl::Alg { .. }
+        | Decl::Input { .. }
+        | Decl::Equation { .. }
+        | Decl::Inv(_) => Err(decl_place(decl)),
     }
 }
 
-fn decls_misfit(decls: &[Decl]) -> Option<u32>
-    ensures { Tells result (list_all form.decl_fits (map source.decl_tree decls.now)) }
+fn check_decls(decls: &[Decl]) -> Result<(), u32>
+    ensures { Answers result (list_all form.decl_fits (map source.decl_tree decls.now)) }
 {
     for decl in decls {
-        match decl_misfit(decl) {
-            Some(at) => return Some(at),
-            None => {}
-        }
+        check_decl(decl)?;
     }
-    None
+    Ok(())
 }
 
-fn uses_misfit(uses: &[EventUse]) -> Option<u32>
-    ensures { Tells result (list_all form.use_fits (map source.use_tree uses.now)) }
+fn check_use(used: &EventUse) -> Result<(), u32>
+    ensures { Answers result (only_syncs (source.use_tree used.now)) }
+{
+    match used.role {
+        Role::Sync => Ok(()),
+        Role::Send(_) | Role::Recv => Err(used.name.at),
+    }
+}
+
+fn check_uses(uses: &[EventUse]) -> Result<(), u32>
+    ensures { Answers result (list_all only_syncs (map source.use_tree uses.now)) }
 {
     for used in uses {
-        match used.role {
-            Role::Sync => {}
-            Role::Send(_) | Role::Recv => return Some(used.name.at),
-        }
+        check_use(used)?;
     }
-    None
+    Ok(())
 }
 
-/// A guard, an update, or a use that sends or receives.
-fn edge_misfit(edge: &Edge) -> Option<u32>
-    ensures { Tells result (form.edge_fits (source.edge_tree edge.now)) }
+fn check_predicates(all: &[Expr]) -> Result<(), u32>
+    ensures { Answers result (list_all received.without_received (map view all.now)) }
 {
-    if let [guard, ..] = edge.guards.as_slice() {
-        return Some(guard.at);
+    for predicate in all {
+        check_expr(predicate)?;
     }
-    if let [update, ..] = edge.updates.as_slice() {
-        return Some(update_place(update));
-    }
-    uses_misfit(edge.uses.as_slice())
+    Ok(())
 }
 
-fn edges_misfit(edges: &[Edge]) -> Option<u32>
-    ensures { Tells result (list_all form.edge_fits (map source.edge_tree edges.now)) }
+fn check_edge(edge: &Edge) -> Result<(), u32>
+    ensures { Answers result (form.edge_fits (source.edge_tree edge.now)) }
+{
+    check_uses(edge.uses.as_slice())?;
+    check_predicates(edge.guards.as_slice())?;
+    check_updates(edge.updates.as_slice())
+}
+
+fn check_edges(edges: &[Edge]) -> Result<(), u32>
+    ensures { Answers result (list_all form.edge_fits (map source.edge_tree edges.now)) }
 {
     for edge in edges {
-        match edge_misfit(edge) {
-            Some(at) => return Some(at),
-            None => {}
-        }
+        check_edge(edge)?;
     }
-    None
+    Ok(())
 }
 
-/// A marking predicate or an equation, or what its edges have.
-fn location_misfit(loc: &Loc) -> Option<u32>
-    ensures { Tells result (form.location_fits (source.location_tree loc.now)) }
+fn check_equations(equations: &[LocEquation]) -> Result<(), u32>
+    ensures { Answers result (is_nothing (map source.equation_tree equations.now)) }
 {
-    if let [predicate, ..] = loc.marked.as_slice() {
-        return Some(predicate.at);
+    match equations {
+        [equation, ..] => Err(equation.name.at),
+        [] => Ok(()),
     }
-    if let [equation, ..] = loc.equations.as_slice() {
-        return Some(equation.name.at);
-    }
-    edges_misfit(loc.edges.as_slice())
 }
 
-fn locations_misfit(locs: &[Loc]) -> Option<u32>
-    ensures { Tells result (list_all form.location_fits (map source.location_tree locs.now)) }
+fn check_location(loc: &Loc) -> Result<(), u32>
+    ensures { Answers result (form.location_fits (source.location_tree loc.now)) }
+{
+    check_equations(loc.equations.as_slice())?;
+    check_predicates(loc.marked.as_slice())?;
+    check_edges(loc.edges.as_slice())
+}
+
+fn check_locations(locs: &[Loc]) -> Result<(), u32>
+    ensures { Answers result (list_all form.location_fits (map source.location_tree locs.now)) }
 {
     for loc in locs {
-        match location_misfit(loc) {
-            Some(at) => return Some(at),
-            None => {}
-        }
+        check_location(loc)?;
     }
-    None
+    Ok(())
 }
 
 /// What declarations and locations of an automaton have.
-pub fn automaton_misfit(automaton: &AutoBody) -> Option<u32>
-    ensures { Tells result (form.automaton_fits (source.automaton_tree automaton.now)) }
+pub fn check_automaton(automaton: &AutoBody) -> Result<(), u32>
+    ensures { Answers result (form.automaton_fits (source.automaton_tree automaton.now)) }
 {
-    match decls_misfit(automaton.decls.as_slice()) {
-        Some(at) => Some(at),
-        None => locations_misfit(automaton.locs.as_slice()),
-    }
+    check_decls(automaton.decls.as_slice())?;
+    check_locations(automaton.locs.as_slice())
 }

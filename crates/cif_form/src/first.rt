@@ -3,56 +3,56 @@
 ghost use Rattle.std.specs.Prelude.{◌≡◌, ℕ, Some, None, true, false};
 ghost use Rattle.cif_ast.specs.View.{view_body, view_item, view_items};
 ghost use Rattle.cif_source.specs.Source.{source_of, source_body, source_item, source_items};
-ghost use Rattle.cif_image.specs.Built.{is_flat};
+ghost use Rattle.cif_image.specs.Built.{is_built};
 ghost use Rattle.cif_form.specs.Forms as form;
-ghost use Rattle.cif_form.specs.Forms.{Tells};
+ghost use Rattle.cif_form.specs.Forms.{Answers};
 
-use crate::automata::{automaton_misfit, decl_misfit};
+use crate::automata::{check_automaton, check_decl};
 use cif_ast::{Body, Item, Spec};
 
 #[cycle(forms)]
-fn body_misfit(body: &Body) -> Option<u32>
-    ensures { Tells result (form.body_fits (source_body (view_body body.now))) }
+fn check_body(body: &Body) -> Result<(), u32>
+    ensures { Answers result (form.body_fits (source_body (view_body body.now))) }
 {
     match body {
-        Body::Group(items) => items_misfit(items.as_slice()),
-        Body::Auto(automaton) => automaton_misfit(automaton),
+        Body::Group(items) => check_items(items.as_slice()),
+        Body::Auto(automaton) => check_automaton(automaton),
     }
 }
 
 #[cycle(forms)]
-fn item_misfit(item: &Item) -> Option<u32>
-    ensures { Tells result (form.item_fits (source_item (view_item item.now))) }
+fn check_item(item: &Item) -> Result<(), u32>
+    ensures { Answers result (form.item_fits (source_item (view_item item.now))) }
 {
     match item {
-        Item::Decl(decl) => decl_misfit(decl),
-        Item::Comp(component) => body_misfit(&component.body),
-        Item::Def(definition) => Some(definition.name.at),
-        Item::Inst(instance) => Some(instance.name.at),
+        Item::Decl(decl) => check_decl(decl),
+        Item::Comp(component) => check_body(&component.body),
+        Item::Def(definition) => Err(definition.name.at),
+        Item::Inst(instance) => Err(instance.name.at),
     }
 }
 
 #[cycle(forms)]
-fn items_misfit(items: &[Item]) -> Option<u32>
-    ensures { Tells result (form.items_fit (source_items (view_items items.now))) }
+fn check_items(items: &[Item]) -> Result<(), u32>
+    ensures { Answers result (form.items_fit (source_items (view_items items.now))) }
 {
     for item in items {
-        match item_misfit(item) {
-            Some(at) => return Some(at),
-            None => {}
-        }
+        check_item(item)?;
     }
-    None
+    Ok(())
 }
 
-/// The byte of a thing that has no form for which programs are written so far: a definition, an instance, a declaration of anything
-/// but an event that is no channel, a marking predicate, an equation, a guard, an update, or a use of an event that sends or
-/// receives. It is the first, but for the parts of a location and of an edge: a location's predicates and equations come before
-/// its edges, and an edge's guards and updates before its events. `None` where there is no such thing. The time is linear in
-/// the tree.
+/// The byte of a thing that has no form for which programs are written so far: a definition, an instance, an input, an algebraic
+/// variable, an equation, an invariant, a channel, a use of an event that sends or receives, or a `?`. It is the first, but for
+/// the parts of a location and of an edge: a location's equations come before its predicates, and an edge's events before its
+/// guards and updates. `None` where there is no such thing. The time is linear in the tree.
+#[tactic(auto, using(crate::proofs::FormLaws::fitting, crate::proofs::FormLaws::misfitting))]
 pub fn misfit(spec: &Spec) -> Option<u32>
-    ensures none { result ≡ None → is_flat (source_of spec.now) ≡ true }
-    ensures some { (at : ℕ) → result ≡ Some at → is_flat (source_of spec.now) ≡ false }
+    ensures none { result ≡ None → is_built (source_of spec.now) ≡ true }
+    ensures some { (at : ℕ) → result ≡ Some at → is_built (source_of spec.now) ≡ false }
 {
-    items_misfit(spec.items.as_slice())
+    match check_items(spec.items.as_slice()) {
+        Ok(()) => None,
+        Err(at) => Some(at),
+    }
 }

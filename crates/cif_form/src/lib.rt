@@ -1,8 +1,9 @@
-//! Which sources have the forms for which programs are written so far: groups and automata with events, locations and edges,
-//! without definitions, data, channels and invariants.
+//! Which sources have the forms for which programs are written so far: groups and automata with events, locations, edges, discrete
+//! variables, constants and types, without definitions, inputs, algebraic variables, channels and invariants.
 #![tactic(auto)]
 
 mod automata;
+mod expressions;
 mod first;
 mod places;
 

@@ -1,6 +1,6 @@
 //! Where parts of a tree begin in the text. No clause speaks of these places.
 
-use cif_ast::{Decl, Inv, Update};
+use cif_ast::{Decl, Inv};
 
 fn invariant_place(invariant: &Inv) -> u32 {
     match invariant {
@@ -25,19 +25,5 @@ pub fn decl_place(decl: &Decl) -> u32 {
         | Decl::Equation { name, .. } => name.at,
         Decl::Inv(invariant) => invariant_place(invariant),
         Decl::Marked(predicate) => predicate.at,
-    }
-}
-
-/// Where the first name or condition of an update begins.
-pub fn update_place(update: &Update) -> u32 {
-    match update {
-        Update::Set { target, .. } => target.at,
-        Update::If { branches, .. } => match branches.as_slice() {
-            [branch, ..] => match branch.conds.as_slice() {
-                [cond, ..] => cond.at,
-                [] => u32::MAX,
-            },
-            [] => u32::MAX,
-        },
     }
 }

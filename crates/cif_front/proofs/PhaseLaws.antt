@@ -1,17 +1,14 @@
 -- What each phase keeps of a source of the built forms, and why its refusal is due.
-use Rattle.std.proofs.Common.{◌≡◌, ℕ, ◌≤◌, Bool, true, false, refl, sym, ◌∙◌, ap, subst, arith}
-use Rattle.std.specs.Prelude.{◌&&◌, is_none}
+use Rattle.std.proofs.Common.{◌≡◌, ℕ, ◌≤◌, ◌<◌, true, false, [], refl, ◌∙◌, ap, subst, arith}
 use Rattle.std.specs.List.{list_all}
-use Rattle.cif_system.specs.System.{syncing}
 use Rattle.cif_system.specs.Words.{Exceeds}
 use Rattle.cif_system.specs.Choices.{all_choices}
-use Rattle.cif_system.specs.Step.{same_role}
-use Rattle.cif_model.specs.Net.{NetEdge, Net, no_net_chan}
+use Rattle.cif_model.specs.Net.{Net, no_net_chan}
 use Rattle.cif_model.specs.Counts.{most_choices}
 use Rattle.cif_model.specs.Meaning.{system_of_net}
-use Rattle.cif_model.specs.Rules.{TooLarge}
+use Rattle.cif_model.specs.Rules.{ZeroDivisor, TooWide, TooLarge}
 use Rattle.cif_source.specs.Source.{Source}
-use Rattle.cif_scope.specs.Scopes.{AreScopesOf}
+use Rattle.cif_scope.specs.Scopes.{AreScopesOf, KeepsScoping}
 use Rattle.cif_scope.specs.declared.error.ScopeErr.{ScopeErr}
 use Rattle.cif_scope.specs.declared.error.ScopeErr.TheVariants as scope
 use Rattle.cif_scope.specs.declared.scopes.Scopes.{Scopes}
@@ -22,96 +19,138 @@ use Rattle.cif_types.specs.declared.error.TypeErr.TheVariants as type
 use Rattle.cif_inst.specs.Net as insts
 use Rattle.cif_inst.specs.declared.error.InstErr.{InstErr}
 use Rattle.cif_inst.specs.declared.error.InstErr.TheVariants as inst
-use Rattle.cif_alg.specs.Bare.{is_bare, is_bare_edge, is_no_channel, is_empty, is_bare_auto, is_truth, assigns_nothing}
+use Rattle.cif_alg.specs.Channels.{is_no_channel}
 use Rattle.cif_alg.specs.Keeps as algs
 use Rattle.cif_alg.specs.declared.error.AlgErr.{AlgErr}
 use Rattle.cif_alg.specs.declared.error.AlgErr.TheVariants as alg
 use Rattle.cif_lin.specs.declared.error.LinErr.{LinErr}
 use Rattle.cif_lin.specs.declared.error.LinErr.TheVariants as lin
-use Rattle.cif_image.specs.Built.{is_flat}
+use Rattle.cif_image.specs.Built.{is_built}
 use Rattle.cif_image.specs.Flat.{net_of_source}
 use Rattle.cif_image.specs.Represents.{Represents}
-use Rattle.cif_image.specs.WellFormed.{Refusal, Broken}
+use Rattle.cif_image.specs.WellFormed.{Refusal, unknown, duplicate, wrong_kind, definition_cycle, mismatch, not_constant, initials, not_own, assigned_twice, equations, alphabet_lacks, role_mixed, too_many_objects, constant_range, alg_cycle, zero_divisor, too_wide, invariant_reads_input, invariant_false, too_large, too_many_choices, Broken, Phase, phase, order, scope as scopes, kinds, instances, algebraic, choices, KeepsBefore}
 use Rattle.cif_image.proofs.RuleLaws.{all-from}
-use Rattle.cif_flat.specs.Bare.{IsBareEdge, IsBareNet}
-use Rattle.cif_flat.specs.Kept.{KeepsNames, KeepsInitials, KeepsObjects, KeepsSize}
-use Rattle.cif_flat.proofs.BareLaws.{bare-edges}
-use Rattle.cif_flat.proofs.KeptLaws as kept
-use Rattle.cif_flat.proofs.NetLaws.{flat-net}
+use Rattle.cif_flat.proofs.NetLaws.{silent}
+use Rattle.cif_front.specs.Kept.{KeepsSource}
 use Rattle.cif_front.specs.Dues.{IsDueOf, scope_refusal, type_refusal, inst_refusal, alg_refusal, lin_refusal}
 
-module _ (t : Source) (flat : is_flat t ≡ true) where
+module _ (t : Source) where
+  -- in the first k phases, where these keep their rules
+  kept-in : (k : ℕ) → (0 < k → KeepsScoping t) → (1 < k → types.KeepsKinds t) → (2 < k → insts.KeepsInstances t) → (3 < k → algs.KeepsAlgebraic (net_of_source t))
+      → (4 < k → (count : ℕ) → Broken t (too_many_choices count) → ⊥) → (r : Refusal) → order (phase r) < k → Broken t r → ⊥
+  kept-in k names types objects plain few (unknown at) h b = (names h).known at b
+  kept-in k names types objects plain few (duplicate at first) h b = (names h).single at first b
+  kept-in k names types objects plain few (wrong_kind at) h b = (names h).fitting at b
+  kept-in k names types objects plain few (definition_cycle at) h b = (names h).acyclic at b
+  kept-in k names types objects plain few (mismatch at) h b = (types h).mismatch at b
+  kept-in k names types objects plain few (not_constant at) h b = (types h).constant at b
+  kept-in k names types objects plain few (initials at count) h b = (types h).started at count b
+  kept-in k names types objects plain few (not_own at) h b = (types h).own at b
+  kept-in k names types objects plain few (assigned_twice at) h b = (types h).once at b
+  kept-in k names types objects plain few (equations at count) h b = (types h).single at count b
+  kept-in k names types objects plain few (alphabet_lacks at) h b = (objects h).alphabets at b
+  kept-in k names types objects plain few (role_mixed at) h b = (objects h).roles at b
+  kept-in k names types objects plain few (too_many_objects count) h b = (objects h).few count b
+  kept-in k names types objects plain few (constant_range at) h b = (objects h).ranges at b
+  kept-in k names types objects plain few (alg_cycle alg) h b = (plain h).acyclic alg b
+  kept-in k names types objects plain few (zero_divisor at) h b = (plain h).divides at b
+  kept-in k names types objects plain few (too_wide at) h b = (plain h).narrow at b
+  kept-in k names types objects plain few (invariant_reads_input at) h b = (plain h).free at b
+  kept-in k names types objects plain few (invariant_false at) h b = (plain h).holds at b
+  kept-in k names types objects plain few (too_large nodes depth) h b = (plain h).small nodes depth b
+  kept-in k names types objects plain few (too_many_choices count) h b = few h count b
+
+  before_names : KeepsBefore t scopes
+  before_names r h b = absurd (omega (arith, h))
+
+  before_kinds : KeepsScoping t → KeepsBefore t kinds
+  before_kinds names r = kept-in 1 (λ h. names) (λ h. absurd (omega (arith, h))) (λ h. absurd (omega (arith, h))) (λ h. absurd (omega (arith, h))) (λ h. absurd (omega (arith, h))) r
+
+  before_instances : KeepsScoping t → types.KeepsKinds t → KeepsBefore t instances
+  before_instances names types r = kept-in 2 (λ h. names) (λ h. types) (λ h. absurd (omega (arith, h))) (λ h. absurd (omega (arith, h))) (λ h. absurd (omega (arith, h))) r
+
   -- ---- names
 
   pub scope_due : (e : ScopeErr) → ScopeDue t e → IsDueOf t (scope_refusal e)
-  scope_due (scope.Unknown at) h = record { broken = h; first_phase = kept.kept-before_scope t }
-  scope_due (scope.Duplicate at first) h = record { broken = h; first_phase = kept.kept-before_scope t }
-  scope_due (scope.WrongKind at) h = record { broken = h; first_phase = kept.kept-before_scope t }
-  scope_due (scope.DefinitionCycle at) h = record { broken = h; first_phase = kept.kept-before_scope t }
+  scope_due (scope.Unknown at) h = record { broken = h; first_phase = before_names }
+  scope_due (scope.Duplicate at first) h = record { broken = h; first_phase = before_names }
+  scope_due (scope.WrongKind at) h = record { broken = h; first_phase = before_names }
+  scope_due (scope.DefinitionCycle at) h = record { broken = h; first_phase = before_names }
   scope_due scope.Memory h = tt
-
-  pub names_kept : (s : Scopes) → AreScopesOf t s → KeepsNames t
-  names_kept s h = record { unknown = h.rules.known; duplicate = h.rules.single; wrong_kind = h.rules.fitting }
 
   -- ---- kinds
 
-  pub initials_kept : types.KeepsKinds t → KeepsInitials t
-  initials_kept h = record { initials = h.started }
-
   pub type_due : (s : Scopes) → AreScopesOf t s → (e : TypeErr) → types.due t e → IsDueOf t (type_refusal e)
-  type_due s names (type.Initials at count) h = record { broken = h; first_phase = kept.kept-before_kinds t flat (names_kept s names) }
+  type_due s names (type.Mismatch at) h = record { broken = h; first_phase = before_kinds names.rules }
+  type_due s names (type.NotConstant at) h = record { broken = h; first_phase = before_kinds names.rules }
+  type_due s names (type.Initials at count) h = record { broken = h; first_phase = before_kinds names.rules }
+  type_due s names (type.NotOwn at) h = record { broken = h; first_phase = before_kinds names.rules }
+  type_due s names (type.AssignedTwice at) h = record { broken = h; first_phase = before_kinds names.rules }
+  type_due s names (type.Equations at count) h = record { broken = h; first_phase = before_kinds names.rules }
   type_due s names type.Memory h = tt
 
   -- ---- instances
 
-  pub objects_kept : insts.KeepsInstances t → KeepsObjects t
-  objects_kept h = record { alphabet_lacks = h.alphabets; too_many_objects = h.few }
-
   pub inst_due : (s : Scopes) → AreScopesOf t s → types.KeepsKinds t → (e : InstErr) → insts.due t e → IsDueOf t (inst_refusal e)
-  inst_due s names kinds (inst.AlphabetLacks at) h = record { broken = h; first_phase = kept.kept-before_instances t flat (names_kept s names) (initials_kept kinds) }
-  inst_due s names kinds (inst.TooManyObjects count) h = record { broken = h; first_phase = kept.kept-before_instances t flat (names_kept s names) (initials_kept kinds) }
-  inst_due s names kinds inst.Memory h = tt
+  inst_due s names typed (inst.AlphabetLacks at) h = record { broken = h; first_phase = before_instances names.rules typed }
+  inst_due s names typed (inst.TooManyObjects count) h = record { broken = h; first_phase = before_instances names.rules typed }
+  inst_due s names typed (inst.ConstantRange at) h = record { broken = h; first_phase = before_instances names.rules typed }
+  inst_due s names typed inst.Memory h = tt
 
   -- ---- the net
 
-  edge-bare : (x : NetEdge) → IsBareEdge x → is_bare_edge x ≡ true
-  edge-bare x b = λ i. same_role syncing (b.role i) && is_truth (b.guard.1 i) && is_none (b.sent i) && assigns_nothing (b.updates i)
+  pub source_kept : (s : Scopes) → AreScopesOf t s → types.KeepsKinds t → insts.KeepsInstances t → KeepsSource t
+  source_kept s names types objects = record { names = names.rules; kinds = types; objects = objects }
 
-  all-five : (a b c d e : Bool) → a ≡ true → b ≡ true → c ≡ true → d ≡ true → e ≡ true → (a && b && c && d && e) ≡ true
-  all-five a b c d e f g h j k = λ i. f i && g i && h i && j i && k i
+  before_algebraic : KeepsSource t → KeepsBefore t algebraic
+  before_algebraic kept r = kept-in 3 (λ h. kept.names) (λ h. kept.kinds) (λ h. kept.objects) (λ h. absurd (omega (arith, h))) (λ h. absurd (omega (arith, h))) r
 
-  bare : (n : Net) → IsBareNet n → is_bare n ≡ true
-  bare n b =
-      all-five (is_empty n.algs) (is_empty n.exclusions) (is_empty n.invariants) (list_all is_no_channel n.events) (list_all is_bare_auto n.autos)
-      (ap is_empty b.algs) (ap is_empty b.exclusions) (ap is_empty b.invariants)
-      (all-from is_no_channel n.events (λ e m. ap (λ c. elim c [ no_net_chan ↦ true | _ ↦ false ]) (b.channels e m)))
-      (bare-edges is_bare_edge edge-bare n b)
+  before_choices : KeepsSource t → algs.KeepsAlgebraic (net_of_source t) → KeepsBefore t choices
+  before_choices kept plain r = kept-in 4 (λ h. kept.names) (λ h. kept.kinds) (λ h. kept.objects) (λ h. plain) (λ h. absurd (omega (arith, h))) r
 
-  pub net_bare : (n : Net) → Represents n t → is_bare n ≡ true
-  net_bare n r = ap is_bare r.translated ∙ bare (net_of_source t) (flat-net t flat)
+  last : (r : Refusal) → order (phase r) < 5
+  last r = below (phase r)
+    where
+      below : (p : Phase) → order p < 5
+      below scopes = omega arith
+      below kinds = omega arith
+      below instances = omega arith
+      below algebraic = omega arith
+      below choices = omega arith
 
-  pub size_kept : (n : Net) → Represents n t → algs.KeepsAlgebraic n → KeepsSize t
-  size_kept n r h = record { too_large = λ nodes depth due. h.small nodes depth (subst (λ m. TooLarge m nodes depth) (sym r.translated) due) }
+  module _ (n : Net) (r : Represents n t) where
+    pub net_algs : is_built t ≡ true → n.algs ≡ []
+    net_algs built = ap (λ (m : Net). m.algs) r.translated ∙ (silent t built).algs
 
-  pub alg_due : (n : Net) → Represents n t → KeepsNames t → KeepsInitials t → KeepsObjects t → (e : AlgErr) → algs.due n e → IsDueOf t (alg_refusal e)
-  alg_due n r names initials objects (alg.TooLarge nodes depth) h = record {
-    broken = subst (λ m. TooLarge m nodes depth) r.translated h;
-    first_phase = kept.kept-before_algebraic t flat names initials objects;
-  }
-  alg_due n r names initials objects alg.Memory h = tt
+    pub net_invariants : is_built t ≡ true → n.invariants ≡ []
+    net_invariants built = ap (λ (m : Net). m.invariants) r.translated ∙ (silent t built).invariants
 
-  -- ---- choices
+    pub net_channels : is_built t ≡ true → list_all is_no_channel n.events ≡ true
+    net_channels built =
+        ap (λ (m : Net). list_all is_no_channel m.events) r.translated
+        ∙ all-from is_no_channel (net_of_source t).events (λ e m. ap (λ c. elim c [ no_net_chan ↦ true | _ ↦ false ]) ((silent t built).channels e m))
 
-  pub all_kept : (n : Net) → Represents n t → KeepsNames t → KeepsInitials t → KeepsObjects t → KeepsSize t → all_choices (system_of_net n) ≤ most_choices
-      → (q : Refusal) → Broken t q → ⊥
-  all_kept n r names initials objects size few =
-      kept.kept-all t flat names initials objects size
-      (record { too_many_choices = λ count h. let over = h.0 in let few_of = subst (λ s. all_choices s ≤ most_choices) r.meaning few in absurd (omega (arith, over, few_of)) })
+    pub plain_kept : algs.KeepsAlgebraic n → algs.KeepsAlgebraic (net_of_source t)
+    plain_kept h = subst algs.KeepsAlgebraic r.translated h
 
-  pub lin_due : (n : Net) → Represents n t → KeepsNames t → KeepsInitials t → KeepsObjects t → KeepsSize t → (e : LinErr)
-      → ((count : ℕ) → e ≡ lin.TooManyChoices count → Exceeds most_choices (all_choices (system_of_net n)) count) → IsDueOf t (lin_refusal e)
-  lin_due n r names initials objects size (lin.TooManyChoices count) h = record {
-    broken = subst (λ s. Exceeds most_choices (all_choices s) count) r.meaning (h count refl);
-    first_phase = kept.kept-before_choices t flat names initials objects size;
-  }
-  lin_due n r names initials objects size lin.Memory h = tt
+    pub alg_due : KeepsSource t → (e : AlgErr) → algs.due n e → IsDueOf t (alg_refusal e)
+    alg_due kept (alg.ZeroDivisor at) h = record { broken = subst (λ m. ZeroDivisor m at) r.translated h; first_phase = before_algebraic kept }
+    alg_due kept (alg.TooWide at) h = record { broken = subst (λ m. TooWide m at) r.translated h; first_phase = before_algebraic kept }
+    alg_due kept (alg.TooLarge nodes depth) h = record { broken = subst (λ m. TooLarge m nodes depth) r.translated h; first_phase = before_algebraic kept }
+    alg_due kept alg.Memory h = tt
+
+    -- ---- choices
+
+    few-kept : all_choices (system_of_net n) ≤ most_choices → (count : ℕ) → Broken t (too_many_choices count) → ⊥
+    few-kept few count h = let over = h.0 in let few_of = subst (λ s. all_choices s ≤ most_choices) r.meaning few in absurd (omega (arith, over, few_of))
+
+    pub all_kept : KeepsSource t → algs.KeepsAlgebraic (net_of_source t) → all_choices (system_of_net n) ≤ most_choices → (q : Refusal) → Broken t q → ⊥
+    all_kept kept plain few q b = kept-in 5 (λ h. kept.names) (λ h. kept.kinds) (λ h. kept.objects) (λ h. plain) (λ h. few-kept few) q (last q) b
+
+    pub lin_due : KeepsSource t → algs.KeepsAlgebraic (net_of_source t) → (e : LinErr) → ((count : ℕ) → e ≡ lin.TooManyChoices count → Exceeds most_choices (all_choices (system_of_net n)) count)
+        → IsDueOf t (lin_refusal e)
+    lin_due kept plain (lin.TooManyChoices count) h = record {
+      broken = subst (λ s. Exceeds most_choices (all_choices s) count) r.meaning (h count refl);
+      first_phase = before_choices kept plain;
+    }
+    lin_due kept plain lin.Memory h = tt

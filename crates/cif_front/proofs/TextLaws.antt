@@ -10,7 +10,7 @@ use Rattle.cif_parse.specs.declared.error.ParseErr.{ParseErr}
 use Rattle.cif_parse.specs.declared.error.ParseErr.TheVariants as parse
 use Rattle.cif_net.specs.declared.guarded.Guarded.{Guarded}
 use Rattle.cif_source.specs.Source.{source_of}
-use Rattle.cif_image.specs.Built.{is_flat}
+use Rattle.cif_image.specs.Built.{is_built}
 use Rattle.cif_image.specs.WellFormed as rule
 use Rattle.cif_image.specs.WellFormed.{Due}
 use Rattle.cif_front.specs.declared.refusal.Refusal.{Refusal}
@@ -28,7 +28,7 @@ pub parse_due : (text : Text) (e : ParseErr) → ParseRefusalDue text e → IsDu
 parse_due text (parse.NotRead at) h = h
 parse_due text parse.Memory h = tt
 
-module _ (text : Text) (tree : Spec) (read : ReadsAsTree text tree) (built : is_flat (source_of tree) ≡ true) where
+module _ (text : Text) (tree : Spec) (read : ReadsAsTree text tree) (built : is_built (source_of tree) ≡ true) where
   has-rule : (o : Option rule.Refusal) → HasRule (Due (source_of tree)) o → HasRule (SourceDue text) o
   has-rule None h = absurd h
   has-rule (Some r) h = record { tree = tree; read = read; built = built; due = h }

@@ -19,7 +19,7 @@ use Rattle.cif_alg.specs.declared.error.AlgErr.TheVariants as alg
 use Rattle.cif_lin.specs.declared.error.LinErr.{LinErr}
 use Rattle.cif_lin.specs.declared.error.LinErr.TheVariants as lin
 use Rattle.cif_source.specs.Source.{Source, source_of}
-use Rattle.cif_image.specs.Built.{is_flat}
+use Rattle.cif_image.specs.Built.{is_built}
 use Rattle.cif_image.specs.WellFormed as rule
 use Rattle.cif_image.specs.WellFormed.{Due}
 use Rattle.cif_front.specs.declared.refusal.Refusal.{Refusal}
@@ -46,15 +46,23 @@ scope_refusal (scope.DefinitionCycle at) = refusal.Scope (scope.DefinitionCycle 
 
 abbrev pub type_refusal : TypeErr → Refusal
 type_refusal type.Memory = refusal.Memory
+type_refusal (type.Mismatch at) = refusal.Types (type.Mismatch at)
+type_refusal (type.NotConstant at) = refusal.Types (type.NotConstant at)
 type_refusal (type.Initials at count) = refusal.Types (type.Initials at count)
+type_refusal (type.NotOwn at) = refusal.Types (type.NotOwn at)
+type_refusal (type.AssignedTwice at) = refusal.Types (type.AssignedTwice at)
+type_refusal (type.Equations at count) = refusal.Types (type.Equations at count)
 
 abbrev pub inst_refusal : InstErr → Refusal
 inst_refusal inst.Memory = refusal.Memory
 inst_refusal (inst.AlphabetLacks at) = refusal.Inst (inst.AlphabetLacks at)
 inst_refusal (inst.TooManyObjects count) = refusal.Inst (inst.TooManyObjects count)
+inst_refusal (inst.ConstantRange at) = refusal.Inst (inst.ConstantRange at)
 
 abbrev pub alg_refusal : AlgErr → Refusal
 alg_refusal alg.Memory = refusal.Memory
+alg_refusal (alg.ZeroDivisor at) = refusal.Alg (alg.ZeroDivisor at)
+alg_refusal (alg.TooWide at) = refusal.Alg (alg.TooWide at)
 alg_refusal (alg.TooLarge nodes depth) = refusal.Alg (alg.TooLarge nodes depth)
 
 abbrev pub lin_refusal : LinErr → Refusal
@@ -71,15 +79,23 @@ scope_rule (scope.DefinitionCycle at) = Some (rule.definition_cycle at)
 scope_rule scope.Memory = None
 
 abbrev pub type_rule : TypeErr → Option rule.Refusal
+type_rule (type.Mismatch at) = Some (rule.mismatch at)
+type_rule (type.NotConstant at) = Some (rule.not_constant at)
 type_rule (type.Initials at count) = Some (rule.initials at count)
+type_rule (type.NotOwn at) = Some (rule.not_own at)
+type_rule (type.AssignedTwice at) = Some (rule.assigned_twice at)
+type_rule (type.Equations at count) = Some (rule.equations at count)
 type_rule type.Memory = None
 
 abbrev pub inst_rule : InstErr → Option rule.Refusal
 inst_rule (inst.AlphabetLacks at) = Some (rule.alphabet_lacks at)
 inst_rule (inst.TooManyObjects count) = Some (rule.too_many_objects count)
+inst_rule (inst.ConstantRange at) = Some (rule.constant_range at)
 inst_rule inst.Memory = None
 
 abbrev pub alg_rule : AlgErr → Option rule.Refusal
+alg_rule (alg.ZeroDivisor at) = Some (rule.zero_divisor at)
+alg_rule (alg.TooWide at) = Some (rule.too_wide at)
 alg_rule (alg.TooLarge nodes depth) = Some (rule.too_large nodes depth)
 alg_rule alg.Memory = None
 
@@ -110,14 +126,14 @@ IsDueOf t e = HasRule (Due t) (rule_of e)
 pub record SourceDue (text : Text) (r : rule.Refusal) : Type 0 where
   pub tree : Spec
   pub read : ReadsAsTree text tree
-  pub built : is_flat (source_of tree) ≡ true
+  pub built : is_built (source_of tree) ≡ true
   pub due : Due (source_of tree) r
 
 -- the text reads as a source with another form, and the place lies in the text
 pub record NotBuiltDue (text : Text) (at : ℕ) : Type 0 where
   pub tree : Spec
   pub read : ReadsAsTree text tree
-  pub other : is_flat (source_of tree) ≡ false
+  pub other : is_built (source_of tree) ≡ false
   pub within : at ≤ length text
 
 abbrev pub LexDue : Text → LexErr → Type 0

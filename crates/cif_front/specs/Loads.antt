@@ -6,7 +6,7 @@ use Rattle.cif_parse.specs.Grammar.{Reads as ReadsAsTree}
 use Rattle.cif_source.specs.Source.{Source, source_of}
 use Rattle.cif_net.specs.declared.guarded.Guarded.{Guarded}
 use Rattle.cif_net.specs.View.{net_tree}
-use Rattle.cif_image.specs.Built.{is_flat}
+use Rattle.cif_image.specs.Built.{is_built}
 use Rattle.cif_image.specs.Represents.{Represents}
 use Rattle.cif_image.specs.WellFormed.{Refusal, Broken}
 
@@ -15,7 +15,7 @@ pub record ReadsAsBuilt (text : Text) (t : Source) : Type 0 where
   pub tree : Spec
   pub read : ReadsAsTree text tree
   pub is : t ≡ source_of tree
-  pub built : is_flat t ≡ true
+  pub built : is_built t ≡ true
   pub keeps : (r : Refusal) → Broken t r → ⊥
 
 -- the net, whose choices the type keeps, represents the source, which breaks no rule

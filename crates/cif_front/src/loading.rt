@@ -3,9 +3,10 @@
 ghost use Rattle.std.specs.Prelude.{◌≡◌, ◌≤◌, ◌+◌, ◌<◌, ◌^◌, true, length, IfOk, IfErr};
 ghost use Rattle.cif_lex.specs.Tokens.{Tokens};
 ghost use Rattle.cif_ast.specs.Countable.{IsCountable};
+ghost use Rattle.cif_ast.specs.SmallNumbers.{HasSmallNumbers};
 ghost use Rattle.cif_source.specs.Source.{source_of};
 ghost use Rattle.cif_parse.specs.Grammar.{Reads};
-ghost use Rattle.cif_image.specs.Built.{is_flat};
+ghost use Rattle.cif_image.specs.Built.{is_built};
 ghost use Rattle.cif_front.specs.Dues.{IsDue};
 ghost use Rattle.cif_front.specs.Loads.{Loads};
 
@@ -33,6 +34,7 @@ fn tree_of(alloc: Global, text: &[u8], tokens: &[Token]) -> Result<Spec, Refusal
     requires tokens { Tokens text.now tokens.now }
     ensures tree { IfOk result (λ spec. Reads text.now spec) }
     ensures countable { IfOk result IsCountable }
+    ensures small { IfOk result HasSmallNumbers }
     ensures refused { IfErr result (λ e. IsDue text.now e) }
 {
     Ok(parse(alloc, text, tokens)?)
@@ -42,7 +44,7 @@ fn tree_of(alloc: Global, text: &[u8], tokens: &[Token]) -> Result<Spec, Refusal
 fn check_forms(text: &[u8], spec: &Spec) -> Result<(), Refusal>
     requires short { length text.now ≤ 4194304 }
     requires read { Reads text.now spec.now }
-    ensures forms { IfOk result (λ u. is_flat (source_of spec.now) ≡ true) }
+    ensures forms { IfOk result (λ u. is_built (source_of spec.now) ≡ true) }
     ensures refused { IfErr result (λ e. IsDue text.now e) }
 {
     let end = text.len() as u32;

@@ -17,7 +17,8 @@ use Rattle.st_ast.specs.Tree.{Program}
 use Rattle.plc_face.specs.Face.{Face, HasInterface}
 use Rattle.plc_face.specs.Scans.{NeverFaults, RunsFirstSteps, ScansLegally, ScansExactly, ShowsOutputs, StaysTyped}
 use Rattle.plc_gen.specs.Faces.{face_of_net}
-use Rattle.plc_gen.specs.Makes.{is_dataless}
+use Rattle.cif_nesting.specs.Nesting.{is_shallow}
+use Rattle.plc_parts.specs.Parts.{is_silent}
 use Rattle.plc_back.specs.Texts.{IsLayoutOf, TheProgram}
 use Rattle.plc_back.specs.Written as written
 use Rattle.plc_back.specs.Written.{IsFirstUnclassed}
@@ -37,7 +38,7 @@ use Rattle.cif_generate.specs.Meaning.{AreClassed, IsTextOf, StartsInitial, even
 use Rattle.cif_generate.specs.Generates.{Writes, generate_work, is_unclassed}
 use Rattle.cif_generate.specs.Told.{IsTold, TellsOf, path_in}
 use Rattle.cif_generate.proofs.FaceLaws.{face-same}
-use Rattle.cif_generate.proofs.ProgramLaws.{flat-dataless}
+use Rattle.cif_generate.proofs.ProgramLaws.{built-silent, read-shallow}
 
 -- ---- texts
 
@@ -88,8 +89,11 @@ path-same (d ∷ ds) zero = refl
 path-same (d ∷ ds) (suc k) = path-same ds k
 
 module _ (content : Content) (file : Text) (g : Guarded) (l : IsLoaded content file g) where
-  pub loaded_dataless : is_dataless (net_tree g.plain.net) ≡ true
-  loaded_dataless = ap is_dataless l.2.translated ∙ flat-dataless l.0 l.1.3.built
+  pub loaded_silent : is_silent (net_tree g.plain.net) ≡ true
+  loaded_silent = ap is_silent l.2.translated ∙ built-silent l.0 l.1.3.built
+
+  pub loaded_shallow : is_shallow (net_tree g.plain.net) ≡ true
+  loaded_shallow = ap is_shallow l.2.translated ∙ read-shallow l.1.0 l.0 l.1.3
 
   same_meaning : system_of_net (net_of_source l.0) ≡ meant_by l.0
   same_meaning = sym (ap system_of_net l.2.translated) ∙ l.2.meaning

@@ -1,31 +1,32 @@
--- A bare net has no data of which its program would have to speak.
-use Rattle.std.proofs.Common.{◌≡◌, Bool, true, ap}
-use Rattle.std.specs.Prelude.{◌&&◌, length, nat_eq, is_none}
+-- The net of a source of the forms built so far is one that programs are written for.
+use Rattle.std.proofs.Common.{◌≡◌, Bool, true, false, sym, ap, ◌∙◌}
+use Rattle.std.specs.Prelude.{◌&&◌, length, nat_eq}
 use Rattle.std.specs.List.{list_all}
-use Rattle.cif_model.specs.Net.{NetEdge, NetExclusion, Net}
-use Rattle.plc_gen.specs.Tests.{is_told}
-use Rattle.plc_gen.specs.Events.{writes_nothing}
-use Rattle.plc_gen.specs.Makes.{edge_is_dataless, auto_is_dataless, is_dataless}
+use Rattle.grammar.specs.Pieces.{Text}
+use Rattle.cif_parse.proofs.CountedSources.{tree_shallow}
+use Rattle.cif_model.specs.Net.{no_net_chan}
 use Rattle.cif_source.specs.Source.{Source}
-use Rattle.cif_image.specs.Built.{is_flat}
+use Rattle.cif_image.specs.Built.{is_built}
 use Rattle.cif_image.specs.Flat.{net_of_source}
-use Rattle.cif_flat.specs.Bare.{IsBareEdge, IsBareNet}
-use Rattle.cif_flat.proofs.BareLaws.{bare-edges}
-use Rattle.cif_flat.proofs.NetLaws.{flat-net}
+use Rattle.cif_image.proofs.RuleLaws.{all-from}
+use Rattle.cif_flat.proofs.NetLaws as flat
+use Rattle.cif_nesting.specs.Nesting.{is_shallow}
+use Rattle.cif_shallow.proofs.NestingLaws.{shallow-nets}
+use Rattle.plc_parts.specs.Parts.{is_no_channel, is_silent}
+use Rattle.cif_accept.specs.Built.{ReadsAsBuilt}
 
-edge-dataless : (n : Net) (x : NetEdge) → IsBareEdge x → edge_is_dataless n x ≡ true
-edge-dataless n x b = λ i. is_told n (b.guard.1 i) && is_none (b.sent i) && writes_nothing (b.updates i)
+three : (a b c : Bool) → a ≡ true → b ≡ true → c ≡ true → (a && b && c) ≡ true
+three a b c h g f = λ i. h i && g i && f i
 
-dataless-tests : (a b c d : Bool) → a ≡ true → b ≡ true → c ≡ true → d ≡ true → (a && b && c && d) ≡ true
-dataless-tests a b c d h g f e = λ i. h i && g i && f i && e i
+pub built-silent : (t : Source) → is_built t ≡ true → is_silent (net_of_source t) ≡ true
+built-silent t built =
+    let s = flat.silent t built in
+    three (nat_eq (length (net_of_source t).algs) 0) (nat_eq (length (net_of_source t).invariants) 0) (list_all is_no_channel (net_of_source t).events)
+    (ap (λ xs. nat_eq (length xs) 0) s.algs)
+    (ap (λ xs. nat_eq (length xs) 0) s.invariants)
+    (all-from is_no_channel (net_of_source t).events (λ e m. ap (λ c. elim c [ no_net_chan ↦ true | _ ↦ false ]) (s.channels e m)))
 
-pub bare-dataless : (n : Net) → IsBareNet n → is_dataless n ≡ true
-bare-dataless n bare =
-    dataless-tests (nat_eq (length n.invariants) 0) (nat_eq (length n.algs) 0) (list_all (auto_is_dataless n) n.autos) (list_all (λ (x : NetExclusion). is_told n x.pred) n.exclusions)
-    (ap (λ xs. nat_eq (length xs) 0) bare.invariants)
-    (ap (λ xs. nat_eq (length xs) 0) bare.algs)
-    (bare-edges (edge_is_dataless n) (edge-dataless n) n bare)
-    (ap (list_all (λ (x : NetExclusion). is_told n x.pred)) bare.exclusions)
-
-pub flat-dataless : (t : Source) → is_flat t ≡ true → is_dataless (net_of_source t) ≡ true
-flat-dataless t flat = bare-dataless (net_of_source t) (flat-net t flat)
+pub read-shallow : (text : Text) (t : Source) → ReadsAsBuilt text t → is_shallow (net_of_source t) ≡ true
+read-shallow text t h =
+    ap (λ u. is_shallow (net_of_source u)) h.is
+    ∙ shallow-nets h.tree (tree_shallow text h.tree h.read) (ap is_built (sym h.is) ∙ h.built)

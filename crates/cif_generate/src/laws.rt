@@ -3,9 +3,9 @@
 
 ghost use Rattle.std.specs.Prelude.{◌≡◌, true};
 ghost use Rattle.plc_gen.specs.Faces.{face_of_net};
-ghost use Rattle.plc_gen.specs.Makes.{is_dataless};
+ghost use Rattle.plc_parts.specs.Parts.{is_silent};
 ghost use Rattle.cif_source.specs.Source.{Source};
-ghost use Rattle.cif_image.specs.Built.{is_flat};
+ghost use Rattle.cif_image.specs.Built.{is_built};
 ghost use Rattle.cif_image.specs.Flat.{net_of_source};
 ghost use Rattle.cif_generate.specs.Shown.{face_of};
 
@@ -14,7 +14,7 @@ pub fn net_shows_the_same()
     ensures { (t : Source) → face_of_net (net_of_source t) ≡ face_of t }
 {}
 
-/// The net of a source of the forms built so far has no data of which its program would have to speak.
-pub fn flat_net_is_dataless()
-    ensures { (t : Source) → is_flat t ≡ true → is_dataless (net_of_source t) ≡ true }
+/// The net of a source of the forms built so far has no algebraic variables, state invariants and channels.
+pub fn built_net_is_silent()
+    ensures { (t : Source) → is_built t ≡ true → is_silent (net_of_source t) ≡ true }
 {}

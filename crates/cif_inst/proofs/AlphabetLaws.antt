@@ -17,14 +17,15 @@ use Rattle.cif_system.specs.Step.{same_role}
 use Rattle.cif_rules.specs.InstanceRules.{synchronised_name}
 use Rattle.cif_image.specs.Flat.{event_number, named_events, alphabet_in, alphabet_of, monitored_in, monitored_events, net_edge}
 use Rattle.cif_image.proofs.EdgeLaws.{is_some, number-found}
-use Rattle.cif_image.proofs.FormLaws.{IsBare, only-bare}
-use Rattle.cif_image.proofs.NamedLaws.{LeadsToEvent, leads, event-number, event-below}
+use Rattle.cif_image.proofs.NamedLaws.{LeadsToEvent}
+use Rattle.cif_inst.proofs.BuiltLaws.{no-definitions, Syncs, only-sync}
+use Rattle.cif_inst.proofs.EventLaws.{leads, event-number, event-below}
 use Rattle.cif_inst.specs.Naming.{component_at}
 use Rattle.cif_inst.specs.Alphabets.{automaton_edges, used_events, alphabet_by, alphabet_for, monitors_by, monitors_for}
 use Rattle.cif_inst.specs.declared.naming.Naming.{Naming}
 use Rattle.cif_inst.proofs.NamingLaws.{IsSound, listed, few}
 use Rattle.cif_inst.proofs.EdgeLaws.{event_of, found-events}
-use Rattle.cif_inst.proofs.UseLaws.{event-use, edge-event-used, body-named}
+use Rattle.cif_inst.proofs.UseLaws.{event-use, edge-event-used}
 
 -- ---- names of events
 
@@ -52,21 +53,21 @@ named-are c (nm ∷ nms) h = ap (λ o. cons_option o (named_events c nms)) (h nm
 abbrev pub use_name : EventEdge → Name
 use_name w = w.event_use.name
 
-pub synchronised-all : (ws : List EventEdge) → ((w : EventEdge) → Member w ws → IsBare w) → flat_map synchronised_name ws ≡ map use_name ws
-synchronised-all [] bare = refl
-synchronised-all (w ∷ ws) bare =
-    ap (λ r. (if same_role syncing (role_of r) then w.event_use.name ∷ [] else []) ++ flat_map synchronised_name ws) (bare w (inl refl)).role
-    ∙ ap (λ xs. w.event_use.name ∷ xs) (synchronised-all ws (λ v m. bare v (inr m)))
+pub synchronised-all : (ws : List EventEdge) → ((w : EventEdge) → Member w ws → Syncs w) → flat_map synchronised_name ws ≡ map use_name ws
+synchronised-all [] syncs = refl
+synchronised-all (w ∷ ws) syncs =
+    ap (λ r. (if same_role syncing (role_of r) then w.event_use.name ∷ [] else []) ++ flat_map synchronised_name ws) (syncs w (inl refl))
+    ∙ ap (λ xs. w.event_use.name ∷ xs) (synchronised-all ws (λ v m. syncs v (inr m)))
 
 module _ (t : Source) (h : IsSound t) where
   used-numbered : (c : Component) → Member c (bodies t) → (nm : Name) → Member (event-use nm) (uses c) → Numbered t c nm
   used-numbered c m nm k =
-      let l : LeadsToEvent t c nm = leads t h.flat (listed t h) (few t h) h.scoping.known h.scoping.fitting c m nm k in
-      let at : event_at (denotes c nm) ≡ Some (number_in (events t) l.place l.ident.text) = event-number t h.flat (listed t h) (few t h) c m nm l in
+      let l : LeadsToEvent t c nm = leads t (no-definitions t h.built) (listed t h) (few t h) h.scoping.known h.scoping.fitting c m nm k in
+      let at : event_at (denotes c nm) ≡ Some (number_in (events t) l.place l.ident.text) = event-number t (no-definitions t h.built) (listed t h) (few t h) c m nm l in
       let is : event_number c nm ≡ number_in (events t) l.place l.ident.text = ap (λ o. unwrap_or o 0) at in
       record {
         number = sym (number-found (event_at (denotes c nm)) (ap is_some at));
-        below = omega (arith, is, event-below t h.flat (listed t h) (few t h) c nm l);
+        below = omega (arith, is, event-below t (no-definitions t h.built) (listed t h) (few t h) c nm l);
       }
 
   pub edge-numbered : (c : Component) → Member c (bodies t) → (w : EventEdge) → Member w (event_edges c) → Numbered t c w.event_use.name
@@ -91,7 +92,7 @@ module _ (t : Source) (h : IsSound t) where
 
     synchronised-numbered : (nm : Name) → Member nm (flat_map synchronised_name (event_edges c)) → Numbered t c nm
     synchronised-numbered nm k =
-        let w = member-map use_name nm (event_edges c) (subst (Member nm) (synchronised-all (event_edges c) (only-bare t h.flat c m)) k) in
+        let w = member-map use_name nm (event_edges c) (subst (Member nm) (synchronised-all (event_edges c) (only-sync t h.built c m)) k) in
         subst (Numbered t c) (sym w.2) (edge-numbered c m w.0 w.1)
 
     pub alphabet-below : (x : ℕ) → Member x (alphabet_of c) → x < length (events t)
@@ -121,7 +122,7 @@ module _ (n : Naming) (k : ℕ) (t : Source) (h : IsSound t) (m : Member (compon
       ap (alphabet_in own) e
       ∙ (elim a.alphabet as (λ o. ((nm : Name) → Member nm (unwrap_or o []) → Numbered t own nm)
       → named_events own (elim o [ None ↦ flat_map synchronised_name (event_edges own) | Some nms ↦ nms ]) ≡ alphabet_by n k o (used_events n k a)) [
-        | None ↦ λ u. found-events own (event_edges own) (only-bare t h.flat own m) (body-named t h own m) ∙ sym (ap (map event_of) edges)
+        | None ↦ λ u. found-events own (event_edges own) (only-sync t h.built own m) (λ w x. (edge-numbered t h own m w x).number) ∙ sym (ap (map event_of) edges)
         | Some nms ↦ λ u. named-are own nms (λ nm x. (u nm x).number)
       ]) (alphabet-numbered t h own m a e)
 

@@ -10,7 +10,7 @@ use Rattle.cif_net.specs.declared.automata.Auto.{Auto}
 use Rattle.cif_net.specs.declared.automata.NetEdge.{NetEdge as DeclaredEdge}
 use Rattle.cif_net.specs.View.{edge_tree, auto_tree}
 use Rattle.cif_inst.specs.Alphabets.{automaton_edges, used_events, alphabet_for, monitors_for}
-use Rattle.cif_inst.specs.Autos.{is_initial, without_dot, bare_auto}
+use Rattle.cif_inst.specs.Autos.{is_initial, without_dot, auto_for}
 use Rattle.cif_inst.specs.declared.naming.Naming.{Naming}
 
 same-events : (es : List DeclaredEdge) → map (λ (e : DeclaredEdge). e.event) es ≡ map (λ (e : NetEdge). e.event) (map edge_tree es)
@@ -21,7 +21,7 @@ pub used_are : (n : Naming) (k : ℕ) (a : AutomatonTree) (edges : List Declared
 used_are n k a edges used is same = is ∙ same-events edges ∙ ap (map (λ (e : NetEdge). e.event)) same
 
 pub made_auto : (n : Naming) (k : ℕ) (p : Text) (a : AutomatonTree) (x : Auto) → x.path ≡ without_dot p → x.locs ≡ map location_name a.locs → x.first ≡ position_or_len is_initial a.locs
-    → x.alphabet ≡ alphabet_for n k a → x.monitors ≡ monitors_for n k a → map edge_tree x.edges ≡ automaton_edges n k a → auto_tree x ≡ bare_auto n k p a
+    → x.alphabet ≡ alphabet_for n k a → x.monitors ≡ monitors_for n k a → map edge_tree x.edges ≡ automaton_edges n k a → auto_tree x ≡ auto_for n k p a
 made_auto n k p a x path locs first alphabet monitors edges = λ i. record { path = path i; locs = locs i; first = first i; alphabet = alphabet i; monitors = monitors i; edges = edges i }
 
 pub name_pushed : (locs : List Loc) (i : ℕ) (loc : Loc) (before after : List Text) (name : Text) → i < length locs → loc ≡ get_or locs i loc → after ≡ before ++ name ∷ [] → name ≡ location_name (location_tree loc)

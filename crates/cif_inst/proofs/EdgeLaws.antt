@@ -5,19 +5,17 @@ use Rattle.std.specs.List.{list_all, enumerate_from, position_or_len, cons_optio
 use Rattle.std.specs.Cmp.Lexicographic as words
 use Rattle.std.proofs.lemmas.List.{map-append}
 use Rattle.cif_ast.specs.declared.names.Ident.{Ident}
-use Rattle.cif_ast.specs.declared.names.Name.{Name}
 use Rattle.cif_system.specs.Words.{Member}
 use Rattle.cif_system.specs.System.{syncing}
 use Rattle.cif_system.specs.Step.{same_role}
 use Rattle.cif_system.proofs.Lists.{false-true, some-same, none-some, find-passes}
-use Rattle.cif_system.proofs.Picks.{and-left, and-right, map-member, append-left, append-right}
+use Rattle.cif_system.proofs.Picks.{map-member, append-left, append-right}
 use Rattle.cif_model.specs.Net.{NetEdge}
-use Rattle.cif_source.specs.Source.{Text, UseTree, EdgeTree, LocationTree, DeclTree, type_decl, enum_decl, event_decl, const_decl, alg_decl, input_decl, disc_decl, equation_decl, invariant_decl, marked_decl, AutomatonTree, automaton_body, Source, tree_at}
+use Rattle.cif_source.specs.Source.{Text, UseTree, EdgeTree, LocationTree, DeclTree, type_decl, enum_decl, event_decl, const_decl, alg_decl, input_decl, disc_decl, equation_decl, invariant_decl, marked_decl, AutomatonTree, automaton_body, Source}
 use Rattle.cif_source.specs.Components.{Component, scope_of, same_text, body_entries, decl_entries, location_entry, entry_named, Entry, Entries, declared, literal, location, inner, definition, instance, parameter}
 use Rattle.cif_source.specs.Objects.{locs_of, EventEdge, event_edges, edges_of_uses}
 use Rattle.cif_source.specs.Lookup.{denotes}
 use Rattle.cif_source.specs.Step.{is_named, role_of, end_of, event_at}
-use Rattle.cif_rules.specs.BodyRules.{targets_of_all}
 use Rattle.cif_rules.specs.InstanceRules.{synchronised_name}
 use Rattle.cif_scope.specs.declared.scope.What.{What}
 use Rattle.cif_scope.specs.declared.scopes.Scopes.{Scopes}
@@ -25,17 +23,16 @@ use Rattle.cif_scope.specs.Tables.{IsBody, IsWhat}
 use Rattle.cif_scope.specs.Scopes.{AreScopesOf}
 use Rattle.cif_scope.proofs.LookLaws.{Slotted, what-is}
 use Rattle.cif_image.specs.Translation.{net_of, net_guard}
-use Rattle.cif_image.specs.Flat.{event_number, sent_tree, net_updates_of, net_edge, named_events}
-use Rattle.cif_image.proofs.EdgeLaws.{names_its_objects, names_event, names_variable, number-found}
+use Rattle.cif_image.specs.Flat.{event_number, sent_tree, net_updates_of, value_places, net_edge, named_events}
 use Rattle.cif_image.proofs.KeptLaws.{has_twice}
 use Rattle.cif_image.proofs.PathLaws.{names, not-twice-right}
 use Rattle.cif_image.proofs.BodyLaws.{other-name}
 use Rattle.cif_model.proofs.Passing.{all-member}
 use Rattle.cif_image.proofs.SystemLaws.{map-map}
-use Rattle.cif_image.proofs.FormLaws.{IsBare}
 use Rattle.cif_image.proofs.NumberLaws.{all-joined}
 use Rattle.cif_inst.specs.Naming.{place_in, place_at, target_place, component_at}
-use Rattle.cif_inst.specs.Edges.{bare_edge, end_place, uses_edges, locations_edges}
+use Rattle.cif_inst.proofs.BuiltLaws.{Syncs}
+use Rattle.cif_inst.specs.Edges.{sync_edge, end_place, uses_edges, locations_edges}
 use Rattle.cif_inst.specs.declared.naming.Naming.{Naming}
 
 -- ---- the place of a target
@@ -220,52 +217,52 @@ module _ (n : Naming) (k : ℕ) where
       target None = refl
       target (Some x) = targets x
 
-  bare-is : (w : EventEdge) → IsBare w → bare_edge n k w.from (end_of own w) w.event_use ≡ net_edge own w
-  bare-is w b = let path : net_edge own w ≡ bare_edge n k w.from (end_of own w) w.event_use = λ i. record {
+  sync-is : (w : EventEdge) → Syncs w → sync_edge n k w.from (end_of own w) w.edge w.event_use ≡ net_edge own w
+  sync-is w r = let path : net_edge own w ≡ sync_edge n k w.from (end_of own w) w.edge w.event_use = λ i. record {
     event = event_number own w.event_use.name;
-    role = role_of (b.role i);
+    role = role_of (r i);
     from = w.from;
     to = end_of own w;
-    guard = net_guard own w.event_use.name.at (b.guards i);
-    sent = option_map (net_of own) (sent_tree (b.role i));
-    updates = net_updates_of own (b.updates i);
-    places = (elim (sent_tree (b.role i)) [ None ↦ [] | Some e ↦ tree_at e ∷ [] ]) ++ map (λ (nm : Name). nm.at) (targets_of_all (b.updates i));
+    guard = net_guard own w.event_use.name.at w.edge.guards;
+    sent = option_map (net_of own) (sent_tree (r i));
+    updates = net_updates_of own w.edge.updates;
+    places = value_places w;
   } in sym path
 
-  uses-are : (count from : ℕ) (e : EdgeTree) → TargetsAre count → ((w : EventEdge) → Member w (edges_of_uses from e) → IsBare w) → uses_edges n k from count e ≡ map (net_edge own) (edges_of_uses from e)
-  uses-are count from e targets bare =
-      sym (map-map (net_edge own) (at_use from e) (bare_edge n k from (end_place n k from count e.target)) e.uses (λ u m.
-      sym (ap (λ to. bare_edge n k from to u) (end-is count from u e targets) ∙ bare-is (at_use from e u) (bare (at_use from e u) (map-member (at_use from e) u e.uses m)))))
+  uses-are : (count from : ℕ) (e : EdgeTree) → TargetsAre count → ((w : EventEdge) → Member w (edges_of_uses from e) → Syncs w) → uses_edges n k from count e ≡ map (net_edge own) (edges_of_uses from e)
+  uses-are count from e targets syncs =
+      sym (map-map (net_edge own) (at_use from e) (sync_edge n k from (end_place n k from count e.target) e) e.uses (λ u m.
+      sym (ap (λ to. sync_edge n k from to e u) (end-is count from u e targets) ∙ sync-is (at_use from e u) (syncs (at_use from e u) (map-member (at_use from e) u e.uses m)))))
 
-  edges-are : (count from : ℕ) (es : List EdgeTree) → TargetsAre count → ((w : EventEdge) → Member w (flat_map (edges_of_uses from) es) → IsBare w) → flat_map (uses_edges n k from count) es ≡ map (net_edge own) (flat_map (edges_of_uses from) es)
-  edges-are count from [] targets bare = refl
-  edges-are count from (e ∷ es) targets bare =
-      ap (λ xs. xs ++ flat_map (uses_edges n k from count) es) (uses-are count from e targets (λ w m. bare w (append-left w (edges_of_uses from e) (flat_map (edges_of_uses from) es) m)))
-      ∙ ap (λ xs. map (net_edge own) (edges_of_uses from e) ++ xs) (edges-are count from es targets (λ w m. bare w (append-right w (edges_of_uses from e) (flat_map (edges_of_uses from) es) m)))
+  edges-are : (count from : ℕ) (es : List EdgeTree) → TargetsAre count → ((w : EventEdge) → Member w (flat_map (edges_of_uses from) es) → Syncs w) → flat_map (uses_edges n k from count) es ≡ map (net_edge own) (flat_map (edges_of_uses from) es)
+  edges-are count from [] targets syncs = refl
+  edges-are count from (e ∷ es) targets syncs =
+      ap (λ xs. xs ++ flat_map (uses_edges n k from count) es) (uses-are count from e targets (λ w m. syncs w (append-left w (edges_of_uses from e) (flat_map (edges_of_uses from) es) m)))
+      ∙ ap (λ xs. map (net_edge own) (edges_of_uses from e) ++ xs) (edges-are count from es targets (λ w m. syncs w (append-right w (edges_of_uses from e) (flat_map (edges_of_uses from) es) m)))
       ∙ sym (map-append (net_edge own) (edges_of_uses from e) (flat_map (edges_of_uses from) es))
 
   abbrev edges_from : ℕ → List LocationTree → List EventEdge
   edges_from j ls = flat_map (λ (l : ℕ × LocationTree). flat_map (edges_of_uses l.0) l.1.edges) (enumerate_from j ls)
 
-  locations-are : (count j : ℕ) (ls : List LocationTree) → TargetsAre count → ((w : EventEdge) → Member w (edges_from j ls) → IsBare w) → locations_edges n k count j ls ≡ map (net_edge own) (edges_from j ls)
-  locations-are count j [] targets bare = refl
-  locations-are count j (l ∷ ls) targets bare =
-      ap (λ xs. xs ++ locations_edges n k count (j + 1) ls) (edges-are count j l.edges targets (λ w m. bare w (append-left w (flat_map (edges_of_uses j) l.edges) (edges_from (j + 1) ls) m)))
-      ∙ ap (λ xs. map (net_edge own) (flat_map (edges_of_uses j) l.edges) ++ xs) (locations-are count (j + 1) ls targets (λ w m. bare w (append-right w (flat_map (edges_of_uses j) l.edges) (edges_from (j + 1) ls) m)))
+  locations-are : (count j : ℕ) (ls : List LocationTree) → TargetsAre count → ((w : EventEdge) → Member w (edges_from j ls) → Syncs w) → locations_edges n k count j ls ≡ map (net_edge own) (edges_from j ls)
+  locations-are count j [] targets syncs = refl
+  locations-are count j (l ∷ ls) targets syncs =
+      ap (λ xs. xs ++ locations_edges n k count (j + 1) ls) (edges-are count j l.edges targets (λ w m. syncs w (append-left w (flat_map (edges_of_uses j) l.edges) (edges_from (j + 1) ls) m)))
+      ∙ ap (λ xs. map (net_edge own) (flat_map (edges_of_uses j) l.edges) ++ xs) (locations-are count (j + 1) ls targets (λ w m. syncs w (append-right w (flat_map (edges_of_uses j) l.edges) (edges_from (j + 1) ls) m)))
       ∙ sym (map-append (net_edge own) (flat_map (edges_of_uses j) l.edges) (edges_from (j + 1) ls))
 
-  pub all-edges-are : (count : ℕ) → TargetsAre count → ((w : EventEdge) → Member w (event_edges own) → IsBare w) → locations_edges n k count 0 (locs_of own) ≡ map (net_edge own) (event_edges own)
-  all-edges-are count targets bare = locations-are count 0 (locs_of own) targets bare
+  pub all-edges-are : (count : ℕ) → TargetsAre count → ((w : EventEdge) → Member w (event_edges own) → Syncs w) → locations_edges n k count 0 (locs_of own) ≡ map (net_edge own) (event_edges own)
+  all-edges-are count targets syncs = locations-are count 0 (locs_of own) targets syncs
 
 -- ---- alphabets
 
 abbrev pub event_of : NetEdge → ℕ
 event_of e = e.event
 
-pub found-events : (c : Component) (ws : List EventEdge) → ((w : EventEdge) → Member w ws → IsBare w) → list_all (names_its_objects c) ws ≡ true → named_events c (flat_map synchronised_name ws) ≡ map event_of (map (net_edge c) ws)
-found-events c [] bare named = refl
-found-events c (w ∷ ws) bare named =
-    let here : names_event c w.event_use.name ≡ true = and-left (names_event c w.event_use.name) (list_all (names_variable c) (targets_of_all w.edge.updates)) (and-left (names_its_objects c w) (list_all (names_its_objects c) ws) named) in
-    ap (λ r. named_events c ((if same_role syncing (role_of r) then w.event_use.name ∷ [] else []) ++ flat_map synchronised_name ws)) (bare w (inl refl)).role
-    ∙ ap (λ o. cons_option o (named_events c (flat_map synchronised_name ws))) (sym (number-found (event_at (denotes c w.event_use.name)) here))
-    ∙ ap (λ es. event_number c w.event_use.name ∷ es) (found-events c ws (λ v m. bare v (inr m)) (and-right (names_its_objects c w) (list_all (names_its_objects c) ws) named))
+pub found-events : (c : Component) (ws : List EventEdge) → ((w : EventEdge) → Member w ws → Syncs w) → ((w : EventEdge) → Member w ws → event_at (denotes c w.event_use.name) ≡ Some (event_number c w.event_use.name))
+    → named_events c (flat_map synchronised_name ws) ≡ map event_of (map (net_edge c) ws)
+found-events c [] syncs numbered = refl
+found-events c (w ∷ ws) syncs numbered =
+    ap (λ r. named_events c ((if same_role syncing (role_of r) then w.event_use.name ∷ [] else []) ++ flat_map synchronised_name ws)) (syncs w (inl refl))
+    ∙ ap (λ o. cons_option o (named_events c (flat_map synchronised_name ws))) (numbered w (inl refl))
+    ∙ ap (λ es. event_number c w.event_use.name ∷ es) (found-events c ws (λ v m. syncs v (inr m)) (λ v m. numbered v (inr m)))

@@ -11,15 +11,14 @@ use Rattle.cif_system.proofs.Distinct.{member-append, member-map}
 use Rattle.cif_model.specs.Facts.{has}
 use Rattle.cif_source.specs.Source.{UseTree, EdgeTree, LocationTree, AutomatonTree, automaton_body, Source}
 use Rattle.cif_source.specs.Components.{Component, body_of}
-use Rattle.cif_source.specs.Lookup.{denotes}
-use Rattle.cif_source.specs.Objects.{automata, bodies, locs_of, locs_in, EventEdge, event_edges, edges_of_uses}
-use Rattle.cif_source.specs.Step.{event_at, synchronises}
+use Rattle.cif_source.specs.Objects.{bodies, locs_of, locs_in, EventEdge, event_edges, edges_of_uses}
+use Rattle.cif_source.specs.Step.{synchronises}
 use Rattle.cif_rules.specs.InstanceRules as rules
 use Rattle.cif_rules.specs.InstanceRules.{synchronised_name, is_lacking, AlphabetLacksDue}
-use Rattle.cif_image.specs.Flat.{event_number, alphabet_of, net_edge}
+use Rattle.cif_image.specs.Flat.{event_number, net_edge}
 use Rattle.cif_image.proofs.SystemLaws.{map-map, alphabet-same}
 use Rattle.cif_image.proofs.RuleLaws.{member-any}
-use Rattle.cif_image.proofs.FormLaws.{only-bare}
+use Rattle.cif_inst.proofs.BuiltLaws.{only-sync}
 use Rattle.cif_inst.specs.Naming.{component_at}
 use Rattle.cif_inst.specs.Alphabets.{name_places, use_place, edge_places, location_places, automaton_edges, used_events, alphabet_for, monitors_by, monitors_for, is_outside, first_failing, or_later, automaton_lacks}
 use Rattle.cif_inst.specs.declared.naming.Naming.{Naming}
@@ -99,19 +98,6 @@ asked_names c = flat_map synchronised_name (event_edges c) ++ rules.monitored_in
 abbrev pub LacksAt : ℕ → Component → Type 0
 LacksAt at c = Any (λ (nm : Name). (nm.at ≡ at) × IsTrue (is_lacking c nm)) (asked_names c)
 
--- where the rule is kept, an event that is asked for stands in the alphabet
-pub inside-alphabet : (t : Source) → ((at : ℕ) → AlphabetLacksDue t at → ⊥) → (c : Component) → Member c (automata t) → (nm : Name) → Member nm (asked_names c) → event_at (denotes c nm) ≡ Some (event_number c nm)
-    → has (alphabet_of c) (event_number c nm) ≡ true
-inside-alphabet t keeps c m nm k number = alphabet-same c (event_number c nm) ∙ it-does
-  where
-    it-does : synchronises (event_number c nm) c ≡ true
-    it-does =
-        (elim (synchronises (event_number c nm) c) as (λ b. synchronises (event_number c nm) c ≡ b → b ≡ true) [
-          | true ↦ λ g. refl
-          | false ↦ λ g. absurd (keeps nm.at (member-any (LacksAt nm.at) c (automata t) m (member-any (λ (x : Name). (x.at ≡ nm.at) × IsTrue (is_lacking c x)) nm (asked_names c) k
-              (refl, ap (λ o. elim o [ None ↦ false | Some x ↦ not (synchronises x c) ]) number ∙ ap not g))))
-        ]) refl
-
 module _ (n : Naming) (k : ℕ) (t : Source) (h : IsSound t) (m : Member (component_at n k) (bodies t)) (a : AutomatonTree) (e : body_of (component_at n k) ≡ automaton_body a) (edges : automaton_edges n k a ≡ map (net_edge (component_at n k)) (event_edges (component_at n k))) where
   abbrev own : Component
   own = component_at n k
@@ -140,7 +126,7 @@ module _ (n : Naming) (k : ℕ) (t : Source) (h : IsSound t) (m : Member (compon
 
   names-are : asked_names own ≡ edge_names ++ unwrap_or a.monitor []
   names-are =
-      ap (λ xs. xs ++ rules.monitored_in (body_of own)) (synchronised-all (event_edges own) (only-bare t h.flat own m))
+      ap (λ xs. xs ++ rules.monitored_in (body_of own)) (synchronised-all (event_edges own) (only-sync t h.built own m))
       ∙ ap (λ b. edge_names ++ rules.monitored_in b) e
 
   edge-name-numbered : (nm : Name) → Member nm edge_names → Numbered t own nm

@@ -1,5 +1,7 @@
+pub mod BuiltLaws
 pub mod RowLaws
 pub mod SlotLaws
+pub mod EventLaws
 pub mod NamingLaws
 pub mod EdgeLaws
 pub mod UseLaws
@@ -8,7 +10,9 @@ pub mod AlphabetLaws
 pub mod LackLaws
 pub mod AutomatonLaws
 pub mod TellLaws
-pub mod FitLaws
-pub mod NetLaws
 pub mod RowAutoLaws
+pub mod LookingLaws
+pub mod VariableLaws
+pub mod RuleLaws
+pub mod NetLaws
 pub mod AutoLaws

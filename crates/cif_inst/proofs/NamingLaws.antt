@@ -18,7 +18,7 @@ use Rattle.cif_scope.specs.Tables.{IsBody, IsScope}
 use Rattle.cif_scope.specs.Scopes.{AreNumbered, Finds, KeepsScoping}
 use Rattle.cif_scope.specs.declared.scopes.Found.{Found}
 use Rattle.cif_scope.proofs.Places.{beside-length}
-use Rattle.cif_image.specs.Built.{is_flat}
+use Rattle.cif_image.specs.Built.{is_built}
 use Rattle.cif_image.specs.Flat.{event_number}
 use Rattle.cif_image.proofs.KeptLaws.{has_twice}
 use Rattle.cif_image.proofs.PathLaws.{names, names-append, not-twice-right}
@@ -27,11 +27,12 @@ use Rattle.cif_image.proofs.SingleLaws.{scopes-single}
 use Rattle.cif_image.proofs.WalkLaws.{body_objects, bodies-components, few-objects}
 use Rattle.cif_image.proofs.BodyLaws.{is_single, paths-distinct}
 use Rattle.cif_image.proofs.NumberLaws.{number-is}
-use Rattle.cif_image.proofs.FormLaws.{is_plain_part, no-definitions, no-params, only-parts}
+use Rattle.cif_image.proofs.FormLaws.{is_plain_part}
 use Rattle.cif_image.proofs.NamedLaws.{plain-thing}
 use Rattle.cif_inst.specs.Events.{rows_slots}
 use Rattle.cif_inst.specs.Naming.{or_whole, body_at, source_for, component_at, slot_number, number_at, AreNamesOf}
 use Rattle.cif_inst.specs.declared.naming.Naming.{Naming}
+use Rattle.cif_inst.proofs.BuiltLaws.{no-definitions, no-params, only-parts}
 use Rattle.cif_inst.proofs.RowLaws.{row_for, rows-are, objects-are}
 use Rattle.cif_inst.proofs.SlotLaws.{event-at, other-at}
 
@@ -62,16 +63,16 @@ nothing-found c nm q e m = follow-met thing_of None given_of c nm ∙ ap (met th
 -- ---- a source whose objects are few, and whose names keep their rules
 
 pub record IsSound (t : Source) : Type 0 where
-  pub flat : is_flat t ≡ true
+  pub built : is_built t ≡ true
   pub few : body_objects t ≤ most_objects
   pub scoping : KeepsScoping t
 
 module _ (t : Source) (h : IsSound t) where
   pub listed : components_of t ≡ bodies t
-  listed = bodies-components t (no-definitions t h.flat) h.few
+  listed = bodies-components t (no-definitions t h.built) h.few
 
   pub few : length (components_of t) ≤ most_objects
-  few = few-kept t (few-objects t (no-definitions t h.flat) h.few)
+  few = few-kept t (few-objects t (no-definitions t h.built) h.few)
 
   pub single : (c : Component) → Member c (bodies t) → has_twice (names (body_entries (body_of c))) ≡ false
   single c m =
@@ -93,7 +94,7 @@ module _ (t : Source) (h : IsSound t) where
   written (copy o n ps b g i) p = absurd (false-true refl p)
 
   pub own-scope : (d : Component) → Member d (bodies t) → scope_of d ≡ body_entries (body_of d)
-  own-scope d m = ap (λ ps. param_entries ps ++ body_entries (body_of d)) (no-params t h.flat d m)
+  own-scope d m = ap (λ ps. param_entries ps ++ body_entries (body_of d)) (no-params t (no-definitions t h.built) d m)
 
   entry-number : (b s : ℕ) (d : Component) (n : Ident) (e : Entry) → IsBody t b d → Member d (bodies t) → slice_get (body_entries (body_of d)) s ≡ Some (n, e)
       → slot_number (slice_get numbers b) s ≡ unwrap_or (event_at (Some (thing d e))) 0
@@ -130,7 +131,7 @@ module _ (t : Source) (h : IsSound t) where
   found-number c nm blocked (Some g) e f = absurd f
   found-number c nm (reached (d, x)) None e f = absurd f
   found-number c nm (reached (d, x)) (Some g) e f =
-      let plain : is_plain_part d ≡ true = plain-back d (only-parts t h.flat (as_written d) (at-member (bodies t) g.body (as_written d) f.body)) in
+      let plain : is_plain_part d ≡ true = plain-back d (only-parts t (no-definitions t h.built) (as_written d) (at-member (bodies t) g.body (as_written d) f.body)) in
       let here : IsBody t g.body d = f.body ∙ ap Some (written d plain) in
       let m : Member d (bodies t) = at-member (bodies t) g.body d here in
       entry-number g.body g.slot d f.slot.0 x here m (ap (λ es. slice_get es g.slot) (sym (own-scope d m)) ∙ f.slot.1)
@@ -138,8 +139,8 @@ module _ (t : Source) (h : IsSound t) where
 
 pub names-sound : (n : Naming) → AreNamesOf n → IsSound (source_for n)
 names-sound n h = record {
-  flat = h.flat;
-  few = subst (λ k. k ≤ most_objects) (objects-are (source_for n) (no-definitions (source_for n) h.flat)) h.few;
+  built = h.built;
+  few = subst (λ k. k ≤ most_objects) (objects-are (source_for n) (no-definitions (source_for n) h.built)) h.few;
   scoping = h.scopes.rules;
 }
 
@@ -147,5 +148,5 @@ names-sound n h = record {
 pub found_number : (n : Naming) (k : ℕ) (nm : Name) (r : Option Found) → AreNamesOf n → k < length (bodies (source_for n))
     → ((t : Source) (c : Component) → AreNumbered t n.scopes.now → IsBody t k c → Finds t (found c nm) r) → number_at n.numbers.now r ≡ event_number (component_at n k) nm
 found_number n k nm r h below finds =
-    ap (λ ns. number_at ns r) (h.numbers ∙ ap (rows_slots 0) (rows-are (source_for n) (no-definitions (source_for n) h.flat)))
+    ap (λ ns. number_at ns r) (h.numbers ∙ ap (rows_slots 0) (rows-are (source_for n) (no-definitions (source_for n) h.built)))
     ∙ found-number (source_for n) (names-sound n h) (component_at n k) nm (found (component_at n k) nm) r refl (finds (source_for n) (component_at n k) h.scopes.numbers (body-is (source_for n) k below))

@@ -1,15 +1,16 @@
 -- One automaton more among the rows.
-use Rattle.std.proofs.Common.{◌≡◌, ℕ, zero, suc, ◌+◌, ◌<◌, List, [], ◌∷◌, ◌++◌, length, map, drop, get_or, Option, Some, None, sym, ◌∙◌, ap, subst, arith}
+use Rattle.std.proofs.Common.{◌≡◌, true, ℕ, zero, suc, ◌+◌, ◌<◌, List, [], ◌∷◌, ◌++◌, length, map, drop, get_or, Option, Some, None, sym, ◌∙◌, ap, subst, arith}
 use Rattle.std.specs.Prelude.{slice_get}
 use Rattle.std.proofs.lemmas.Option.{slice_get-get_or}
 use Rattle.cif_system.proofs.Lists.{map-length}
 use Rattle.cif_system.proofs.Picks.{map-at}
+use Rattle.cif_source.specs.Source.{Source}
 use Rattle.cif_source.specs.Components.{body_of}
 use Rattle.cif_source.specs.Objects.{bodies}
-use Rattle.cif_image.proofs.FormLaws.{no-definitions}
+use Rattle.cif_image.specs.Built.{has_no_definitions}
 use Rattle.cif_inst.specs.Rows.{RowTree, rows_of}
 use Rattle.cif_inst.specs.Views.{row_tree, row_body}
-use Rattle.cif_inst.specs.Naming.{source_for, component_at, or_whole, AreNamesOf}
+use Rattle.cif_inst.specs.Naming.{or_whole, body_at}
 use Rattle.std.proofs.Common.{append_assoc}
 use Rattle.std.proofs.lemmas.List.{map-append}
 use Rattle.cif_model.specs.Net.{NetAuto}
@@ -29,19 +30,19 @@ at-mapped [] k row h = cc
 at-mapped (r ∷ rows) zero row h = cc
 at-mapped (r ∷ rows) (suc k) row h = at-mapped rows k row h
 
-module _ (n : Naming) (h : AreNamesOf n) (rows : List Row) (are : map row_tree rows ≡ rows_of (source_for n)) where
-  listed-rows : map row_tree rows ≡ map row_for (bodies (source_for n))
-  listed-rows = are ∙ rows-are (source_for n) (no-definitions (source_for n) h.flat)
+module _ (t : Source) (alone : has_no_definitions t ≡ true) (rows : List Row) (are : map row_tree rows ≡ rows_of t) where
+  listed-rows : map row_tree rows ≡ map row_for (bodies t)
+  listed-rows = are ∙ rows-are t alone
 
-  pub row_below : (k : ℕ) → k < length rows → k < length (bodies (source_for n))
-  row_below k below = omega (arith, below, map-length row_tree rows, ap length listed-rows, map-length row_for (bodies (source_for n)))
+  pub row_below : (k : ℕ) → k < length rows → k < length (bodies t)
+  row_below k below = omega (arith, below, map-length row_tree rows, ap length listed-rows, map-length row_for (bodies t))
 
   -- a row's body is its component's
-  pub row_written : (k : ℕ) (row : Row) → k < length rows → row ≡ get_or rows k row → body_of (component_at n k) ≡ row_body row.body
+  pub row_written : (k : ℕ) (row : Row) → k < length rows → row ≡ get_or rows k row → body_of (body_at t k) ≡ row_body row.body
   row_written k row below is =
       let at : slice_get rows k ≡ Some row = slice_get-get_or rows k row below ∙ ap Some (sym is) in
-      let c = map-at row_for (bodies (source_for n)) k (row_tree row) (ap (λ xs. slice_get xs k) (sym listed-rows) ∙ at-mapped rows k row at) in
-      let same : component_at n k ≡ c.0 = ap (or_whole (source_for n)) c.1 in
+      let c = map-at row_for (bodies t) k (row_tree row) (ap (λ xs. slice_get xs k) (sym listed-rows) ∙ at-mapped rows k row at) in
+      let same : body_at t k ≡ c.0 = ap (or_whole t) c.1 in
       ap body_of same ∙ sym (ap (λ (r : RowTree). r.1) c.2)
 
 -- ---- past a row

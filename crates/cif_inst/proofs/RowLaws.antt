@@ -1,6 +1,6 @@
 -- Rows are the bodies of a source without definitions, and their objects and events are the source's.
-use Rattle.std.proofs.Common.{◌≡◌, ℕ, ◌+◌, true, inl, inr, List, [], ◌∷◌, ◌++◌, length, map, refl, sym, ◌∙◌, ap, subst, arith, append_assoc}
-use Rattle.std.specs.Prelude.{flat_map, filter, sum}
+use Rattle.std.proofs.Common.{◌≡◌, ℕ, suc, ◌+◌, true, inl, inr, Some, List, [], ◌∷◌, ◌++◌, length, map, refl, sym, ◌∙◌, ap, subst, arith, append_assoc}
+use Rattle.std.specs.Prelude.{flat_map, filter, sum, slice_get}
 use Rattle.std.specs.List.{list_all, enumerate_from}
 use Rattle.std.proofs.lemmas.List.{length-append, map-append}
 use Rattle.std.proofs.lemmas.List.Sums.{sum_by-cons, sum-map}
@@ -10,16 +10,17 @@ use Rattle.cif_system.proofs.Lists.{false-true, map-length}
 use Rattle.cif_system.proofs.Picks.{and-left, and-right}
 use Rattle.cif_model.specs.Net.{no_net_chan}
 use Rattle.cif_model.proofs.Passing.{both-pass}
-use Rattle.cif_source.specs.Source.{Text, UseTree, EdgeTree, LocationTree, DeclTree, decl_item, component_item, definition_item, instance_item, SourceBody, group_body, automaton_body, Source, no_source, source, list_of_items}
+use Rattle.cif_source.specs.Source.{Text, no_type, void_type, value_type, UseTree, EdgeTree, LocationTree, DeclTree, type_decl, enum_decl, event_decl, const_decl, alg_decl, input_decl, disc_decl, equation_decl, invariant_decl, marked_decl, decl_item, component_item, definition_item, instance_item, SourceBody, group_body, automaton_body, Source, no_source, source, list_of_items}
 use Rattle.cif_source.specs.Components.{Component, whole, part, body_of, Path, path_of}
 use Rattle.cif_source.specs.Objects.{bodies, bodies_in, bodies_under, items_in, item_decls, decls_in, decls_of, locs_in, EventEdge, edges_of_uses, components_of, is_event, events, Declared}
 use Rattle.cif_source.specs.Step.{class_of}
 use Rattle.cif_rules.specs.InstanceRules.{decl_objects, component_objects}
-use Rattle.cif_image.specs.Built.{stands_alone, has_no_definitions, is_flat}
+use Rattle.cif_scope.specs.Tables.{IsBody}
+use Rattle.cif_image.specs.Built.{stands_alone, has_no_definitions, is_no_channel, is_built}
 use Rattle.cif_image.specs.Flat.{dotted, net_event}
 use Rattle.cif_image.proofs.WalkLaws.{is_written_out, body_objects}
 use Rattle.cif_image.proofs.NumberLaws.{kept-all, append-kept}
-use Rattle.cif_image.proofs.FormLaws.{IsEvent, no-definitions, only-events}
+use Rattle.cif_inst.proofs.BuiltLaws.{no-definitions, no-channel}
 use Rattle.cif_inst.specs.Rows.{RowTree, rows_in, rows_from, rows_of}
 use Rattle.cif_inst.specs.Objects as objects
 use Rattle.cif_inst.specs.Events as events
@@ -82,6 +83,22 @@ rows-are t h =
     ap (λ rs. row_for (whole t) ∷ rs)
     (rows-in t (whole t) (and-left (list_all stands_alone (list_of_items t)) (list_all is_written_out (bodies_in (whole t) t)) h) (and-right (list_all stands_alone (list_of_items t)) (list_all is_written_out (bodies_in (whole t) t)) h))
 
+-- ---- the bodies from one on
+
+module _ (t : Source) where
+  -- the components are the bodies from k on
+  abbrev pub From : List Component → ℕ → Type 0
+  From cs k = (j : ℕ) (c : Component) → slice_get cs j ≡ Some c → slice_get (bodies t) (k + j) ≡ Some c
+
+  pub from-next : (c : Component) (cs : List Component) (k : ℕ) → From (c ∷ cs) k → From cs (k + 1)
+  from-next c cs k at j x g = subst (λ i. slice_get (bodies t) i ≡ Some x) (let e : k + suc j ≡ k + 1 + j = omega arith in e) (at (suc j) x g)
+
+  pub from-here : (c : Component) (cs : List Component) (k : ℕ) → From (c ∷ cs) k → IsBody t k c
+  from-here c cs k at = subst (λ j. slice_get (bodies t) j ≡ Some c) (let e : k + 0 ≡ k = omega arith in e) (at 0 c refl)
+
+  pub all-bodies : From (bodies t) 0
+  all-bodies j c g = subst (λ i. slice_get (bodies t) i ≡ Some c) (let e : j ≡ 0 + j = omega arith in e) g
+
 -- ---- objects
 
 decls-counted : (ds : List DeclTree) → objects.decls_count ds ≡ sum (map decl_objects ds)
@@ -129,12 +146,21 @@ objects-are t h = ap objects.rows_count (rows-are t h) ∙ rows-counted (bodies 
 abbrev own_events : Component → List Declared
 own_events c = map (λ d. (c, d)) (filter is_event (decls_of c))
 
-one-event : (c : Component) (d : DeclTree) → IsEvent d → events.decl_events (prefix_of (path_of c)) d ≡ map net_event (map (λ d. (c, d)) (filter is_event (d ∷ [])))
-one-event c d e =
-    subst (λ d. events.decl_events (prefix_of (path_of c)) d ≡ map net_event (map (λ d. (c, d)) (filter is_event (d ∷ [])))) (sym e.2)
-    (ap (λ x. record { path = x; class = class_of e.0; chan = no_net_chan } ∷ []) (sym (prefix-dotted (path_of c) e.1.text)))
+one-event : (c : Component) (d : DeclTree) → is_no_channel d ≡ true → events.decl_events (prefix_of (path_of c)) d ≡ map net_event (map (λ d. (c, d)) (filter is_event (d ∷ [])))
+one-event c (event_decl k no_type n) h = ap (λ x. record { path = x; class = class_of k; chan = no_net_chan } ∷ []) (sym (prefix-dotted (path_of c) n.text))
+one-event c (event_decl k void_type n) h = absurd (false-true refl h)
+one-event c (event_decl k (value_type ty) n) h = absurd (false-true refl h)
+one-event c (type_decl n ty) h = refl
+one-event c (enum_decl n ls) h = refl
+one-event c (const_decl ty n e) h = refl
+one-event c (alg_decl ty n e) h = refl
+one-event c (input_decl ty n) h = refl
+one-event c (disc_decl ty n e) h = refl
+one-event c (equation_decl q) h = refl
+one-event c (invariant_decl i) h = refl
+one-event c (marked_decl p) h = refl
 
-decls-events : (c : Component) (ds : List DeclTree) → ((d : DeclTree) → Member d ds → IsEvent d) → events.decls_events (prefix_of (path_of c)) ds ≡ map net_event (map (λ d. (c, d)) (filter is_event ds))
+decls-events : (c : Component) (ds : List DeclTree) → ((d : DeclTree) → Member d ds → is_no_channel d ≡ true) → events.decls_events (prefix_of (path_of c)) ds ≡ map net_event (map (λ d. (c, d)) (filter is_event ds))
 decls-events c [] h = refl
 decls-events c (d ∷ ds) h =
     ap (λ xs. xs ++ events.decls_events (prefix_of (path_of c)) ds) (one-event c d (h d (inl refl)))
@@ -154,16 +180,16 @@ body-decls : (p : Text) (b : SourceBody) → events.body_events p b ≡ events.d
 body-decls p (group_body is) = items-decls p is
 body-decls p (automaton_body a) = refl
 
-rows-events : (cs : List Component) → ((c : Component) → Member c cs → (d : DeclTree) → Member d (decls_of c) → IsEvent d) → events.rows_events (map row_for cs) ≡ map net_event (flat_map own_events cs)
+rows-events : (cs : List Component) → ((c : Component) → Member c cs → (d : DeclTree) → Member d (decls_of c) → is_no_channel d ≡ true) → events.rows_events (map row_for cs) ≡ map net_event (flat_map own_events cs)
 rows-events [] h = refl
 rows-events (c ∷ cs) h =
     ap (λ xs. xs ++ events.rows_events (map row_for cs)) (body-decls (prefix_of (path_of c)) (body_of c) ∙ decls-events c (decls_of c) (h c (inl refl)))
     ∙ ap (λ xs. map net_event (own_events c) ++ xs) (rows-events cs (λ x m. h x (inr m)))
     ∙ sym (map-append net_event (own_events c) (flat_map own_events cs))
 
-pub events-are : (t : Source) → is_flat t ≡ true → components_of t ≡ bodies t → events.rows_events (rows_of t) ≡ map net_event (events t)
-events-are t flat listed =
-    ap events.rows_events (rows-are t (no-definitions t flat))
-    ∙ rows-events (bodies t) (only-events t flat)
+pub events-are : (t : Source) → is_built t ≡ true → components_of t ≡ bodies t → events.rows_events (rows_of t) ≡ map net_event (events t)
+events-are t built listed =
+    ap events.rows_events (rows-are t (no-definitions t built))
+    ∙ rows-events (bodies t) (no-channel t built)
     ∙ ap (map net_event) (sym (kept-all (bodies t)))
     ∙ ap (λ cs. map net_event (filter (λ (d : Declared). is_event d.1) (flat_map (λ c. map (λ d. (c, d)) (decls_of c)) cs))) (sym listed)

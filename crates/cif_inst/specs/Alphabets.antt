@@ -11,7 +11,7 @@ use Rattle.cif_inst.specs.Naming.{component_at, source_for, slot_number}
 use Rattle.cif_inst.specs.Edges.{locations_edges}
 use Rattle.cif_inst.specs.declared.naming.Naming.{Naming}
 use Rattle.cif_inst.specs.declared.error.InstErr.{InstErr}
-use Rattle.cif_inst.specs.declared.error.InstErr.TheVariants.{AlphabetLacks, TooManyObjects, Memory}
+use Rattle.cif_inst.specs.declared.error.InstErr.TheVariants.{AlphabetLacks, TooManyObjects, ConstantRange, Memory}
 
 -- ---- names of events
 
@@ -78,6 +78,7 @@ automaton_lacks n k a = or_later (first_failing (is_outside (alphabet_for n k a)
 abbrev pub tells : InstErr → Option ℕ → Type 0
 tells (AlphabetLacks at) o = o ≡ Some at
 tells (TooManyObjects count) o = ⊥
+tells (ConstantRange at) o = ⊥
 tells Memory o = Unit {0}
 
 -- ---- marks

@@ -1,4 +1,4 @@
--- The automata of a source without data, by what names are looked up in.
+-- The automata of a source, by what names are looked up in.
 use Rattle.std.specs.Prelude.{ℕ, ◌+◌, ◌-◌, Bool, List, [], ◌∷◌, ◌++◌, map, length, take, Option, None}
 use Rattle.std.specs.List.{position_or_len}
 use Rattle.cif_model.specs.Net.{NetAuto}
@@ -14,8 +14,8 @@ is_initial l = l.initial
 abbrev pub without_dot : Text → Text
 without_dot p = take (length p - 1) p
 
-abbrev pub bare_auto : Naming → (body : ℕ) → Text → AutomatonTree → NetAuto
-bare_auto n k p a = record {
+abbrev pub auto_for : Naming → (body : ℕ) → Text → AutomatonTree → NetAuto
+auto_for n k p a = record {
   path = without_dot p;
   locs = map location_name a.locs;
   first = position_or_len is_initial a.locs;
@@ -26,7 +26,7 @@ bare_auto n k p a = record {
 
 abbrev pub body_autos : Naming → (body : ℕ) → Text → SourceBody → List NetAuto
 body_autos n k p (group_body is) = []
-body_autos n k p (automaton_body a) = bare_auto n k p a ∷ []
+body_autos n k p (automaton_body a) = auto_for n k p a ∷ []
 
 -- the automata of the rows from body k on
 abbrev pub rows_autos : Naming → ℕ → List RowTree → List NetAuto

@@ -3,6 +3,7 @@ pub mod Views
 pub mod Objects
 pub mod Events
 pub mod Naming
+pub mod Variables
 pub mod Edges
 pub mod Alphabets
 pub mod Autos

@@ -10,7 +10,9 @@ use Rattle.cif_scope.specs.declared.scopes.Found.{Found}
 use Rattle.cif_scope.specs.declared.scopes.Scopes.{Scopes}
 use Rattle.cif_scope.specs.Looks.{slot_at, what_at}
 use Rattle.cif_scope.specs.Scopes.{AreScopesOf}
-use Rattle.cif_image.specs.Built.{is_flat}
+use Rattle.cif_image.specs.Built.{is_built}
+use Rattle.cif_translate.specs.Objects.{AreObjectsOf}
+use Rattle.cif_translate.specs.declared.looking.Looking.{Looking}
 use Rattle.cif_inst.specs.Rows.{rows_of}
 use Rattle.cif_inst.specs.Objects.{rows_count}
 use Rattle.cif_inst.specs.Events.{rows_slots}
@@ -39,12 +41,17 @@ abbrev pub number_at : List (List ℕ) → Option Found → ℕ
 number_at numbers None = 0
 number_at numbers (Some f) = slot_number (slice_get numbers f.body) f.slot
 
--- names of a source of the forms built so far, with its scopes and the numbers of its events
+-- names of a source of the forms built so far, with its scopes, the numbers of its events, and what its names stand for
 pub record AreNamesOf (n : Naming) : Type 0 where
   pub scopes : AreScopesOf (source_for n) n.scopes.now
-  pub flat : is_flat (source_for n) ≡ true
+  pub built : is_built (source_for n) ≡ true
   pub few : rows_count (rows_of (source_for n)) ≤ most_objects
   pub numbers : n.numbers.now ≡ rows_slots 0 (rows_of (source_for n))
+  pub objects : AreObjectsOf (source_for n) n.objects.now
+
+-- what the names of expressions are looked up in
+abbrev pub looking_of : Naming → Looking
+looking_of n = record { spec = n.spec; scopes = n.scopes; objects = n.objects }
 
 abbrev pub place_in : Option What → ℕ → ℕ
 place_in None count = count

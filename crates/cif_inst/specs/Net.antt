@@ -1,13 +1,16 @@
 -- What a net of a source says of its rules on instances, and why a source has none.
 use Rattle.std.specs.Prelude.{ℕ}
 use Rattle.cif_source.specs.Source.{Source}
-use Rattle.cif_rules.specs.InstanceRules.{AlphabetLacksDue, TooManyObjectsDue, ConstantRangeDue}
+use Rattle.cif_rules.specs.InstanceRules.{AlphabetLacksDue, RoleMixedDue, TooManyObjectsDue, ConstantRangeDue}
+use Rattle.cif_constants.specs.declared.error.ConstErr.{ConstErr}
+use Rattle.cif_constants.specs.declared.error.ConstErr.TheVariants as constant
 use Rattle.cif_inst.specs.declared.error.InstErr.{InstErr}
-use Rattle.cif_inst.specs.declared.error.InstErr.TheVariants.{AlphabetLacks, TooManyObjects, Memory}
+use Rattle.cif_inst.specs.declared.error.InstErr.TheVariants.{AlphabetLacks, TooManyObjects, ConstantRange, Memory}
 
--- none of the rules on instances that are checked so far is broken
+-- none of the rules on instances is broken
 pub record KeepsInstances (t : Source) : Type 0 where
   pub alphabets : (at : ℕ) → AlphabetLacksDue t at → ⊥
+  pub roles : (at : ℕ) → RoleMixedDue t at → ⊥
   pub few : (count : ℕ) → TooManyObjectsDue t count → ⊥
   pub ranges : (at : ℕ) → ConstantRangeDue t at → ⊥
 
@@ -15,4 +18,10 @@ pub record KeepsInstances (t : Source) : Type 0 where
 abbrev pub due : Source → InstErr → Type 0
 due t (AlphabetLacks at) = AlphabetLacksDue t at
 due t (TooManyObjects count) = TooManyObjectsDue t count
+due t (ConstantRange at) = ConstantRangeDue t at
 due t Memory = Unit {0}
+
+-- the refusal of constants, or want of memory
+abbrev pub of_constants : ConstErr → InstErr
+of_constants (constant.ConstantRange at) = ConstantRange at
+of_constants constant.Memory = Memory

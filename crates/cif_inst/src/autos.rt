@@ -94,7 +94,7 @@ fn automaton(
     requires written { body_of (component_at naming.now own.0) ≡ source.automaton_body (source.automaton_tree automaton.now) }
     requires mark { own.1 ≡ own.0 + 1 }
     requires before { AreMarks naming.now own.0 marks.old }
-    ensures made { IfOk result (λ a. auto_tree a ≡ autos.bare_auto naming.now own.0 prefix.now (source.automaton_tree automaton.now)) }
+    ensures made { IfOk result (λ a. auto_tree a ≡ autos.auto_for naming.now own.0 prefix.now (source.automaton_tree automaton.now)) }
     ensures within { IfOk result (λ a. automaton_lacks naming.now own.0 (source.automaton_tree automaton.now) ≡ None) }
     ensures told { IfErr result (λ e. tells e (automaton_lacks naming.now own.0 (source.automaton_tree automaton.now))) }
     ensures after { OnOk result (AreMarks naming.now own.1 marks.new) }

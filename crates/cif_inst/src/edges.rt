@@ -1,6 +1,6 @@
 //! The edges of an automaton.
 
-ghost use Rattle.std.specs.Prelude.{◌≡◌, ◌<◌, ◌++◌, map, flat_map, length, OnOk, IfOk};
+ghost use Rattle.std.specs.Prelude.{◌≡◌, ◌<◌, ◌∷◌, ◌++◌, [], map, flat_map, length, OnOk, IfOk};
 ghost use Rattle.cif_source.specs.Objects.{bodies};
 ghost use Rattle.cif_source.specs.Source as source;
 ghost use Rattle.cif_net.specs.View.{edge_tree};
@@ -10,39 +10,67 @@ ghost use Rattle.cif_inst.specs.Edges as edges;
 use crate::naming::Naming;
 use cif_ast::{Edge, EventUse, Loc};
 use cif_base::{Items, Memory};
-use cif_net::{NetEdge, NetExpr, NetForm, NetRole};
+use cif_net::{NetEdge, NetRole};
 use cif_scope::number;
+use cif_translate::{guard, updates, value_places};
 use std::alloc::Global;
 
-/// Adds an edge for each use of an event.
-fn add_uses(
+/// Adds the edge for one use of an event.
+fn add_use(
     alloc: Global,
     naming: &Naming,
     body: u32,
     ends: (u32, u32),
-    uses: &[EventUse],
+    edge: &Edge,
+    event_use: &EventUse,
     all: &mut Items<NetEdge>,
 ) -> Result<(), Memory>
     requires names { AreNamesOf naming.now }
     requires body { body < length (bodies (source_for naming.now)) }
     ensures { OnOk result (map edge_tree all.new
-        ≡ map edge_tree all.old ++ map (edges.bare_edge naming.now body ends.0 ends.1) (map source.use_tree uses.now)) }
+        ≡ map edge_tree all.old ++ edges.sync_edge naming.now body ends.0 ends.1 (source.edge_tree edge.now) (source.use_tree event_use.now) ∷ []) }
 {
+    let looking = naming.looking();
+    let event = naming.event(alloc, body, &event_use.name)?;
+    let guard = guard(
+        alloc,
+        &looking,
+        body,
+        event_use.name.at,
+        edge.guards.as_slice(),
+    )?;
+    let updates = updates(alloc, &looking, body, edge.updates.as_slice())?;
+    let places = value_places(alloc, event_use, edge)?;
+    all.push(NetEdge {
+        event,
+        role: NetRole::Sync,
+        from: ends.0,
+        to: ends.1,
+        guard: guard.into_inner(),
+        sent: None,
+        updates,
+        places,
+    })?;
+    Ok(())
+}
+
+/// Adds an edge for each use of an event on an edge.
+fn add_uses(
+    alloc: Global,
+    naming: &Naming,
+    body: u32,
+    ends: (u32, u32),
+    edge: &Edge,
+    all: &mut Items<NetEdge>,
+) -> Result<(), Memory>
+    requires names { AreNamesOf naming.now }
+    requires body { body < length (bodies (source_for naming.now)) }
+    ensures { OnOk result (map edge_tree all.new
+        ≡ map edge_tree all.old ++ map (edges.sync_edge naming.now body ends.0 ends.1 (source.edge_tree edge.now)) (map source.use_tree edge.now.uses)) }
+{
+    let uses = edge.uses.as_slice();
     for event_use in uses {
-        let event = naming.event(alloc, body, &event_use.name)?;
-        all.push(NetEdge {
-            event,
-            role: NetRole::Sync,
-            from: ends.0,
-            to: ends.1,
-            guard: NetExpr {
-                form: NetForm::Bool(true),
-                at: event_use.name.at,
-            },
-            sent: None,
-            updates: Items::new(alloc),
-            places: Items::new(alloc),
-        })?;
+        add_use(alloc, naming, body, ends, edge, event_use, all)?;
     }
     Ok(())
 }
@@ -67,7 +95,7 @@ fn add_edges(
             Some(name) => naming.place(body, name, count),
             None => from,
         };
-        add_uses(alloc, naming, body, (from, to), edge.uses.as_slice(), all)?;
+        add_uses(alloc, naming, body, (from, to), edge, all)?;
     }
     Ok(())
 }

@@ -1,17 +1,23 @@
 //! Why a source has no net.
 
 ghost use Rattle.std.specs.Prelude.{◌≡◌};
+ghost use Rattle.cif_inst.specs.Net.{of_constants};
 ghost use Rattle.cif_inst.specs.declared.error.InstErr.TheVariants.{Memory as no_memory};
 
 use cif_base::Memory;
+use cif_constants::ConstErr;
 
-/// Why a source has no net, or that memory ran out.
+/// Why a source has no net, with the byte where that is, counted from 0, or that memory ran out.
 #[derive(Clone, Copy, Debug, PartialEq, Eq)]
 pub enum InstErr {
     /// An edge that synchronises, or `monitor`, names there an event outside the alphabet.
     AlphabetLacks { at: u32 },
     /// Components, declarations, locations and edges are too many. The count stops one past the limit.
     TooManyObjects { count: u32 },
+    /// In the constant expression there, the value of a constant, a first value or a bound of a type, every operand evaluated, a
+    /// value leaves 64 bits or a divisor is 0; or its value leaves its declared range; or a bound there leaves 32 bits; or the
+    /// lower bound there exceeds the upper one.
+    ConstantRange { at: u32 },
     Memory,
 }
 
@@ -20,5 +26,16 @@ impl From<Memory> for InstErr {
 
     fn from(_error: Memory) -> InstErr {
         InstErr::Memory
+    }
+}
+
+impl From<ConstErr> for InstErr {
+    ghost from_gives = { λ c e. e ≡ of_constants c };
+
+    fn from(error: ConstErr) -> InstErr {
+        match error {
+            ConstErr::ConstantRange { at } => InstErr::ConstantRange { at },
+            ConstErr::Memory => InstErr::Memory,
+        }
     }
 }

@@ -1,5 +1,5 @@
 //! The flat net of a CIF source: names are numbers there, and every component has its path (CIF 3 language reference,
-//! "Groups", "Automata", "Synchronization").
+//! "Groups", "Automata", "Synchronization", "Discrete variables").
 #![tactic(auto)]
 
 mod alphabets;
@@ -11,6 +11,7 @@ mod instantiating;
 mod naming;
 mod objects;
 mod rows;
+mod variables;
 
 pub use error::InstErr;
 pub use instantiating::instantiate;

@@ -8,15 +8,17 @@ ghost use Rattle.cif_inst.specs.Naming as naming;
 use cif_ast::{Ident, Name, Spec};
 use cif_base::{Items, Memory};
 use cif_scope::{Found, Scopes, What};
+use cif_translate::{Looking, Object};
 use std::alloc::Global;
 
-/// What names are looked up in: the scopes of a source, and the numbers of its events. For each body and each name that it
-/// declares there is the number of the event, and 0 for a name of another sort.
+/// What names are looked up in: the scopes of a source, the numbers of its events, and what names stand for in expressions. For
+/// each body and each name that it declares there is the number of the event, and 0 for a name of another sort.
 #[derive(Clone, Copy)]
 pub struct Naming<'a> {
     pub spec: &'a Spec,
     pub scopes: &'a Scopes,
     pub numbers: &'a [Items<u32>],
+    pub objects: &'a [Items<Object>],
 }
 
 /// The number at a place, and 0 past the end.
@@ -42,6 +44,17 @@ fn number_at(numbers: &[Items<u32>], found: Option<Found>) -> u32
 }
 
 impl<'a> Naming<'a> {
+    /// What the names of expressions are looked up in.
+    pub fn looking(&self) -> Looking<'a>
+        ensures { result ≡ naming.looking_of self.now }
+    {
+        Looking {
+            spec: self.spec,
+            scopes: self.scopes,
+            objects: self.objects,
+        }
+    }
+
     /// The number of the event that a name in a body denotes.
     pub fn event(&self, alloc: Global, body: u32, name: &Name) -> Result<u32, Memory>
         requires names { naming.AreNamesOf self.now }

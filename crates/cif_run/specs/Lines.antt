@@ -46,9 +46,17 @@ refusal_text (why.Unknown at) = with_number (codes "5 Unknown at ") at
 refusal_text (why.Duplicate at first) = with_numbers (codes "6 Duplicate at ") at (codes " first ") first
 refusal_text (why.WrongKind at) = with_number (codes "7 WrongKind at ") at
 refusal_text (why.DefinitionCycle at) = with_number (codes "8 DefinitionCycle at ") at
+refusal_text (why.Mismatch at) = with_number (codes "9 Mismatch at ") at
+refusal_text (why.NotConstant at) = with_number (codes "10 NotConstant at ") at
 refusal_text (why.Initials at count) = with_numbers (codes "11 Initials at ") at (codes " count ") count
+refusal_text (why.NotOwn at) = with_number (codes "12 NotOwn at ") at
+refusal_text (why.AssignedTwice at) = with_number (codes "13 AssignedTwice at ") at
+refusal_text (why.Equations at count) = with_numbers (codes "16 Equations at ") at (codes " count ") count
 refusal_text (why.AlphabetLacks at) = with_number (codes "14 AlphabetLacks at ") at
 refusal_text (why.TooManyObjects count) = with_number (codes "17 TooManyObjects count ") count
+refusal_text (why.ConstantRange at) = with_number (codes "18 ConstantRange at ") at
+refusal_text (why.ZeroDivisor at) = with_number (codes "20 ZeroDivisor at ") at
+refusal_text (why.TooWide at) = with_number (codes "21 TooWide at ") at
 refusal_text (why.TooLarge nodes depth) = with_numbers (codes "24 TooLarge nodes ") nodes (codes " depth ") depth
 refusal_text (why.NotBuilt at) = with_number (codes "30 NotBuilt at ") at
 

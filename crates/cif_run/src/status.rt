@@ -29,12 +29,31 @@ pub enum Refusal {
     WrongKind { at: u32 },
     /// The definition, type or constant whose declared name begins there reaches itself.
     DefinitionCycle { at: u32 },
+    /// The expression that begins there has another kind than its position asks for, or the use of an event there does not fit what
+    /// is sent along it.
+    Mismatch { at: u32 },
+    /// The name that begins there stands in a bound of a type, the value of a constant or a first value, and is no constant and no
+    /// literal.
+    NotConstant { at: u32 },
     /// The automaton whose declared name begins there has so many initial locations, and not one.
     Initials { at: u32, count: u32 },
+    /// The variable that is assigned there isn't declared in the automaton itself.
+    NotOwn { at: u32 },
+    /// An earlier update of the same list assigns the variable there too.
+    AssignedTwice { at: u32 },
+    /// The algebraic variable whose declared name begins there has so many definitions, and not one.
+    Equations { at: u32, count: u32 },
     /// The name that begins there is that of an event outside the alphabet of its automaton.
     AlphabetLacks { at: u32 },
     /// Components, declarations, locations and edges are too many. The count stops one past the limit.
     TooManyObjects { count: u32 },
+    /// In the constant expression that begins there a value leaves 64 bits or a divisor is 0; or its value leaves its declared range;
+    /// or a bound there leaves 32 bits; or the lower bound there exceeds the upper one.
+    ConstantRange { at: u32 },
+    /// The divisor that begins there may be 0.
+    ZeroDivisor { at: u32 },
+    /// The value of the expression that begins there, or of a part of a sum or product there, may leave 64 bits.
+    TooWide { at: u32 },
     /// The choices of all events have too many nodes, or an expression is too deep. Each number stops one past its limit.
     TooLarge { nodes: u32, depth: u32 },
     /// The source has a tree, and the tool takes no such tree yet: what begins there is none that it generates programs for.

@@ -84,13 +84,23 @@ fn refusal_text(alloc: Global, why: Refusal) -> Result<Text, Memory>
         }
         Refusal::WrongKind { at } => with_number(alloc, b"7 WrongKind at ", at),
         Refusal::DefinitionCycle { at } => with_number(alloc, b"8 DefinitionCycle at ", at),
+        Refusal::Mismatch { at } => with_number(alloc, b"9 Mismatch at ", at),
+        Refusal::NotConstant { at } => with_number(alloc, b"10 NotConstant at ", at),
         Refusal::Initials { at, count } => {
             with_numbers(alloc, b"11 Initials at ", at, b" count ", count)
+        }
+        Refusal::NotOwn { at } => with_number(alloc, b"12 NotOwn at ", at),
+        Refusal::AssignedTwice { at } => with_number(alloc, b"13 AssignedTwice at ", at),
+        Refusal::Equations { at, count } => {
+            with_numbers(alloc, b"16 Equations at ", at, b" count ", count)
         }
         Refusal::AlphabetLacks { at } => with_number(alloc, b"14 AlphabetLacks at ", at),
         Refusal::TooManyObjects { count } => {
             with_number(alloc, b"17 TooManyObjects count ", count)
         }
+        Refusal::ConstantRange { at } => with_number(alloc, b"18 ConstantRange at ", at),
+        Refusal::ZeroDivisor { at } => with_number(alloc, b"20 ZeroDivisor at ", at),
+        Refusal::TooWide { at } => with_number(alloc, b"21 TooWide at ", at),
         Refusal::TooLarge { nodes, depth } => {
             with_numbers(alloc, b"24 TooLarge nodes ", nodes, b" depth ", depth)
         }

@@ -1,5 +1,5 @@
 -- The first automaton that is found breaks the rule, and where none is found no body breaks it.
-use Rattle.std.proofs.Common.{◌≡◌, ◌≢◌, ℕ, zero, suc, ◌<◌, Bool, true, false, ◌⊎◌, inl, inr, List, [], ◌∷◌, ◌++◌, length, Option, Some, None, refl, sym, ◌∙◌, ap, subst, arith}
+use Rattle.std.proofs.Common.{◌≡◌, ◌≢◌, ℕ, zero, suc, ◌<◌, true, false, inl, inr, List, [], ◌∷◌, ◌++◌, length, Option, Some, None, refl, sym, ◌∙◌, ap, arith}
 use Rattle.std.specs.Prelude.{filter, nat_eq, slice_index_or, option_map, Err}
 use Rattle.std.specs.List.{Any}
 use Rattle.std.proofs.lemmas.Bool.Decides.{nat_tests}
@@ -12,11 +12,11 @@ use Rattle.cif_source.specs.Components.{Component, whole, part, blank, body_of, 
 use Rattle.cif_source.specs.Objects.{bodies, bodies_in, bodies_at, bodies_under, is_automaton, locs_in}
 use Rattle.cif_source.proofs.ComponentLaws.{append-cases}
 use Rattle.cif_rules.specs.BodyRules.{HasInitials, InitialsDue, initial_count, name_at}
-use Rattle.cif_types.specs.Initials.{Counted, unless, unless_one, automaton_initials, or_later, initials_in, item_initials, body_initials}
+use Rattle.cif_types.specs.Initials.{Counted, unless, unless_one, or_later, initials_in, item_initials, body_initials}
 use Rattle.cif_types.specs.Initials.{Tells}
-use Rattle.cif_types.specs.Kinds.{KeepsKinds, due}
+use Rattle.cif_types.specs.Kinds.{due}
 use Rattle.cif_types.specs.declared.error.TypeErr.{TypeErr}
-use Rattle.cif_types.specs.declared.error.TypeErr.TheVariants.{Initials, Memory}
+use Rattle.cif_types.specs.declared.error.TypeErr.TheVariants.{Mismatch, NotConstant, Initials, NotOwn, AssignedTwice, Equations, Memory}
 
 -- ---- elements
 
@@ -126,18 +126,21 @@ mutual
         | inr w ↦ absurd w
       ]
 
--- where none is found, none of the rules that are checked is broken
-pub kept : (t : Source) → initials_in t ≡ None → KeepsKinds t
-kept t h = record {
-  started = λ at count due.
-      let a = from-any (λ a. HasInitials a at count) (bodies t) due in
-      elim a.1 [
-        | inl w ↦ false-true (ap (λ c. is_automaton (body_of c)) w) a.2.automaton
-        | inr w ↦ items-kept t (whole t) a.0 at count h w a.2
-      ];
-}
+-- where none is found, each automaton has one
+pub started : (t : Source) → initials_in t ≡ None → (at count : ℕ) → InitialsDue t at count → ⊥
+started t h at count due =
+    let a = from-any (λ a. HasInitials a at count) (bodies t) due in
+    elim a.1 [
+      | inl w ↦ false-true (ap (λ c. is_automaton (body_of c)) w) a.2.automaton
+      | inr w ↦ items-kept t (whole t) a.0 at count h w a.2
+    ]
 
 -- what is told is due
 pub told : (t : Source) (e : TypeErr) → Tells (Err e) (initials_in t) → due t e
 told t Memory h = tt
 told t (Initials at count) h = let w = items-told t (whole t) at count h in to-any (λ a. HasInitials a at count) w.0 (bodies t) (inr w.1) w.2
+told t (Mismatch at) h = absurd h
+told t (NotConstant at) h = absurd h
+told t (NotOwn at) h = absurd h
+told t (AssignedTwice at) h = absurd h
+told t (Equations at count) h = absurd h

@@ -1,1 +1,4 @@
 pub mod InitialLaws
+pub mod BodyLaws
+pub mod KeptLaws
+pub mod KindsToldLaws

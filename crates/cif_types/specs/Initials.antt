@@ -1,5 +1,5 @@
 -- The first automaton with another number of initial locations than one, in text order.
-use Rattle.std.specs.Prelude.{◌≡◌, ℕ, Bool, true, false, nat_eq, List, filter, length, Option, Some, None, Result, Ok, Err}
+use Rattle.std.specs.Prelude.{◌≡◌, ℕ, Bool, true, false, nat_eq, filter, length, Option, Some, None, Result, Ok, Err}
 use Rattle.cif_ast.specs.declared.names.Ident.{Ident}
 use Rattle.cif_source.specs.Source.{LocationTree, AutomatonTree, SourceItem, decl_item, component_item, definition_item, instance_item, SourceBody, group_body, automaton_body, Source, no_source, source}
 use Rattle.cif_types.specs.declared.error.TypeErr.{TypeErr}
@@ -43,3 +43,4 @@ abbrev pub Tells : Result (Unit {0}) TypeErr → Option Counted → Type 0
 Tells (Ok u) o = o ≡ None
 Tells (Err Memory) o = Unit {0}
 Tells (Err (Initials at count)) o = o ≡ Some (at, count)
+Tells (Err _) o = ⊥

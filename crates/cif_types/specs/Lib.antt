@@ -1,2 +1,5 @@
 pub mod Initials
 pub mod Kinds
+pub mod KindsTold
+pub mod Errors
+pub mod Bodies

@@ -1,7 +1,8 @@
-//! The kinds of what a CIF source declares, and the rules on bodies as written: so far that each automaton has one initial
-//! location (CIF 3 language reference, "Automata").
+//! The rules on bodies as written: kinds of expressions, constant expressions, initial locations, assigned variables and
+//! definitions of algebraic variables (CIF 3 language reference, "Expressions", "Constants", "Automata", "Algebraic variables").
 #![tactic(auto)]
 
+mod bodies;
 mod checking;
 mod error;
 mod initials;
@@ -9,4 +10,4 @@ mod kinds;
 
 pub use checking::check_kinds;
 pub use error::TypeErr;
-pub use kinds::Kinds;
+pub use kinds::{Kind, Kinds};

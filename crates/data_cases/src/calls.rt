@@ -1,7 +1,7 @@
 //! The calls that a case may make.
 
 use crate::intervals::interval_case;
-use crate::rules::{rules_case, value_case};
+use crate::rules::{kinds_case, rules_case, value_case};
 use case_text::{Calls, Fault, Fields};
 
 /// The calls of this program.
@@ -11,6 +11,7 @@ impl Calls for DataCalls {
     fn answer(&self, call: &str, fields: &Fields<'_>, page: &mut String) -> Result<(), Fault> {
         match call {
             "interval" => interval_case(fields, page),
+            "kinds" => kinds_case(fields, page),
             "rules" => rules_case(fields, page),
             "value" => value_case(fields, page),
             _ => Err(Fault::Form("no such call")),

@@ -6,6 +6,7 @@
 //!
 //! - `interval NUMBERS | EXPR`: the interval, the size and the depth of an expression, in which `a` is the first variable, `b` the
 //!   second and so on; the numbers are the lower and the upper bound of what is received, and then those of each variable;
+//! - `kinds TEXT`: whether a source of any form keeps the rules on kinds, or one that it breaks;
 //! - `rules TEXT`: what the rules on constants, on assigned variables and on definitions of algebraic variables say of a source, and
 //!   the kind of each name of each of its bodies, with the lists of literals by their numbers;
 //! - `value TEXT`: the value of the constant that a source declares last, in which each name of a constant has the value 0.

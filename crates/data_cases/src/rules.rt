@@ -1,4 +1,4 @@
-//! Cases of the rules on what the bodies of a source declare and assign.
+//! Cases of the rules on what the bodies of a source declare and assign, and on kinds.
 
 ghost use Rattle.cif_ast.specs.Countable.{IsCountable};
 ghost use Rattle.cif_scope.specs.Scopes.{AreScopesOf};
@@ -14,6 +14,7 @@ use cif_kinds::Kind;
 use cif_resolve::resolve;
 use cif_scope::Scopes;
 use cif_targets::check_targets;
+use cif_types::check_kinds;
 use cif_typing::kind_table;
 use std::alloc::Global;
 
@@ -66,6 +67,19 @@ pub fn rules_case(fields: &Fields<'_>, page: &mut String) -> Result<(), Fault> {
     match resolve(fields.alloc, &spec) {
         Err(error) => Ok(writeln!(page, "  {error:?}")?),
         Ok(scopes) => put_rules(fields.alloc, page, &spec, &scopes),
+    }
+}
+
+/// `kinds TEXT`: whether a source of any form keeps the rules on kinds, or one that it breaks.
+pub fn kinds_case(fields: &Fields<'_>, page: &mut String) -> Result<(), Fault> {
+    let text = fields.text()?;
+    let spec = tree_of(fields.alloc, text.as_slice())?;
+    match resolve(fields.alloc, &spec) {
+        Err(error) => Ok(writeln!(page, "  {error:?}")?),
+        Ok(scopes) => match check_kinds(fields.alloc, &spec, &scopes) {
+            Ok(_) => Ok(page.push_str("  Ok\n")?),
+            Err(error) => Ok(writeln!(page, "  {error:?}")?),
+        },
     }
 }
 

@@ -1,14 +1,11 @@
 -- The text that is written for a net keeps what is promised of it.
-use Rattle.std.proofs.Common.{◌≡◌, ℕ, true, sym, subst, arith}
+use Rattle.std.proofs.Common.{◌≡◌, ℕ, true, List, sym, subst}
 use Rattle.grammar.specs.Pieces.{Text}
 use Rattle.cif_system.specs.System.{initial}
-use Rattle.cif_system.proofs.Picks.{and-left}
-use Rattle.cif_model.specs.Facts.{is_net}
 use Rattle.cif_model.specs.Net.{Net}
-use Rattle.cif_model.specs.Listing.{guarded_of}
+use Rattle.cif_model.specs.Listing.{NetChoice, guarded_of}
 use Rattle.cif_model.specs.Meaning.{system_of_net}
-use Rattle.cif_model.specs.Table.{IsGuarded}
-use Rattle.cif_choices.proofs.Stands.{guarded-stands}
+use Rattle.cif_nesting.specs.Nesting.{is_shallow}
 use Rattle.st_ast.specs.ReadsAs.{ReadsBack}
 use Rattle.st_ast.specs.Scan.{start_memory}
 use Rattle.st_ast.specs.Spelled.{is_spelled}
@@ -17,36 +14,23 @@ use Rattle.st_print.proofs.PrintedPrograms.{reads_back}
 use Rattle.plc_face.specs.Face.{HasInterface, StateOf}
 use Rattle.plc_face.specs.Scans.{NeverFaults, RunsFirstSteps, ScansLegally, ScansExactly, ShowsOutputs, StaysTyped}
 use Rattle.plc_face.proofs.ScanLaws.{exact-first, exact-legal}
-use Rattle.plc_gen.specs.Emitted.{program_of}
 use Rattle.plc_gen.specs.Faces.{face_of_net}
-use Rattle.plc_gen.specs.Makes.{Makes, needs_tests_alone}
-use Rattle.plc_gen.proofs.Dataless.{dataless-alone}
-use Rattle.plc_gen.proofs.Emits.{makes}
-use Rattle.plc_gen.proofs.Whole.{program-spelled}
+use Rattle.plc_gen.specs.Makes.{Makes}
+use Rattle.plc_parts.specs.Parts.{HasParts, data_parts, data_program}
+use Rattle.plc_sound.proofs.Whole.{program-spelled}
+use Rattle.plc_fits.proofs.FitLaws.{fitted-makes}
 use Rattle.plc_back.specs.Texts.{IsLayoutOf, TheProgram}
 use Rattle.plc_back.specs.Written.{IsTextOf}
 
 module _ (n : Net) (U C : ℕ) (text : Text) (h : IsTextOf n U C text) where
   abbrev written : Program
-  written = program_of n (guarded_of n) U C
-
-  guarded : IsGuarded n (guarded_of n)
-  guarded = guarded-stands n h.has.plain
-
-  net : is_net n ≡ true
-  net = and-left _ _ (and-left _ _ (and-left _ _ h.has.plain))
-
-  alone : needs_tests_alone n (guarded_of n) ≡ true
-  alone = dataless-alone n h.has.dataless
+  written = data_program n (guarded_of n) U C
 
   made : Makes n U C written
-  made = let u = h.has.unc in let c = h.has.con in makes n (guarded_of n) U C net guarded alone (omega (arith, u, c))
+  made = fitted-makes n (guarded_of n) U C h.has.parts h.has.shallow
 
   spelled : is_spelled written ≡ true
-  spelled =
-      let u = h.has.unc in
-      let c = h.has.con in
-      program-spelled n (guarded_of n) U C net guarded alone (omega (arith, u)) (omega (arith, c)) h.has.small_variables h.has.small_inputs
+  spelled = program-spelled n (guarded_of n) U C h.has.parts h.has.shallow
 
   back : ReadsBack text written
   back = subst (λ t. ReadsBack t written) (sym h.is) (reads_back written spelled)

@@ -1,25 +1,20 @@
 -- The text that is written for a net: which nets have a program, and which text is that of one.
-use Rattle.std.specs.Prelude.{◌≡◌, ℕ, ◌+◌, ◌≤◌, ◌<◌, true, IsTrue, List, [], ◌∷◌, Option, Some, None, if◌then◌else◌}
+use Rattle.std.specs.Prelude.{◌≡◌, ℕ, ◌+◌, ◌<◌, true, IsTrue, List, [], ◌∷◌, Option, Some, None, if◌then◌else◌}
 use Rattle.grammar.specs.Pieces.{Text}
 use Rattle.cif_system.specs.System.{plain}
 use Rattle.cif_system.specs.Step.{is_of, same_class}
 use Rattle.cif_model.specs.Net.{Net, NetEvent}
 use Rattle.cif_model.specs.Meaning.{system_of_net}
 use Rattle.cif_model.specs.Listing.{guarded_of}
-use Rattle.cif_model.specs.Rules.{is_plain}
 use Rattle.st_print.specs.Layout.{printed}
-use Rattle.plc_gen.specs.Emitted.{program_of}
-use Rattle.plc_gen.specs.Makes.{is_dataless}
-use Rattle.plc_gen.specs.Small.{are_small}
+use Rattle.cif_nesting.specs.Nesting.{is_shallow}
+use Rattle.plc_parts.specs.Parts.{HasParts, data_program}
 
--- A plain net without data, of bounds up to 10,000. The literals of an enumeration are numbered in 32 bits.
+-- A plain net without algebraic variables, state invariants and channels, whose conditional updates nest no deeper than statements
+-- can, and these bounds. The literals of an enumeration are numbered in 32 bits, and the program's own variables in 31.
 pub record HasProgram (n : Net) (U C : ℕ) : Type 0 where
-  pub plain : is_plain n ≡ true
-  pub dataless : is_dataless n ≡ true
-  pub small_variables : are_small n.vars ≡ true
-  pub small_inputs : are_small n.inputs ≡ true
-  pub unc : U ≤ 10000
-  pub con : C ≤ 10000
+  pub parts : HasParts n (guarded_of n) U C
+  pub shallow : is_shallow n ≡ true
 
 -- the number of an event that is neither controllable nor uncontrollable
 abbrev pub IsUnclassed : Net → ℕ → Type 0
@@ -37,7 +32,7 @@ IsFirstUnclassed n e = IsUnclassed n e × ((k : ℕ) → k < e → IsUnclassed n
 pub record IsTextOf (n : Net) (U C : ℕ) (text : Text) : Type 0 where
   pub has : HasProgram n U C
   pub classed : AreClassed n
-  pub is : text ≡ printed (program_of n (guarded_of n) U C)
+  pub is : text ≡ printed (data_program n (guarded_of n) U C)
 
 -- the first of the events without a class, where they have numbers from k on
 abbrev pub first_unclassed : ℕ → List NetEvent → Option ℕ

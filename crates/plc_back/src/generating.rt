@@ -1,30 +1,30 @@
 //! The text of the program of a net.
 
 ghost use Rattle.std.specs.Prelude.{◌≡◌, ◌<◌, ◌≤◌, ◌^◌, ℕ, true, length, map, IfOk, Err};
-ghost use Rattle.cif_model.specs.Table.{IsGuarded};
 ghost use Rattle.cif_net.specs.View.{net_tree, choice_tree, event_tree};
+ghost use Rattle.cif_nesting.specs.Nesting.{is_shallow};
 ghost use Rattle.st_print.specs.Layout.{printed};
-ghost use Rattle.plc_gen.specs.Emitted.{program_of};
-ghost use Rattle.plc_gen.specs.Makes.{is_dataless, needs_tests_alone};
-ghost use Rattle.plc_gen.specs.Small.{are_small};
+ghost use Rattle.plc_parts.specs.Parts.{HasParts, is_silent, data_program};
 ghost use Rattle.plc_back.specs.Written.{IsFirstUnclassed, IsTextOf, first_unclassed};
 ghost use Rattle.plc_back.specs.declared.error.ProfileErr.TheVariants.{Unclassed};
 
 use crate::error::ProfileErr;
 use cif_base::Memory;
-use cif_net::{Choice, Class, Event, Guarded, Net};
-use plc_gen::{Bounds, emit};
+use cif_net::{Class, Event, Guarded};
+use plc_code::emit;
+use plc_gen::Bounds;
 use st_print::print;
 use std::alloc::Global;
 
-/// The text of a Structured Text program (IEC 61131-3) that makes the scans of a net without data, with these most rounds of
-/// each class in a scan. Each event is to be controllable or uncontrollable.
+/// The text of a Structured Text program (IEC 61131-3) that makes the scans of a net, with these most rounds of each class in a
+/// scan. The net has no algebraic variables, state invariants and channels. Each event is to be controllable or uncontrollable.
 pub fn generate_text(
     alloc: Global,
     guarded: &Guarded,
     bounds: Bounds,
 ) -> Result<Vec<u8>, ProfileErr>
-    requires data { is_dataless (net_tree guarded.now.plain.net) ≡ true }
+    requires silent { is_silent (net_tree guarded.now.plain.net) ≡ true }
+    requires shallow { is_shallow (net_tree guarded.now.plain.net) ≡ true }
     requires unc { bounds.unc ≤ 10000 }
     requires con { bounds.con ≤ 10000 }
     ensures text { IfOk result
@@ -36,8 +36,7 @@ pub fn generate_text(
     if let Some(event) = unclassed_event(net.events.as_slice()) {
         return Err(ProfileErr::Unclassed { event });
     }
-    let choices = guarded.choices.as_slice();
-    let text = program_text(alloc, net, choices, bounds)?;
+    let text = program_text(alloc, guarded, bounds)?;
     Ok(text)
 }
 
@@ -55,21 +54,16 @@ fn unclassed_event(events: &[Event]) -> Option<u32>
 }
 
 /// The printed program of the net.
-fn program_text(
-    alloc: Global,
-    net: &Net,
-    choices: &[Choice],
-    bounds: Bounds,
-) -> Result<Vec<u8>, Memory>
-    requires guarded { IsGuarded (net_tree net.now) (map choice_tree choices.now) }
-    requires tests { needs_tests_alone (net_tree net.now) (map choice_tree choices.now) ≡ true }
+fn program_text(alloc: Global, guarded: &Guarded, bounds: Bounds) -> Result<Vec<u8>, Memory>
+    requires silent { is_silent (net_tree guarded.now.plain.net) ≡ true }
+    requires shallow { is_shallow (net_tree guarded.now.plain.net) ≡ true }
     requires unc { bounds.unc ≤ 10000 }
     requires con { bounds.con ≤ 10000 }
     ensures text { IfOk result (λ text. text.items
-        ≡ printed (program_of (net_tree net.now) (map choice_tree choices.now) bounds.unc bounds.con)) }
-    ensures small_variables { IfOk result (λ text. are_small (net_tree net.now).vars ≡ true) }
-    ensures small_inputs { IfOk result (λ text. are_small (net_tree net.now).inputs ≡ true) }
+        ≡ printed (data_program (net_tree guarded.now.plain.net) (map choice_tree guarded.now.choices) bounds.unc bounds.con)) }
+    ensures parts { IfOk result
+        (λ text. HasParts (net_tree guarded.now.plain.net) (map choice_tree guarded.now.choices) bounds.unc bounds.con) }
 {
-    let program = emit(alloc, net, choices, bounds)?;
+    let program = emit(alloc, guarded, bounds)?;
     print(alloc, &program)
 }

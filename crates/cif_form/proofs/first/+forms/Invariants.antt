@@ -4,5 +4,5 @@ use Rattle.cif_source.specs.Source.{source_items}
 use Rattle.cif_form.specs.Forms.{items_fit}
 use Rattle.cif_form.proofs.first.+forms.Given as goal
 
-abbrev pub invariant-items_misfit-loop-item : goal.invariant-items_misfit-loop-item
-invariant-items_misfit-loop-item l = items_fit (source_items (view_items (drop l.item-index l.items))) ≡ items_fit (source_items (view_items l.items))
+abbrev pub invariant-check_items-loop-item : goal.invariant-check_items-loop-item
+invariant-check_items-loop-item l = items_fit (source_items (view_items (drop l.item-index l.items))) ≡ items_fit (source_items (view_items l.items))

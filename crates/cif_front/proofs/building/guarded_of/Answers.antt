@@ -9,13 +9,11 @@ use Rattle.cif_front.proofs.building.guarded_of.Goals as goal
 
 pub returns-in_ok-guard-in-Ok-clause-loaded : goal.returns-in_ok-guard-in-Ok-clause-loaded
 returns-in_ok-guard-in-Ok-clause-loaded c = record {
-  keeps = all_kept (source_of c.args._spec.now) c.requires.forms (net_tree c.args.plain.net) c.requires.represents c.requires.names c.requires.initials c.requires.objects c.requires.size
-      c.in-Ok.ensures.few;
+  keeps = all_kept (source_of c.args._spec.now) (net_tree c.args.plain.net) c.requires.represents c.requires.kept c.requires.plain c.in-Ok.ensures.few;
   represents = subst (λ (p : Plain). Represents (net_tree p.net) (source_of c.args._spec.now)) (sym c.in_ok-guard-in-Ok.ensures.plain) c.requires.represents;
 }
 
 pub returns-in-Err-clause-refused : goal.returns-in-Err-clause-refused
 returns-in-Err-clause-refused c =
     subst (IsDueOf (source_of c.args._spec.now)) (sym c.from.ensures)
-    (lin_due (source_of c.args._spec.now) c.requires.forms (net_tree c.args.plain.net) c.requires.represents c.requires.names c.requires.initials c.requires.objects c.requires.size
-    c.in-Err.error (λ count e. c.linearise.ensures.refused count (c.in-Err.is ∙ ap Err e)))
+    (lin_due (source_of c.args._spec.now) (net_tree c.args.plain.net) c.requires.represents c.requires.kept c.requires.plain c.in-Err.error (λ count e. c.linearise.ensures.refused count (c.in-Err.is ∙ ap Err e)))

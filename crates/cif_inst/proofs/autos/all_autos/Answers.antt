@@ -3,11 +3,12 @@ use Rattle.cif_source.specs.Components.{body_of}
 use Rattle.cif_source.specs.Objects.{bodies}
 use Rattle.cif_source.specs.Source.{automaton_tree}
 use Rattle.cif_net.specs.View.{auto_tree}
-use Rattle.cif_inst.specs.Autos.{bare_auto, body_autos, body_lacks, rows_autos, rows_lacks}
+use Rattle.cif_inst.specs.Autos.{auto_for, body_autos, body_lacks, rows_autos, rows_lacks}
 use Rattle.cif_inst.specs.Alphabets.{automaton_lacks, tells, AreMarks}
 use Rattle.cif_inst.specs.Naming.{source_for, component_at}
 use Rattle.cif_inst.specs.Views.{row_body, row_tree}
 use Rattle.cif_net.specs.declared.automata.Auto.{Auto}
+use Rattle.cif_inst.proofs.BuiltLaws.{no-definitions}
 use Rattle.cif_inst.proofs.MarkLaws.{first_marks, later_marks}
 use Rattle.cif_inst.proofs.RowAutoLaws.{row_below, row_written, auto_added, none_added, lacks_passed, lacks_told}
 use Rattle.cif_inst.proofs.autos.all_autos.Goals as goal
@@ -22,13 +23,13 @@ loop-place-init c = record {
 
 pub automaton-requires-clause-body : goal.automaton-requires-clause-body
 automaton-requires-clause-body c =
-    let below : c.loop-place.place < length (bodies (source_for c.args.naming.now)) = row_below c.args.naming.now c.requires.names c.args.rows.now c.requires.rows c.loop-place.place c.loop-place-test.true in
+    let below : c.loop-place.place < length (bodies (source_for c.args.naming.now)) = row_below (source_for c.args.naming.now) (no-definitions (source_for c.args.naming.now) c.requires.names.built) c.args.rows.now c.requires.rows c.loop-place.place c.loop-place-test.true in
     subst (λ k. k < length (bodies (source_for c.args.naming.now))) (sym (c.in_ok-number.ensures.is)) below
 
 pub automaton-requires-clause-written : goal.automaton-requires-clause-written
 automaton-requires-clause-written c =
     ap (λ k. body_of (component_at c.args.naming.now k)) c.in_ok-number.ensures.is
-    ∙ row_written c.args.naming.now c.requires.names c.args.rows.now c.requires.rows c.loop-place.place c.index-rows-place.result c.loop-place-test.true c.index-rows-place.is
+    ∙ row_written (source_for c.args.naming.now) (no-definitions (source_for c.args.naming.now) c.requires.names.built) c.args.rows.now c.requires.rows c.loop-place.place c.index-rows-place.result c.loop-place-test.true c.index-rows-place.is
     ∙ ap row_body c.in-Auto.is
 
 pub returns-in_err-automaton-clause-told : goal.returns-in_err-automaton-clause-told
@@ -51,7 +52,7 @@ loop-place-preserved c =
             c.loop-place.all c.match-row.all w.in_ok-automaton.field-0 (rows_autos c.args.naming.now 0 (map row_tree c.args.rows.now))
             (w.all-is ∙ w.in_ok-push.ensures.ok)
             (ap (λ x. x ∷ []) (w.in_ok-automaton.ensures.made
-            ∙ ap (λ k. bare_auto c.args.naming.now k c.index-rows-place.result.prefix (automaton_tree w.in-Auto.body.now)) w.in_ok-number.ensures.is)
+            ∙ ap (λ k. auto_for c.args.naming.now k c.index-rows-place.result.prefix (automaton_tree w.in-Auto.body.now)) w.in_ok-number.ensures.is)
             ∙ sym (ap (λ b. body_autos c.args.naming.now c.loop-place.place c.index-rows-place.result.prefix (row_body b)) w.in-Auto.is))
             c.loop-place.invariant.made;
         within =

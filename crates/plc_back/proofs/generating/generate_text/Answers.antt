@@ -1,13 +1,9 @@
 use Rattle.std.proofs.Common.{List, map, sym, ap, subst, ◌∙◌}
-use Rattle.cif_net.specs.View.{choice_tree, event_tree, net_tree}
+use Rattle.cif_net.specs.View.{event_tree, net_tree}
 use Rattle.cif_net.specs.declared.events.Event.{Event}
-use Rattle.cif_net.specs.declared.listing.Choice.{Choice}
-use Rattle.cif_model.specs.Table.{IsGuarded}
-use Rattle.cif_choices.proofs.Steps.{choices-are, guarded-steps}
+use Rattle.cif_choices.proofs.Steps.{choices-are}
 use Rattle.st_print.specs.Layout.{printed}
-use Rattle.plc_gen.specs.Emitted.{program_of}
-use Rattle.plc_gen.specs.Makes.{needs_tests_alone}
-use Rattle.plc_gen.proofs.Dataless.{dataless-alone}
+use Rattle.plc_parts.specs.Parts.{HasParts, data_program}
 use Rattle.plc_back.specs.Written.{IsFirstUnclassed, first_unclassed}
 use Rattle.plc_back.proofs.ClassLaws.{first-unclassed, none-unclassed, told_event}
 use Rattle.plc_back.proofs.generating.generate_text.Goals as goal
@@ -18,28 +14,12 @@ returns-in-Some-clause-unclassed c event same =
     (first-unclassed (net_tree c.args.guarded.now.plain.net) c.in-Some.event
     (ap (λ (xs : List Event). first_unclassed 0 (map event_tree xs)) (sym c.as_slice.ensures) ∙ sym c.in-Some.ensures))
 
-pub program_text-requires-clause-guarded : goal.program_text-requires-clause-guarded
-program_text-requires-clause-guarded c =
-    subst (λ (xs : List Choice). IsGuarded (net_tree c.args.guarded.now.plain.net) (map choice_tree xs)) (sym c.as_slice-choices.ensures) (guarded-steps c.args.guarded.now)
-
-pub program_text-requires-clause-tests : goal.program_text-requires-clause-tests
-program_text-requires-clause-tests c =
-    ap (λ (xs : List Choice). needs_tests_alone (net_tree c.args.guarded.now.plain.net) (map choice_tree xs)) c.as_slice-choices.ensures
-    ∙ ap (needs_tests_alone (net_tree c.args.guarded.now.plain.net)) (choices-are c.args.guarded.now)
-    ∙ dataless-alone (net_tree c.args.guarded.now.plain.net) c.requires.data
-
 pub returns-clause-text : goal.returns-clause-text
 returns-clause-text c = record {
   has = record {
-    plain = c.args.guarded.now.plain.plain;
-    dataless = c.requires.data;
-    small_variables = c.in_ok-text.ensures.small_variables;
-    small_inputs = c.in_ok-text.ensures.small_inputs;
-    unc = c.requires.unc;
-    con = c.requires.con;
+    parts = subst (λ cs. HasParts (net_tree c.args.guarded.now.plain.net) cs c.args.bounds.unc c.args.bounds.con) (choices-are c.args.guarded.now) c.in_ok-text.ensures.parts;
+    shallow = c.requires.shallow;
   };
   classed = none-unclassed (net_tree c.args.guarded.now.plain.net) (ap (λ (xs : List Event). first_unclassed 0 (map event_tree xs)) (sym c.as_slice.ensures) ∙ sym c.in_default.ensures);
-  is = c.in_ok-text.ensures.text
-      ∙ ap (λ (xs : List Choice). printed (program_of (net_tree c.args.guarded.now.plain.net) (map choice_tree xs) c.args.bounds.unc c.args.bounds.con)) c.as_slice-choices.ensures
-      ∙ ap (λ cs. printed (program_of (net_tree c.args.guarded.now.plain.net) cs c.args.bounds.unc c.args.bounds.con)) (choices-are c.args.guarded.now);
+  is = c.in_ok-text.ensures.text ∙ ap (λ cs. printed (data_program (net_tree c.args.guarded.now.plain.net) cs c.args.bounds.unc c.args.bounds.con)) (choices-are c.args.guarded.now);
 }

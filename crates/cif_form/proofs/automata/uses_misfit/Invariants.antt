@@ -1,8 +1,0 @@
-use Rattle.std.proofs.Common.{◌≡◌, map, drop}
-use Rattle.std.specs.List.{list_all}
-use Rattle.cif_source.specs.Source as source
-use Rattle.cif_form.specs.Forms as form
-use Rattle.cif_form.proofs.automata.uses_misfit.Given as goal
-
-abbrev pub invariant-loop-used : goal.invariant-loop-used
-invariant-loop-used l = list_all form.use_fits (map source.use_tree (drop l.used-index l.uses)) ≡ list_all form.use_fits (map source.use_tree l.uses)

@@ -1,0 +1,3 @@
+pub mod DepthLaws
+pub mod BodyLaws
+pub mod NestingLaws
