@@ -13,17 +13,7 @@ import random
 import subprocess
 import sys
 
-LEAST, GREATEST = -2**63, 2**63 - 1
-
-
-def divided(x, y):
-    """Towards zero."""
-    return abs(x) // abs(y) * (1 if (x < 0) == (y < 0) else -1)
-
-
-def remainder(x, y):
-    """With the sign of the dividend."""
-    return x - y * divided(x, y)
+from plain_expressions import GREATEST, LEAST, divided, joined, remainder
 
 
 class Node:
@@ -172,19 +162,6 @@ def ranged(node, ranges, due):
         "minus": (-hi, -lo), "plus": (lo, hi), "min": (min(lo, low), min(hi, high)), "max": (max(lo, low), max(hi, high)),
         "abs": (0 if lo <= 0 <= hi else min(abs(lo), abs(hi)), max(abs(lo), abs(hi))),
     }[node.form], node, due)
-
-
-def joined(sign, one, other):
-    (lo, hi), (low, high) = one, other
-    if sign == "+":
-        return lo + low, hi + high
-    if sign == "-":
-        return lo - high, hi - low
-    if sign == "mod":
-        most = max(abs(low), abs(high)) - 1
-        return (max(lo, -most) if lo < 0 else 0), (min(hi, most) if hi > 0 else 0)
-    corners = [divided(x, y) if sign == "div" else x * y for x in one for y in other]
-    return min(corners), max(corners)
 
 
 def noted(found, node, due):

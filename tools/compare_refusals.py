@@ -4,12 +4,14 @@
     tools/compare_refusals.py PROGRAM [SOURCES [SEED]]
     tools/compare_refusals.py --self-test
 
-Where rules are broken, what is told is to be one of the refusals of the first phase that has any: tokens, grammar, forms that
-are not built yet, names, initial locations, alphabets and the number of objects, the size of all choices, their number. Then
-`generate` asks that each event has a class. A source that breaks none is accepted. Besides random sources there are some at each
-limit. The status is 1 where the two differ. The rules are in `plain_nets.py` and `plain_names.py`; with `--self-test` they are
-compared with worked examples.
+Where rules are broken, what is told is to be one of the refusals of the first phase that has any: tokens, grammar, forms that are
+not built yet, names, bodies as written (kinds, constants, initial locations, what is assigned), components (alphabets, the number
+of objects, ranges of constants), the widths and sizes of what choices evaluate, their number. Then `generate` asks that each event
+has a class. A source that breaks none is accepted. Besides random sources there are the worked examples and some at each limit. The
+status is 1 where the two differ. The rules are in `plain_nets.py`, `plain_data.py` and `plain_names.py`; with `--self-test` they are
+compared with worked examples. How deep a source nests is not bounded here.
 """
+import itertools
 import os
 import random
 import re
@@ -20,7 +22,8 @@ from collections import Counter, namedtuple
 
 from compare_grammar import CIF
 from earley import Grammar, changed, judged
-from plain_nets import MOST_CHOICES, MOST_NODES, Source, Token, Unread, broken, lexed, line_of, unclassed
+from plain_nets import MOST_CHOICES, MOST_NODES, Source, broken, line_of, unclassed
+from plain_tokens import Token, Unread, lexed
 from random_nets import Maker, spelled, tokens_of
 
 GRAMMAR = Grammar(CIF)
@@ -69,14 +72,19 @@ def is_allowed(line, lines, text):
 
 # ---- random sources
 
-FAULTS = {"name": 0.15, "twice": 0.1, "goto": 0.3, "initials": 0.4, "alphabet": 0.5, "class": 0.3, "later": 0.05}
+FAULTS = {"name": 0.15, "twice": 0.1, "goto": 0.3, "initials": 0.4, "alphabet": 0.5, "class": 0.3, "later": 0.05, "kind": 0.06,
+          "constant": 0.6, "own": 0.3, "doubly": 0.3, "range": 0.2, "divisor": 0.5, "wide": 0.05}
+OF_DATA = ("name", "twice", "kind", "constant", "own", "doubly", "range", "divisor", "wide")
 ODD_PIECES = ["@", "$", "#", '"', "\x00", "\xe9", "$1", "~", " 2147483648 ", " 2147483647 ", " 99999999999999999999 ", "/*"]
 
 
 def faulty(choose):
     """A source with a few kinds of faults, each often, or with none."""
-    kinds = choose.sample(sorted(FAULTS), choose.choice([0, 1, 1, 2, 2, 3]))
-    tokens = tokens_of(Maker(choose, {kind: FAULTS[kind] for kind in kinds}).text)
+    has_data = choose.random() < 0.65
+    kinds = choose.sample(sorted(OF_DATA if has_data and choose.random() < 0.7 else FAULTS), choose.choice([0, 1, 1, 1, 2, 2, 3]))
+    # a fault in one place, or in many
+    rarity = choose.choice([0.3, 1]) if has_data else 1
+    tokens = tokens_of(Maker(choose, {kind: FAULTS[kind] * rarity for kind in kinds}, has_data).text)
     if choose.random() < 0.15:
         tokens = changed([Token(word, word, 0) for word in GRAMMAR.tokens + ["tau"]], choose, tokens)
         tokens = [token._replace(text={"ID": "a", "NUMBER": "7"}.get(token.text, token.text)) for token in tokens]
@@ -163,6 +171,42 @@ def at_limits():
     ]
 
 
+def guarded(guards):
+    return "event e; automaton a: location: initial; edge e when %s; end" % guards
+
+
+def weighty(operands):
+    """127 times 129 choices that count 61 each, and one of so many operands that counts three more."""
+    left = "automaton a: location: initial; %send " % ("edge e when true%s; " % (" and true" * 27) * 127)
+    right = "edge e do if true: x := x%s end; " % (" + 1" * 25)
+    right = "automaton b: disc int[0..9] x; location: initial; %send " % (right * 129)
+    return "event e, f; " + left + right + "automaton c: location: initial; edge f when true%s; end" % (" and true" * (operands - 1))
+
+
+def with_data():
+    nots, small = "not " * 98, "automaton a: disc int[0..9] x%s; location: initial; end"
+    return [
+        ("a guard of depth 100", guarded("not not %strue" % nots), None),
+        ("several guards, one level deeper", guarded("not not %strue, true" % nots), "24 TooLarge nodes 105 depth 101"),
+        ("several guards of depth 100", guarded("not %strue, true" % nots), None),
+        ("parentheses have no depth", guarded("not %strue and ((true))" % nots), None),
+        ("a condition of depth 99", guarded("if not %strue: true else false end" % nots), None),
+        ("two conditions, one level deeper", guarded("if not %strue, true: true else false end" % nots),
+         "24 TooLarge nodes 107 depth 101"),
+        ("two conditions of depth 98", guarded("if %strue, true: true else false end" % nots), None),
+        ("2000 operands", guarded("true" + " and true" * 1999), None),
+        ("choices that count 1000000 with what they evaluate", weighty(634), None),
+        ("one operand more", weighty(635), "24 TooLarge nodes 1000001 depth 1"),
+        ("100 constants that need one another", "const int k0 = 1; " + "".join("const int k%d = k%d + 1; " % (k, k - 1) for k in range(1, 100)),
+         None),
+        ("literals are no objects", "enum c = %sz; " % numbered("r%d, ", 99999) + small % "", None),
+        ("the specification, an automaton, its location and 99997 variables", small % numbered(", x%d", 99996), None),
+        ("one variable more", small % numbered(", x%d", 99997), "17 TooManyObjects count 100001"),
+        ("99999 predicates", "marked true%s;" % (", true" * 99998), None),
+        ("one predicate more", "marked true%s;" % (", true" * 99999), "17 TooManyObjects count 100001"),
+    ]
+
+
 # ---- the comparison
 
 class Tool:
@@ -206,13 +250,12 @@ def main(program, sources=1000, seed=1):
     choose, differ, notes = random.Random(seed), 0, Counter()
     with tempfile.TemporaryDirectory() as folder:
         tool = Tool(program, folder)
-        for what, text, line in at_limits():
+        for what, text, line in at_limits() + with_data():
             fault = tool.fault("check", text, {line} if line else set())
             if fault:
                 differ += 1
                 print("%s: %s" % (what, fault))
-        for _ in range(sources):
-            text = made(choose)
+        for text in itertools.chain([it[0] for it in WORKED + DATA], (made(choose) for _ in range(sources))):
             verdict = judgement(text)
             notes.update({line.split()[0] for line in verdict.lines | verdict.generated} or {"none"})
             found = tool.faults(text, verdict)
@@ -220,7 +263,7 @@ def main(program, sources=1000, seed=1):
                 differ += 1
                 print("%r\n  %s" % (text[:4000], "\n  ".join(found)))
     shown = ", ".join("%s %d" % pair for pair in sorted(notes.items(), key=lambda pair: (len(pair[0]), pair[0])))
-    print("%d sources (%s), and those at the limits: %d differences" % (sources, shown, differ))
+    print("%d sources and the worked examples (%s), and those at the limits: %d differences" % (sources, shown, differ))
     return 1 if differ else 0
 
 
@@ -234,7 +277,9 @@ WORKED = [
     ("event e", {"4 NotRead at 7"}, set()),
     ("automaton a: alphabet; alphabet; location: initial; end", {"4 NotRead at 23"}, set()),
     ("alg bool b = z;", {"30 NotBuilt at"}, set()),
-    ("automaton a: location: marked true; end", {"30 NotBuilt at"}, set()),
+    ("const int k = ?;", {"30 NotBuilt at"}, set()),
+    ("automaton a: location: marked true; end", {"11 Initials at 10 count 0"}, set()),
+    ("automaton a: location: initial; marked true; end", set(), set()),
     ("event e; event e;", {"6 Duplicate at 15 first 6"}, {"28 Unclassed event e"}),
     ("event e, e, e;", {"6 Duplicate at 9 first 6", "6 Duplicate at 12 first 6", "6 Duplicate at 12 first 9"}, set()),
     ("event e; group g: event e; end", set(), {"28 Unclassed event e"}),
@@ -263,17 +308,85 @@ WORKED = [
     ("", set(), set()),
 ]
 
+# The same for sources with data; `generate` tells what the last column has.
+NO_CLASS = {"28 Unclassed event a.e"}
+OWN = "automaton a: event e; disc int x; location: initial; edge e do %s; end"
+TWO = "automaton a: event e; disc int x; disc int[%s] y; location: initial; edge e do x := x %s; end"
+DATA = [
+    ("const int k = 2147483648;", {"2 NumberTooBig at 14"}, set()),
+    ("const bool b = a = b = c;", {"4 NotRead at 21"}, set()),
+    ("const bool b = z;", {"5 Unknown at 15"}, set()),
+    ("event e; const bool b = e;", {"7 WrongKind at 24"}, set()),
+    ("const e k = 1;", {"5 Unknown at 6"}, set()),
+    ("const int e = 1; const e k = 1;", {"7 WrongKind at 23"}, set()),
+    ("enum E = r, g, r;", {"6 Duplicate at 15 first 9"}, set()),
+    ("const int a = b; const int b = a;", {"8 DefinitionCycle at 10", "8 DefinitionCycle at 27"}, set()),
+    ("type a = int[0..b]; const a b = 1;", {"8 DefinitionCycle at 5", "8 DefinitionCycle at 28"}, set()),
+    ("type a = b; type b = a;", {"8 DefinitionCycle at 5", "8 DefinitionCycle at 17"}, set()),
+    # the name in an expression denotes what is found first outward, whatever it is
+    ("const int k = 1; group h: group k: end const int j = k; end", {"7 WrongKind at 53"}, set()),
+    ("const bool b = 1;", {"9 Mismatch at 15"}, set()),
+    ("const int k = 1 + true;", {"9 Mismatch at 18"}, set()),
+    ("const int k = true + 1;", {"9 Mismatch at 14"}, set()),
+    ("const bool b = 1 = true;", {"9 Mismatch at 19"}, set()),
+    ("const bool b = (1);", {"9 Mismatch at 15"}, set()),
+    ("const int k = if true: 1 elif 2: 3 else false end;", {"9 Mismatch at 30", "9 Mismatch at 40"}, set()),
+    ("const bool b = if true: 1 else 2 end;", {"9 Mismatch at 15"}, set()),
+    ("enum E = r; enum F = s; const E k = s;", {"9 Mismatch at 36"}, set()),
+    ("enum E = r; group g: enum F = r; end const E k = g.r;", set(), set()),
+    ("enum E = r; const bool b = r < r;", {"9 Mismatch at 27", "9 Mismatch at 31"}, set()),
+    ("type t = int[true..3];", {"9 Mismatch at 13"}, set()),
+    ("marked 1;", {"9 Mismatch at 7"}, set()),
+    ("automaton a: event e; location: initial; edge e when 1, true; end", {"9 Mismatch at 53"}, NO_CLASS),
+    (OWN % "x := true", {"9 Mismatch at 68"}, NO_CLASS),
+    (OWN % "if x: x := 1 end", {"9 Mismatch at 66"}, NO_CLASS),
+    ("automaton a: location p: initial; end const bool b = a.p;", {"10 NotConstant at 53"}, set()),
+    ("automaton a: disc int x; disc int y = 1 + x; location: initial; end", {"10 NotConstant at 42"}, set()),
+    ("automaton a: disc int x; disc int[0..x] y; location: initial; end", {"10 NotConstant at 37"}, set()),
+    ("automaton a: disc int x; location: initial; end automaton b: event e; location: initial; edge e do a.x := 1; end",
+     {"12 NotOwn at 99"}, set()),
+    (OWN % "a.x := .a.x", set(), NO_CLASS),
+    (OWN % "x := 1, x := 2", {"13 AssignedTwice at 71"}, NO_CLASS),
+    (OWN % "a.x := 1, if true: x := 2 else .a.x := 3 end", {"13 AssignedTwice at 82", "13 AssignedTwice at 94"}, NO_CLASS),
+    (OWN % "if true: x := 2 elif true: x := 1 else x := 3 end", set(), NO_CLASS),
+    (OWN % "if true: x := 2, x := 3 end", {"13 AssignedTwice at 80"}, NO_CLASS),
+    ("const int[0..3] k = 4;", {"18 ConstantRange at 20"}, set()),
+    ("const int k = 1 div 0;", {"18 ConstantRange at 14"}, set()),
+    ("const int k = if true: 1 else 1 mod 0 end;", {"18 ConstantRange at 14"}, set()),
+    ("const bool b = 2147483647 * 2147483647 * 2147483647 > 0;", {"18 ConstantRange at 15"}, set()),
+    ("const bool b = 2147483647 * 2147483647 * 2 + 1 > 0;", set(), set()),
+    # 4294967294 is 2147483647 doubled: within 64 bits, and not in 32
+    ("const int k = 2147483647 + 2147483647 - 2147483647;", set(), set()),
+    ("const int k = -2147483647 - 2;", {"18 ConstantRange at 14"}, set()),
+    ("type t = int[3..2];", {"18 ConstantRange at 13"}, set()),
+    ("type t = int[0..2147483647 + 1];", {"18 ConstantRange at 16"}, set()),
+    ("type t = int[-2147483647 - 1..-7];", set(), set()),
+    ("const int k = 5; type t = int[0..k - 1]; automaton a: disc t x = k; location: initial; end", {"18 ConstantRange at 65"}, set()),
+    # marking is asked for its kind alone
+    ("marked 1 div 0 = 1;", set(), set()),
+    ("automaton a: event e; disc int[0..9] x; disc int[0..3] y; location: initial; edge e do x := x div y; end",
+     {"20 ZeroDivisor at 98"}, NO_CLASS),
+    ("automaton a: event e; disc int[0..9] x; disc int[1..3] y; location: initial; edge e do x := x div y; end", set(), NO_CLASS),
+    (TWO % ("-1..3", "mod (y)"), {"20 ZeroDivisor at 93"}, NO_CLASS),
+    (TWO % ("-3..-1", "mod (y)"), set(), NO_CLASS),
+    (TWO % ("0..9", "* x * x"), {"21 TooWide at 86"}, NO_CLASS),
+    (TWO % ("0..9", "* x * 2"), {"21 TooWide at 86"}, NO_CLASS),
+    (TWO % ("0..9", "* x * 1"), set(), NO_CLASS),
+    # a part is asked whatever the whole is
+    (TWO % ("0..9", "* 1 + 0 * (1 + x * x * 2 - 7)"), {"21 TooWide at 98", "21 TooWide at 103"}, NO_CLASS),
+]
+
 
 def self_test():
-    for text, lines, generated in WORKED:
+    for text, lines, generated in WORKED + DATA:
         verdict = judgement(text)
         assert verdict.lines == lines and (lines or verdict.generated == generated), (text, verdict)
-    short = [it for it in at_limits() if len(it[1]) < 200000]
+    short = [it for it in at_limits() + with_data() if len(it[1]) < 200000]
     for what, text, line in short:
         assert judgement(text).lines == ({line} if line else set()), what
     assert judgement("event e, f; " + crowd([2] * 13 + [1] * 47) + crowd([2923], {0}, "f")).nodes == MOST_NODES
     assert judgement("event e; " + crowd([128, 128])).nodes == 5 * MOST_CHOICES
-    print("the rules agree with %d worked examples and %d sources at limits" % (len(WORKED), len(short)))
+    print("the rules agree with %d worked examples and %d sources at limits" % (len(WORKED + DATA), len(short)))
     return 0
 
 

@@ -1,17 +1,18 @@
 #!/usr/bin/env python3
-"""Compares the scans of generated programs with a simulation of their sources, on random automata that synchronise.
+"""Compares the scans of generated programs with a simulation of their sources, on random automata that synchronise, with data and without.
 
     tools/compare_scans.py PROGRAM [SOURCES [SEED]]
     tools/compare_scans.py --self-test
 
 A scan makes its rounds of the uncontrollable events, and then those of the controllable ones. A round takes the events of its
 class in ascending number, and for each the first choice that makes a step, if there is one: the automata that have the event in
-their alphabet take an edge for it, or stay where they monitor it and have no such edge. `generate` writes the program of a
-source, and `replay` gives the locations after each scan. Compared are that table, and the variables in which the program holds
-the locations. And each scan is to be legal, by a search over all choices: a run of uncontrollable events and then one of
+their alphabet take an edge for it whose guard is so, or stay where they monitor it and have no such edge. What the edges assign is
+computed in the state before, and there is no step where a value leaves its range. `generate` writes the program of a source, and
+`replay` gives the locations and values after each scan. Compared are that table, and the variables in which the program holds
+these. And each scan is to be legal, by a search over all choices: a run of uncontrollable events and then one of
 controllable events leads from one state to the next, where a run of fewer events than the bound of its class ends where none of the
 class has a step. The status is 1 where something differs. The simulation is in `plain_nets.py`; with `--self-test` it and the search
-are compared with worked examples.
+are compared with worked examples, which the program is asked for, too.
 """
 import itertools
 import os
@@ -22,7 +23,7 @@ import sys
 import tempfile
 from collections import Counter, namedtuple
 
-from plain_nets import Net, Source, broken, line_of
+from plain_nets import Net, Source, broken, line_of, names_of
 from random_nets import Maker, spelled, tokens_of
 
 MOST_SCANS, MOST_TRIED, DEFAULT_ROUNDS = 6, 400, 100
@@ -58,23 +59,27 @@ def plant_alone(choose):
     return "\n".join(lines + ["end", ""])
 
 
-def automata_together(choose):
+def automata_together(choose, has_data=False):
     """A source that breaks no rule and whose program isn't too long to try."""
     while True:
-        text = spelled(choose, tokens_of(Maker(choose).text))
+        text = spelled(choose, tokens_of(Maker(choose, has_data=has_data).text))
         due, net = broken(Source(text))
         if not due and sum(map(net.count, range(len(net.events)))) <= MOST_TRIED:
             return text
 
 
-def rounds(choose):
-    """The most rounds of a class as they are asked for, or None."""
-    return choose.choice([None, 1, 1, 2, 3, 4, 5, 6, 7, 10, 99, 101, choose.choice([1000, 9999, 10000])])
+def data_together(choose):
+    return automata_together(choose, True)
+
+
+def rounds(choose, has_data):
+    """The most rounds of a class as they are asked for, or None; fewer with data, which pass more states."""
+    return choose.choice([None, 1, 1, 2, 3, 4, 5, 6, 7, 10, 99, 101, 25 if has_data else choose.choice([1000, 9999, 10000])])
 
 
 def made(choose):
-    text = choose.choice([plant_alone, automata_together, automata_together, automata_together])(choose)
-    unc, con = rounds(choose), rounds(choose)
+    make = choose.choice([plant_alone, automata_together, automata_together, data_together, data_together, data_together, data_together])
+    text, unc, con = make(choose), rounds(choose, make is data_together), rounds(choose, make is data_together)
     options = [[word, str(number)] for word, number in (("--unc", unc), ("--con", con)) if number is not None]
     choose.shuffle(options)
     return Trial(text, sum(options, []), unc or DEFAULT_ROUNDS, con or DEFAULT_ROUNDS, choose.randint(1, MOST_SCANS))
@@ -131,7 +136,8 @@ def is_legal(unc_runs, con_runs, unc, con, before, after):
 
 def illegal_scans(net, trial, table, notes):
     """The numbers of the scans in a table that are not legal."""
-    states = [net.initial()] + [tuple(map(int, line.split(",")[1:])) for line in table.splitlines()[1:]]
+    values = {"FALSE": 0, "TRUE": 1}
+    states = [net.initial()] + [tuple(int(values.get(cell, cell)) for cell in line.split(",")[1:]) for line in table.splitlines()[1:]]
     unc_runs, con_runs, found = Runs(net, "uncontrollable"), Runs(net, "controllable"), []
     for scan in range(1, len(states)):
         try:
@@ -145,16 +151,29 @@ def illegal_scans(net, trial, table, notes):
 
 # ---- the comparison
 
+DECLARED = re.compile(r"""\b([LPVQ][0-9]\w*)\s*:\s*(?:BOOL|LINT\s*\(\s*(-?)\s*([0-9]+)\s*\.\.\s*(-?)\s*([0-9]+)\s*\))
+    (?:\s*:=\s*(?:(TRUE|FALSE)|(-?)\s*([0-9]+)))?\s*;""", re.X)
+
+
 def declared(program):
-    """The variables of a program that hold locations, those that are outputs in their order: name, last location, first one."""
-    found = re.findall(r"\b([LP][0-9]\w*)\s*:\s*LINT\s*\(\s*0\s*\.\.\s*([0-9]+)\s*\)\s*:=\s*([0-9]+)\s*;", program)
-    return sorted(it for it in found if it[0][0] == "L"), [it for it in found if it[0][0] == "P"]
+    """The variables of a program that hold locations and values, those that are outputs in their order: name, range, first value. A
+    BOOL has no range, and what has no first value begins with FALSE or its least number."""
+    found = []
+    for name, low_sign, low, high_sign, high, truth, sign, first in DECLARED.findall(program):
+        bounds = (int(low_sign + low), int(high_sign + high)) if low else None
+        begin = int(truth == "TRUE") if truth else int(sign + first) if first else bounds[0] if bounds else 0
+        found.append((name, bounds, begin))
+    return sorted(it for it in found if it[0][0] in "LV"), [it for it in found if it[0][0] in "PQ"]
 
 
 def wanted_variables(net):
-    def of_letter(letter):
-        return [(name, str(party.places - 1), str(party.first)) for name, party in zip(net.variables(letter), net.parties)]
-    return sorted(of_letter("L")), of_letter("P")
+    things = [((0, party.places - 1), party.first) for party in net.parties]
+    values = [(None if it.kind == "bool" else it.range, it.first) for it in net.variables]
+
+    def of_letters(of_places, of_values):
+        names = names_of(of_places, net.parties) + names_of(of_values, net.variables)
+        return [(name,) + it for name, it in zip(names, things + values)]
+    return sorted(of_letters("L", "V")), of_letters("P", "Q")
 
 
 def answers(program, folder, trial):
@@ -185,6 +204,15 @@ def noted(net, trial, notes):
     notes["fire an event of several automata"] += any(len(options) > 1 for options in fired)
     notes["have an event that nobody takes part in"] += any(not net.options(event) for event in range(len(net.events)))
     notes["have no automaton"] += not net.parties
+    notes["have variables"] += bool(net.variables)
+    notes["change a value"] += after[len(net.parties):] != net.initial()[len(net.parties):]
+    notes["leave a range"] += leaves_a_range(net)
+
+
+def leaves_a_range(net):
+    """Whether a choice that agreed made no step since a value left its range, in a state that was met."""
+    return any(net.agrees(choice, event, state) and net.after(choice, state) is None
+               for event, state in list(net.steps)[:50] for choice in net.choices(event)[:50])
 
 
 def differences(program, folder, trial, notes):
@@ -207,15 +235,14 @@ def differences(program, folder, trial, notes):
 def main(program, sources=500, seed=1):
     program, choose, differ, notes = os.path.abspath(program), random.Random(seed), 0, Counter()
     with tempfile.TemporaryDirectory() as folder:
-        for _ in range(sources):
-            trial = made(choose)
+        for trial in itertools.chain(worked_trials(), (made(choose) for _ in range(sources))):
             found = differences(program, folder, trial, notes)
             if found:
                 differ += 1
                 print("%r %s, %d scans\n  %s" % (trial.text, " ".join(trial.options), trial.scans, "\n  ".join(found)))
     searched = "%d scans searched, %d not" % (notes.pop("scans searched", 0), notes.pop("scans not searched", 0))
     shown = ", ".join("%d %s" % (count, what) for what, count in sorted(notes.items()))
-    print("%d sources, of which in the first scan %s; %s: %d differences" % (sources, shown, searched, differ))
+    print("%d sources and the worked examples, of which in the first scan %s; %s: %d differences" % (sources, shown, searched, differ))
     return 1 if differ else 0
 
 
@@ -259,6 +286,43 @@ WORKED = [
     ("group %s: plant b: location: initial; end end" % ("n" * 39), 1, 1, "scan,P0_%s\n1,0\n" % ("n" * 39)),
     ("", 100, 100, "scan\n"),
     ("controllable e;", 100, 100, "scan\n1\n"),
+    # right sides read the values before the step
+    ("plant a: controllable e; disc int x = 1, y = 2; location: initial; edge e do x := y, y := x; end", 100, 1,
+     "scan,P0_a,Q0_a_x,Q1_a_y\n1,0,2,1\n2,0,1,2\n"),
+    # a value of an enumeration is its place
+    ("enum T = r, g; controllable e; automaton a: disc T c; location: initial; edge e do if c = r: c := g else c := r end; end", 100, 1,
+     "scan,P0_a,Q0_a_c\n1,0,1\n2,0,0\n"),
+    # a class runs to its bound, or until a value would leave its range
+    ("plant a: uncontrollable u; disc int[0..10] n = 0; location: initial; edge u do n := n + 1; end", 3, 100,
+     "scan,P0_a,Q0_a_n\n1,0,3\n2,0,6\n3,0,9\n4,0,10\n5,0,10\n"),
+    ("plant a: uncontrollable e; disc int x = 2147483647; location: initial; edge e do x := x + 1; end", 100, 100,
+     "scan,P0_a,Q0_a_x\n1,0,2147483647\n"),
+    # who monitors stays where its edge has a guard that is not so
+    ("controllable e; plant A: location p: initial; edge e goto q; location q; end automaton B: monitor e; disc int[0..5] n = 0; "
+     "location: initial; edge e when false do n := n + 1; end", 100, 100, "scan,P0_A,P1_B,Q0_B_n\n1,1,0,0\n"),
+    ("controllable e; plant A: location p: initial; edge e goto q; location q; end automaton B: monitor e; disc int[0..5] n = 0; "
+     "location: initial; edge e when true do n := n + 1; end", 100, 100, "scan,P0_A,P1_B,Q0_B_n\n1,1,0,1\n"),
+    # names that are tidied to one name differ by their numbers
+    ("automaton a: disc bool b_c; location: initial; end automaton a_b: disc bool c; location: initial; end automaton P: location: "
+     "initial; end automaton p: location: initial; end", 100, 100,
+     "scan,P0_a,P1_a_b,P2_P,P3_p,Q0_a_b_c,Q1_a_b_c\n1,0,0,0,0,FALSE,FALSE\n"),
+    # `div` goes towards zero, and `mod` has the sign of the dividend
+    ("const int k = -7; automaton a: controllable e; disc int q, r, s, t; location: initial; edge e do q := k div 2, r := k mod 2, "
+     "s := 7 div -2, t := 7 mod -2; end", 1, 1, "scan,P0_a,Q0_a_q,Q1_a_r,Q2_a_s,Q3_a_t\n1,0,-3,-1,-3,1\n"),
+    # without a first value: the number nearest to 0, false, the first literal
+    ("enum T = r, g; type up = int[2..7]; automaton a: disc up x; disc int[-9..-4] y; disc int[-1..1] z; disc bool b; disc T c = g; "
+     "disc T d; location: initial; end", 1, 1, "scan,P0_a,Q0_a_x,Q1_a_y,Q2_a_z,Q3_a_b,Q4_a_c,Q5_a_d\n1,0,2,-4,0,FALSE,1,0\n"),
+    # a choice whose value leaves its range makes no step, so the next one is taken
+    ("controllable e; automaton a: disc int[0..4] x; location: initial; edge e do x := x + 3; edge e do x := x + 1; end", 1, 1,
+     "scan,P0_a,Q0_a_x\n1,0,3\n2,0,4\n3,0,4\n"),
+    # guards read other automata; two automata assign in one step, from the values before
+    ("controllable e; automaton a: disc int[0..9] x = 1; location p: initial; edge e when b.q, b.y < 5 do x := b.y; end "
+     "automaton b: disc int[0..9] y = 2; location q: initial; edge e do y := a.x + a.x; end", 1, 1,
+     "scan,P0_a,P1_b,Q0_a_x,Q1_b_y\n1,0,0,2,2\n2,0,0,2,4\n3,0,0,4,4\n4,0,0,4,8\n5,0,0,4,8\n"),
+    # enumerations with the same literals are the same type; an inner branch reads the values before, too
+    ("enum T = r, g; group h: enum T = r, g; automaton a: controllable e; disc T c; disc .T d = .g; disc int[0..3] n; location: initial; "
+     "edge e do if c = d: n := n + 1 elif n < 3, d = .g: c := d, if c = .r: n := 2 else n := 0 end else n := 0 end; end end", 1, 1,
+     "scan,P0_h_a,Q0_h_a_c,Q1_h_a_d,Q2_h_a_n\n1,0,1,1,2\n2,0,1,1,3\n3,0,1,1,3\n"),
 ]
 
 
@@ -283,6 +347,20 @@ EXAMPLES = [
 6,0,0,3,2,0,0
 7,0,1,0,1,1,1
 8,0,3,0,1,1,1
+"""),
+    ("dosing.cif", """scan,P0_Tank,P1_Doser,P2_Stirrer,P3_Control,Q0_Tank_level,Q1_Tank_batches,Q2_Doser_next,Q3_Doser_given,Q4_Control_mode
+1,1,0,0,0,0,0,1,0,0
+2,1,0,0,0,1,0,1,0,0
+3,1,0,0,0,2,0,1,0,0
+4,1,0,0,0,3,0,1,0,0
+5,0,0,0,0,5,0,0,1,1
+6,0,0,0,0,6,0,1,2,1
+7,0,0,0,0,7,0,0,3,1
+8,0,0,1,0,8,0,1,4,2
+9,2,0,0,0,8,0,1,4,3
+10,1,0,0,0,0,1,1,0,0
+11,1,0,0,0,1,1,1,0,0
+12,1,0,0,0,2,1,1,0,0
 """),
 ]
 
@@ -311,6 +389,12 @@ LEGAL = [
     # the events of many rounds are as those of few, in a circle of three
     ("uncontrollable e; plant A: location a: initial; edge e goto b; location b: edge e goto c; location c: edge e goto a; end",
      9999, 1, (0,), {(0,), (1,), (2,)}),
+    # a value that would leave its range makes no step, so a run may end before its bound, by either choice
+    ("controllable e; plant A: disc int[0..4] n; location: initial; edge e do n := n + 3; edge e do n := n + 2; end", 1, 9, (0, 0),
+     {(0, 3), (0, 4)}),
+    # what is read is the state before the step
+    ("controllable e; plant A: disc int[0..2] x = 1, y = 2; location: initial; edge e when x < y do x := y, y := x; end", 1, 9,
+     (0, 1, 2), {(0, 2, 1)}),
 ]
 
 
@@ -319,8 +403,16 @@ def example(name):
         return file.read()
 
 
+def all_worked():
+    return WORKED + [(example(name), 1, 1, table) for name, table in EXAMPLES]
+
+
+def worked_trials():
+    return [Trial(text, ["--unc", str(unc), "--con", str(con)], unc, con, table.count("\n") - 1) for text, unc, con, table in all_worked()]
+
+
 def self_test():
-    worked = WORKED + [(example(name), 1, 1, table) for name, table in EXAMPLES]
+    worked = all_worked()
     for text, unc, con, table in worked:
         due, net = broken(Source(text))
         assert not due, (text, list(map(line_of, due)))
@@ -329,7 +421,7 @@ def self_test():
     for text, unc, con, before, ends in LEGAL:
         net = Net(Source(text))
         unc_runs, con_runs = Runs(net, "uncontrollable"), Runs(net, "controllable")
-        states = itertools.product(*[range(party.places) for party in net.parties])
+        states = itertools.product(*[range(lo, hi + 1) for lo, hi in net.ranges])
         given = {after for after in states if is_legal(unc_runs, con_runs, unc, con, before, after)}
         assert given == ends, (text, ends, given)
     print("the simulation agrees with %d worked examples, and the search with %d" % (len(worked), len(LEGAL)))

@@ -1,72 +1,42 @@
-"""Reads sources of automata without data, and says what they mean: which rules they break, their choices and their scans.
+"""Reads sources of automata with data, and says what they mean: which rules they break, their choices and their scans.
 
 Plain and slow on purpose, and shares nothing with the program: the CIF 3 language reference ("Syntax", "Scoping",
-"Synchronization", "Monitoring") and the rules that README and `docs/DEFINITIONS.md` print, written down once more. Forms with
-data, definitions, channels and invariants are not read here.
+"Synchronization", "Monitoring", "Updates") and the rules that README and `docs/DEFINITIONS.md` print, written down once more.
+Definitions, inputs, algebraic variables, channels and invariants are not read here.
 """
 import itertools
 import re
 from collections import namedtuple
 
-from plain_names import COMPONENT, EVENT, LOCATION, Body, Slot, due as names_due, found_slot
+from plain_data import Data, If, Set, Type, assigned, exprs_of, kinds_due
+from plain_expressions import Expr, ExpressionReader, conjunction_of, depth, evaluated, interval, names_in, size
+from plain_names import COMPONENT, CONSTANT, DISC, EVENT, LITERAL, LOCATION, TYPE, Body, Slot, due as names_due, found_slot
+from plain_tokens import Unread
 
-RESERVED = set("""abs alg alphabet and automaton bool const controllable def disables disc div do edge elif else end enum equation
-    event false goto group if initial input int invariant location marked max min mod monitor needs not or plant requirement
-    supervisor true type uncontrollable void when any cont der dict dist func import in list namespace now pow print real self
-    set string sub switch tau time tuple urgent""".split())
 CLASSES = ("event", "controllable", "uncontrollable")
 AUTOMATON_WORDS = ("automaton", "plant", "requirement", "supervisor")
-GREATEST_NUMBER = 2147483647
-MOST_OBJECTS, MOST_NODES, MOST_CHOICES = 100000, 1000000, 16384
+MOST_OBJECTS, MOST_NODES, MOST_DEPTH, MOST_CHOICES = 100000, 1000000, 100, 16384
 
-PIECE = re.compile(r"""(?P<blank>[ \t\r\n]+|//[^\n]*|/\*.*?\*/)|(?P<word>\$?[A-Za-z_][A-Za-z0-9_]*)|(?P<number>0|[1-9][0-9]*)
-    |(?P<sign><=>|\.\.|:=|!=|<=|>=|=>|[.,;:()\[\]{}+*=<>!?-])""", re.S | re.X)
-
-# A token's kind is ID, NUMBER, or the reserved word or sign that it is; the text of an ID is without `$`.
-Token = namedtuple("Token", "kind text at")
-# A use of a name: its parts, `None` first where it begins at the specification, and its place.
-Use = namedtuple("Use", "name at")
-Edge = namedtuple("Edge", "use origin target")
-# An automaton as written: an edge for each event use, the target None where there is no `goto`; alphabet and monitors are lists
-# of uses, or None.
+# An edge as written, one for each of its event uses; the target is None where there is no `goto`.
+Edge = namedtuple("Edge", "use origin target guards updates")
+# An automaton as written; alphabet and monitors are lists of uses, or None.
 Automaton = namedtuple("Automaton", "path at body alphabet monitors places initials edges")
-
-
-class Unread(Exception):
-    """A text that isn't a source of these forms."""
-
-
-# ---- tokens
-
-def lexed(text):
-    """The tokens, and the refusals of what is none."""
-    tokens, due, at = [], set(), 0
-    while at < len(text):
-        piece = PIECE.match(text, at)
-        if piece is None:
-            is_open = text.startswith("/*", at)
-            due.add(("OpenComment" if is_open else "BadByte", ("at", at)))
-            break
-        word = piece.group()
-        if piece.lastgroup == "number":
-            tokens.append(Token("NUMBER", word, at))
-            if int(word) > GREATEST_NUMBER:
-                due.add(("NumberTooBig", ("at", at)))
-        elif piece.lastgroup != "blank":
-            is_name = piece.lastgroup == "word" and word not in RESERVED
-            tokens.append(Token("ID", word.lstrip("$"), at) if is_name else Token(word, word, at))
-        at = piece.end()
-    return tokens, due
 
 
 # ---- the reader
 
-class Source:
-    """What a text declares: bodies in text order, components in preorder as (path, body), and automata in preorder."""
+class Source(ExpressionReader):
+    """What a text declares: bodies in text order, components in preorder as (path, body), and automata in preorder.
+
+    Also all types with the bodies in which they stand, the slots that have a value, and the predicates of declarations and
+    locations. A slot of a type, a constant or a variable has its body as `home`, and its `type` and `value`; one of an enumeration
+    has the names of its `literals`, and one of a literal has the slot `enum`.
+    """
 
     def __init__(self, text):
-        self.tokens, self.next = lexed(text)[0], 0
+        super().__init__(text)
         self.bodies, self.components, self.automata, self.class_of = [], [], [], {}
+        self.types, self.valued, self.marks, self.declared_marks = [], [], [], 0
         self.root = self.component(None, (), False)
         while self.next < len(self.tokens):
             self.item(self.root, ())
@@ -79,44 +49,12 @@ class Source:
             outer.inner.append(body)
         return body
 
-    # tokens
-
-    def is_next(self, *kinds):
-        return self.next < len(self.tokens) and self.tokens[self.next].kind in kinds
-
-    def take(self, *kinds):
-        if not self.is_next(*kinds):
-            raise Unread()
-        self.next += 1
-        return self.tokens[self.next - 1]
-
-    def skipped(self, kind):
-        """Whether that token comes next, which is taken then."""
-        is_there = self.is_next(kind)
-        self.next += is_there
-        return is_there
-
-    def listed(self, part):
-        """Parts with commas between."""
-        parts = [part()]
-        while self.skipped(","):
-            parts.append(part())
-        return parts
-
-    def name(self):
-        """A use of a name."""
-        at = self.tokens[self.next].at if self.next < len(self.tokens) else None
-        parts = [None] if self.skipped(".") else []
-        parts.append(self.take("ID").text)
-        while self.skipped("."):
-            parts.append(self.take("ID").text)
-        return Use(parts, at)
-
-    # declarations and components
+    # declarations
 
     def declare(self, body, sort):
         token = self.take("ID")
         slot = Slot(token.text, token.at, sort)
+        slot.home, slot.type, slot.value, slot.literals = body, None, None, []
         body.slots.append(slot)
         return slot
 
@@ -126,9 +64,89 @@ class Source:
             self.class_of[id(slot)] = word
         self.take(";")
 
-    def item(self, body, path):
+    def expression_in(self, body):
+        """An expression, whose names are used in the body."""
+        expr = self.expression()
+        body.uses += [(use.name, use.at, "value") for use in names_in(expr)]
+        return expr
+
+    def type_in(self, body):
+        if self.is_next("bool", "int"):
+            type_ = Type(self.take("bool", "int").kind, None)
+            if type_.form == "int" and self.skipped("["):
+                lo = self.expression_in(body)
+                self.take("..")
+                type_ = Type("range", (lo, self.expression_in(body)))
+                self.take("]")
+        else:
+            type_ = Type("name", self.name())
+            body.uses.append((type_.more.name, type_.more.at, "type"))
+        self.types.append((body, type_))
+        return type_
+
+    def type_names(self, body):
+        self.take("type")
+
+        def one():
+            slot = self.declare(body, TYPE)
+            self.take("=")
+            slot.type = self.type_in(body)
+            note_needs(slot)
+        self.listed(one)
+        self.take(";")
+
+    def enumeration(self, body):
+        self.take("enum")
+        slot = self.declare(body, TYPE)
+        self.take("=")
+        for literal in self.listed(lambda: self.declare(body, LITERAL)):
+            literal.enum = slot
+            slot.literals.append(literal.name)
+        self.take(";")
+
+    def typed(self, body, word, sort, needs_value):
+        """Constants or variables of one type."""
+        self.take(word)
+        type_ = self.type_in(body)
+
+        def one():
+            slot = self.declare(body, sort)
+            slot.type = type_
+            if self.is_next("=") or needs_value:
+                self.take("=")
+                slot.value = self.expression_in(body)
+                self.valued.append(slot)
+            note_needs(slot)
+        self.listed(one)
+        self.take(";")
+
+    def predicates(self, body):
+        """Marking predicates."""
+        self.take("marked")
+        found = self.listed(lambda: self.expression_in(body))
+        self.marks += [(body, expr) for expr in found]
+        self.take(";")
+        return len(found)
+
+    def declaration(self, body):
+        """Whether a declaration comes next, which is taken then."""
         if self.is_next(*CLASSES):
-            return self.events(body)
+            self.events(body)
+        elif self.is_next("type"):
+            self.type_names(body)
+        elif self.is_next("enum"):
+            self.enumeration(body)
+        elif self.is_next("const"):
+            self.typed(body, "const", CONSTANT, True)
+        elif self.is_next("marked"):
+            self.declared_marks += self.predicates(body)
+        else:
+            return False
+        return True
+
+    def item(self, body, path):
+        if self.declaration(body):
+            return
         is_automaton = not self.is_next("group")
         if self.take("group", *AUTOMATON_WORDS).kind not in ("group", "automaton"):
             self.skipped("automaton")
@@ -148,14 +166,14 @@ class Source:
     def automaton(self, slot, path):
         body, clauses, found = slot.body, {}, Automaton(path, slot.at, slot.body, None, None, [], [], [])
         while not self.is_next("location"):
-            if self.is_next("alphabet", "monitor"):
+            if self.is_next("disc"):
+                self.typed(body, "disc", DISC, False)
+            elif not self.declaration(body):
                 word = self.take("alphabet", "monitor").kind
                 if word in clauses:
                     raise Unread()
                 clauses[word] = [] if self.is_next(";") else self.listed(lambda: self.event_use(body))
                 self.take(";")
-            else:
-                self.events(body)
         while self.is_next("location"):
             self.location(found)
         if None in found.places and len(found.places) > 1:
@@ -175,21 +193,62 @@ class Source:
         while self.is_next("initial", "marked", "edge"):
             if self.is_next("edge"):
                 self.edge(automaton)
-                continue
-            if self.take("initial", "marked").kind == "initial":
+            elif self.is_next("initial"):
+                self.take("initial")
                 automaton.initials.append(len(automaton.places) - 1)
                 self.skipped("true")
-            self.take(";")
+                self.take(";")
+            else:
+                self.marking(automaton.body)
+
+    def marking(self, body):
+        """`marked;`, or with predicates."""
+        if [token.kind for token in self.tokens[self.next:self.next + 2]] == ["marked", ";"]:
+            self.next += 2
+        else:
+            self.predicates(body)
 
     def edge(self, automaton):
+        body, number = automaton.body, len(automaton.places) - 1
         self.take("edge")
-        uses, target = self.listed(lambda: self.event_use(automaton.body)), None
+        uses, target = self.listed(lambda: self.event_use(body)), None
+        guards = self.listed(lambda: self.expression_in(body)) if self.skipped("when") else []
+        updates = self.listed(lambda: self.update(body)) if self.skipped("do") else []
         if self.skipped("goto"):
             token = self.take("ID")
             target = token.text
-            automaton.body.own.append((token.text, token.at, LOCATION))
+            body.own.append((token.text, token.at, LOCATION))
         self.take(";")
-        automaton.edges.extend(Edge(use, len(automaton.places) - 1, target) for use in uses)
+        automaton.edges.extend(Edge(use, number, target, guards, updates) for use in uses)
+
+    def update(self, body):
+        if not self.is_next("if"):
+            target = self.name()
+            body.uses.append((target.name, target.at, "variable"))
+            self.take(":=")
+            return Set(target, self.expression_in(body))
+        self.take("if")
+        branches, other, has_more = [], [], True
+        while has_more:
+            conditions = self.listed(lambda: self.expression_in(body))
+            self.take(":")
+            branches.append((conditions, self.listed(lambda: self.update(body))))
+            has_more = self.skipped("elif")
+        if self.skipped("else"):
+            other = self.listed(lambda: self.update(body))
+        self.take("end")
+        return If(branches, other)
+
+
+def note_needs(slot):
+    """Notes what a type or a constant needs: the names in its type and value."""
+    if slot.sort == DISC:
+        return
+    exprs = list(slot.type.more) if slot.type.form == "range" else []
+    uses = [slot.type.more] if slot.type.form == "name" else []
+    for expr in exprs + ([] if slot.value is None else [slot.value]):
+        uses += names_in(expr)
+    slot.names = [(use.name, use.at, None) for use in uses]
 
 
 # ---- the rules up to numbers
@@ -204,6 +263,11 @@ def of_initials(source):
 def events_of(source):
     """The slots of the events in the order of their numbers, each with its path."""
     return [(slot, path + (slot.name,)) for path, body in source.components for slot in body.slots if slot.sort == EVENT]
+
+
+def variables_of(source):
+    """The slots of the variables in the order of their numbers, each with its path."""
+    return [(slot, path + (slot.name,)) for path, body in source.components for slot in body.slots if slot.sort == DISC]
 
 
 def denoted(source, body, use):
@@ -225,32 +289,52 @@ def of_alphabets(source):
 
 
 def objects_of(source):
+    """Components, declarations, locations and edges; a literal is none, and each predicate of a declaration is one."""
     automata = source.automata
     edges, places = sum(len(it.edges) for it in automata), sum(len(it.places) for it in automata)
-    return len(source.components) + len(events_of(source)) + edges + places
+    declared = sum(slot.sort in (EVENT, TYPE, CONSTANT, DISC) for _, body in source.components for slot in body.slots)
+    return len(source.components) + declared + source.declared_marks + edges + places
 
 
-# ---- nets: automata and events by their numbers
+# ---- nets: automata, events and variables by their numbers
 
 Event = namedtuple("Event", "path word")
-# An edge of a net: the numbers of its event and of its places.
-Arc = namedtuple("Arc", "event origin target")
+# An edge of a net: the numbers of its event and of its places, its guard, and its updates.
+Arc = namedtuple("Arc", "event origin target guard updates")
 Party = namedtuple("Party", "path places first alphabet monitors arcs")
+Variable = namedtuple("Variable", "path kind range first")
 STAYS = None
 
 
 class Net:
-    """What a source says that breaks no rule on names, initial locations and alphabets."""
+    """What a source says that breaks no rule up to those on instances. A state has the places of all automata, and then the values
+    of all variables."""
 
     def __init__(self, source):
         events = events_of(source)
-        self.source, self.numbers = source, {id(slot): number for number, (slot, _) in enumerate(events)}
+        self.source, self.data, self.numbers = source, Data(source), {id(slot): number for number, (slot, _) in enumerate(events)}
         self.events = [Event(".".join(path), source.class_of[id(slot)]) for slot, path in events]
+        self.variables = [self.variable(slot, path) for slot, path in variables_of(source)]
+        self.meant = self.meanings()
         self.parties = [self.party(automaton) for automaton in source.automata]
+        self.ranges = [(0, party.places - 1) for party in self.parties] + [it.range for it in self.variables]
         self.ways, self.listed, self.steps = [[] for _ in events], {}, {}
         for number, party in enumerate(self.parties):
             for event in party.alphabet:
                 self.ways[event].append((number, self.ways_of(party, event)))
+
+    def variable(self, slot, path):
+        kind, bounds = self.data.kind_of_slot(slot), self.data.range_of(slot.home, slot.type)
+        return Variable(".".join(path), kind, bounds, self.data.first_value(slot))
+
+    def meanings(self):
+        """What a name of a variable or a location stands for: a place in the states, or that of an automaton and the location."""
+        automata = self.source.automata
+        found = {id(slot): len(automata) + number for number, (slot, _) in enumerate(variables_of(self.source))}
+        for number, automaton in enumerate(automata):
+            places = [slot for slot in automaton.body.slots if slot.sort == LOCATION]
+            found.update({id(slot): (number, place) for place, slot in enumerate(places)})
+        return found
 
     def number(self, automaton, use):
         return self.numbers[denoted(self.source, automaton.body, use)]
@@ -260,12 +344,24 @@ class Net:
         monitors = {self.number(automaton, use) for use in automaton.monitors or []}
         if automaton.monitors == []:
             monitors = alphabet
-        arcs = [Arc(self.number(automaton, edge.use), edge.origin,
-                    edge.origin if edge.target is None else automaton.places.index(edge.target)) for edge in automaton.edges]
+        arcs = [self.arc(automaton, edge) for edge in automaton.edges]
         return Party(".".join(automaton.path), len(automaton.places), automaton.initials[0], alphabet, monitors, arcs)
 
+    def arc(self, automaton, edge):
+        target = edge.origin if edge.target is None else automaton.places.index(edge.target)
+        guards = [self.data.resolved(automaton.body, guard, self.meant) for guard in edge.guards]
+        guard = conjunction_of(guards or [Expr("number", (), 1, edge.use.at)])
+        updates = self.data.resolved_updates(automaton.body, edge.updates, self.meant)
+        return Arc(self.number(automaton, edge.use), edge.origin, target, guard, updates)
+
     def initial(self):
-        return tuple(party.first for party in self.parties)
+        return tuple([party.first for party in self.parties] + [it.first for it in self.variables])
+
+    def exprs(self):
+        """The guards, conditions and right sides of all edges."""
+        for party in self.parties:
+            for arc in party.arcs:
+                yield from exprs_of_arc(arc)
 
     # choices
 
@@ -285,11 +381,11 @@ class Net:
         return product if options else 0
 
     def weight(self, event):
-        """What all choices of the event count: each one, its parties, and a guard for each edge that it takes."""
+        """What all choices of the event count: each one, its parties, and the sizes of what the edges that it takes evaluate."""
         options, count = self.options(event), self.count(event)
         if count == 0:
             return 0
-        moves = sum(count // len(ways) * sum(way is not STAYS for way in ways) for _, ways in options)
+        moves = sum(count // len(ways) * sum(sum(map(size, exprs_of_arc(way))) for way in ways if way is not STAYS) for _, ways in options)
         return count * (1 + len(options)) + moves
 
     def choices(self, event):
@@ -306,20 +402,32 @@ class Net:
         """Whether each party moves from where it is, and none stays that could move."""
         for number, arc in choice:
             if arc is STAYS:
-                if any(it.event == event and it.origin == state[number] for it in self.parties[number].arcs):
+                if any(it.event == event and is_ready(it, number, state) for it in self.parties[number].arcs):
                     return False
-            elif arc.origin != state[number]:
+            elif not is_ready(arc, number, state):
                 return False
         return True
+
+    def after(self, choice, state):
+        """The state after a choice that agrees, or None where a value leaves its range. All that is read is the state before."""
+        after = list(state)
+        for number, arc in choice:
+            if arc is STAYS:
+                continue
+            after[number] = arc.target
+            for place, value in assigned(arc.updates, state):
+                lo, hi = self.ranges[place]
+                if not lo <= value <= hi:
+                    return None
+                after[place] = value
+        return tuple(after)
 
     def moves(self, event, state):
         """The states after a step of the event, by its choices in their order."""
         for choice in self.choices(event):
-            if self.agrees(choice, event, state):
-                after = list(state)
-                for number, arc in choice:
-                    after[number] = state[number] if arc is STAYS else arc.target
-                yield tuple(after)
+            after = self.after(choice, state) if self.agrees(choice, event, state) else None
+            if after is not None:
+                yield after
 
     def first_step(self, event, state):
         """The state after the first choice that makes a step, or None."""
@@ -354,15 +462,30 @@ class Net:
 
     def table(self, unc, con, scans):
         """What `replay` writes over so many rows."""
-        lines, state = [",".join(["scan"] + self.variables("P"))], self.initial()
+        lines, state = [",".join(["scan"] + names_of("P", self.parties) + names_of("Q", self.variables))], self.initial()
         for scan in range(1, scans + 1):
             state, _ = self.scan(unc, con, state)
-            lines.append(",".join(map(str, (scan,) + state)))
+            lines.append(",".join([str(scan)] + self.cells(state)))
         return "\n".join(lines + [""])
 
-    def variables(self, letter):
-        """The names of the variables of that letter that hold places."""
-        return ["%s%d_%s" % (letter, number, tidied(party.path)) for number, party in enumerate(self.parties)]
+    def cells(self, state):
+        """The state as a row of a table: truths are words, all else is numbers."""
+        kinds = ["int"] * len(self.parties) + [it.kind for it in self.variables]
+        return [("FALSE", "TRUE")[value] if kind == "bool" else str(value) for kind, value in zip(kinds, state)]
+
+
+def is_ready(arc, number, state):
+    """Whether the edge of that automaton may be taken: it begins where the automaton is, and its guard is so."""
+    return arc.origin == state[number] and evaluated(arc.guard, state) == 1
+
+
+def exprs_of_arc(arc):
+    return [arc.guard] + list(exprs_of(arc.updates))
+
+
+def names_of(letter, things):
+    """The names of the variables of that letter in a program."""
+    return ["%s%d_%s" % (letter, number, tidied(it.path)) for number, it in enumerate(things)]
 
 
 def tidied(path):
@@ -373,7 +496,8 @@ def tidied(path):
 # ---- refusals
 
 NUMBERS = {"BadByte": 1, "NumberTooBig": 2, "OpenComment": 3, "NotRead": 4, "Unknown": 5, "Duplicate": 6, "WrongKind": 7,
-           "DefinitionCycle": 8, "Initials": 11, "AlphabetLacks": 14, "TooManyObjects": 17, "TooLarge": 24, "TooManyChoices": 25,
+           "DefinitionCycle": 8, "Mismatch": 9, "NotConstant": 10, "Initials": 11, "NotOwn": 12, "AssignedTwice": 13, "AlphabetLacks": 14,
+           "TooManyObjects": 17, "ConstantRange": 18, "ZeroDivisor": 20, "TooWide": 21, "TooLarge": 24, "TooManyChoices": 25,
            "Unclassed": 28, "NotBuilt": 30}
 
 
@@ -388,9 +512,17 @@ def of_objects(source):
         yield ("TooManyObjects", ("count", MOST_OBJECTS + 1))
 
 
+def of_widths(net):
+    due = set()
+    for expr in net.exprs():
+        interval(expr, net.ranges, due)
+    return due
+
+
 def of_size(net):
-    if sum(map(net.weight, range(len(net.events)))) > MOST_NODES:
-        yield ("TooLarge", ("nodes", MOST_NODES + 1), ("depth", 0))
+    nodes, deepest = sum(map(net.weight, range(len(net.events)))), max(map(depth, net.exprs()), default=0)
+    if nodes > MOST_NODES or deepest > MOST_DEPTH:
+        yield ("TooLarge", ("nodes", min(nodes, MOST_NODES + 1)), ("depth", min(deepest, MOST_DEPTH + 1)))
 
 
 def of_choices(net):
@@ -400,14 +532,15 @@ def of_choices(net):
 
 def broken(source):
     """The refusals of the first phase in which the source, which is read, breaks a rule, and its net where it breaks none."""
-    for phase in (lambda: names_due(source.root, source.bodies), lambda: of_initials(source),
-                  lambda: list(of_alphabets(source)) + list(of_objects(source))):
+    data = Data(source)
+    for phase in (lambda: names_due(source.root, source.bodies), lambda: list(of_initials(source)) + list(kinds_due(data)),
+                  lambda: list(of_alphabets(source)) + list(of_objects(source)) + list(data.of_ranges())):
         found = set(phase())
         if found:
             return found, None
     net = Net(source)
-    for phase in (of_size, of_choices):
-        found = set(phase(net))
+    for phase in (lambda: list(of_widths(net)) + list(of_size(net)), lambda: of_choices(net)):
+        found = set(phase())
         if found:
             return found, None
     return set(), net

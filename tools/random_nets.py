@@ -1,9 +1,10 @@
-"""Makes random sources of automata without data that synchronise, sound ones and, where faults are asked for, others.
+"""Makes random sources of automata that synchronise, with data and without, sound ones and, where faults are asked for, others.
 
 Names come from a few for each source, so that they shadow one another, and stand as dotted names and as names from the root.
 """
 from plain_names import COMPONENT, EVENT, LOCATION, Body, Slot, found_slot
-from plain_nets import RESERVED, lexed
+from plain_tokens import RESERVED, lexed
+from random_data import DataMaker
 
 # Names of all forms: some are the same but for case, some words of either language, some variables that programs have, some
 # leave nothing when they are tidied, and some are cut.
@@ -13,13 +14,13 @@ NAMES = ["a", "b", "e", "x", "A", "E", "Lamp", "on", "_", "__", "_k1", "__a__b",
 HEADS = ["automaton", "plant", "requirement", "supervisor", "plant automaton", "supervisor automaton"]
 BLANKS = [[""], [" "], ["\n"], [" ", " ", "\n", "\n  "], ["", " ", "\t", "\r\n", " /* edge $ @ ** */ ", " // c /* \n", "/**/"]]
 # Forms of other sources: declarations, what stands in automata alone, in locations, and behind the uses of an edge.
-LATER_ITEMS = ["const int k = 1;", "type t = bool;", "enum c = r, s;", "input bool i;", "alg bool b = true;", "equation k = 1;",
-               "invariant true;", "requirement a needs true;", "plant invariant true;", "marked true;", "group def d(): end",
+LATER_ITEMS = ["const int k = ?;", "type t = int[0..?];", "input bool i;", "alg bool b = true;", "equation k = 1;", "invariant true;",
+               "requirement a needs true;", "plant invariant true;", "marked true, ?;", "group def d(): end",
                "automaton def d(): location; end", "x: d();", "event void m;", "event bool m;", "event a b;",
                "controllable int[0..3] m;"]
-LATER_PARTS = ["disc int n = 0;", "disc bool n;"]
-LATER_ELEMENTS = ["marked true;", "equation k = 1;", "marked a, .b;"]
-LATER_ENDS = ["when true", "do n := 1", "when a, b do n := 1", "do if a: n := 1 end"]
+LATER_PARTS = ["disc int n = ?;", "disc int[0..abs(?)] n;"]
+LATER_ELEMENTS = ["marked not ?;", "equation k = 1;", "marked a, ?;"]
+LATER_ENDS = ["when ?", "do n := ?", "when a, b do n := 1 + ?", "do if ?: n := 1 end"]
 LATER_ROLES = ["!", "! 1", "?"]
 
 
@@ -38,13 +39,15 @@ def spelled_name(parts):
     return ".".join(words)
 
 
-class Maker:
+class Maker(DataMaker):
     """Makes one source. Faults are chances by what is to be wrong: "name", "twice" for one declared twice, "goto", "initials" for
     the initial locations, "alphabet" for it and what is monitored, "class" for an event without one, "later" for a form of other
-    sources."""
+    sources; "kind" of an expression, "constant" for one that names what is none, "own" for a variable of another automaton, "doubly"
+    for one assigned twice, "range" for constants, "divisor" and "wide"."""
 
-    def __init__(self, choose, faults=None):
-        self.choose, self.faults = choose, faults or {}
+    def __init__(self, choose, faults=None, has_data=False):
+        self.choose, self.faults, self.has_data = choose, faults or {}, has_data
+        self.enums, self.types, self.constants, self.variables, self.locations = [], [], [], [], []
         self.names = choose.sample(NAMES, choose.randint(5, 12))
         self.root = Scope(None, None, False)
         self.groups, self.automata, self.events = [self.root], [], []
@@ -86,10 +89,11 @@ class Maker:
             self.scope(False)
         for _ in range(self.choose.choice([0, 1, 1, 2, 2, 2, 3, 3, 4, 5])):
             self.scope(True)
-        for _ in range(self.choose.choice([0, 1, 2, 2, 3, 3, 4, 5, 7])):
+        for _ in range(self.choose.choice([1, 1, 2, 2, 3] if self.has_data else [0, 1, 2, 2, 3, 3, 4, 5, 7])):
             self.event()
         for automaton in self.automata:
             self.declare_places(automaton)
+        self.data()
         for scope in self.groups + self.automata:
             self.choose.shuffle(scope.items)
             if self.fails("later"):
@@ -103,7 +107,8 @@ class Maker:
             return
         for _ in range(count):
             automaton.places.append(self.fresh(automaton.body))
-            automaton.body.slots.append(Slot(automaton.places[-1], 0, LOCATION))
+            slot = self.declared(automaton, LOCATION, "bool", automaton.places[-1])
+            self.locations.append(slot)
 
     # ---- names
 
@@ -131,6 +136,13 @@ class Maker:
     def exact_names(self, body, slots):
         return ", ".join(self.event_name(body, slot, True)[0] for slot in slots)
 
+    def exact(self, body, slot):
+        """A name that finds the slot."""
+        return spelled_name(self.choose.choice(self.ways(body, slot, True)))
+
+    def spelled(self, parts):
+        return spelled_name(parts)
+
     # ---- the text
 
     def items(self, scope):
@@ -146,7 +158,7 @@ class Maker:
             elif isinstance(item, Scope):
                 text += self.component(item)
             elif item is not None:
-                text += item + " "
+                text += (item() if callable(item) else item) + " "
         return text
 
     def component(self, scope):
@@ -160,6 +172,8 @@ class Maker:
         initials = self.choose.sample(range(count), self.choose.randint(0, count) if self.fails("initials") else 1)
         for number, place in enumerate(scope.places):
             elements = [self.choose.choice(["initial;", "initial;", "initial true;", "initial; initial;"])] * (number in initials)
+            if self.has_data and self.maybe(0.05):
+                elements.append("marked %s;" % ", ".join(self.conditions(scope.body)))
             elements += ["marked;"] * self.maybe(0.2) + [self.choose.choice(LATER_ELEMENTS)] * self.fails("later")
             elements += [self.edge(scope, used, found) for _ in range(self.choose.choice([0, 1, 1, 2, 2, 3])) if used]
             if self.maybe(0.2):
@@ -185,6 +199,8 @@ class Maker:
         text = "edge " + ", ".join(uses)
         if self.fails("later"):
             text += " " + self.choose.choice(LATER_ENDS)
+        else:
+            text += self.end_of_edge(scope)
         targets = [place for place in scope.places if place is not None]
         if self.fails("goto"):
             targets = self.names
