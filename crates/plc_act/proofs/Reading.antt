@@ -17,7 +17,7 @@ use Rattle.plc_face.specs.Names.{name_for}
 use Rattle.plc_face.specs.Face.{StateOf, place_face}
 use Rattle.plc_face.proofs.FaceLaws.{get_or-of}
 use Rattle.plc_gen.specs.Faces.{auto_face, face_of_net, stored_face}
-use Rattle.plc_gen.specs.Tests.{place_name}
+use Rattle.plc_gen.specs.Places.{place_name}
 use Rattle.plc_gen.proofs.Making.{face-at}
 use Rattle.plc_gen.proofs.Moving.{faces}
 use Rattle.plc_gen.proofs.Writing.{hold-at}

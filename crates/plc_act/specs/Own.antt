@@ -14,7 +14,7 @@ use Rattle.plc_face.specs.declared.letter.Letter.TheVariants as letter
 use Rattle.plc_face.specs.Names.{name_for}
 use Rattle.plc_face.specs.Face.{VariableFace}
 use Rattle.plc_gen.specs.Faces.{st_type}
-use Rattle.plc_gen.specs.Tests.{old_naming}
+use Rattle.plc_gen.specs.Places.{is_in_place}
 use Rattle.plc_expr.specs.Texts.{Naming, temps}
 use Rattle.plc_expr.specs.Sorts.{own_types}
 use Rattle.plc_act.specs.Writes.{NewNames, is_tested, any_tested, updates_temps}
@@ -113,7 +113,7 @@ first_if n cs j = j + length (range_faces n cs) + length (event_vars cs)
 -- names before a step; the received value has a name of its own, and an own variable of an expression that of its number
 abbrev pub data_naming : Net → Text → Naming
 data_naming n received = record {
-  located = (old_naming n).located;
+  located = is_in_place n;
   variable = variable_name n;
   input = input_name n;
   received = received;

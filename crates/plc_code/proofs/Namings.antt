@@ -8,7 +8,7 @@ use Rattle.plc_face.specs.declared.letter.Letter.{Letter}
 use Rattle.plc_face.specs.declared.letter.Letter.TheVariants as letter
 use Rattle.plc_face.specs.Frame.{fired}
 use Rattle.plc_face.specs.Names.{name_for}
-use Rattle.plc_gen.specs.Tests.{path_in}
+use Rattle.plc_gen.specs.Places.{path_in}
 use Rattle.plc_expr.specs.Written.{located_text, name_at, naming_of}
 use Rattle.plc_expr.specs.declared.names.Names.{Names}
 use Rattle.plc_expr.specs.declared.names.PlaceText.{PlaceText}

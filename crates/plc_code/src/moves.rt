@@ -6,7 +6,7 @@ ghost use Rattle.cif_net.specs.View.{net_tree, move_tree};
 ghost use Rattle.st_ast.specs.Tree.{assign, no_stms, number, truth};
 ghost use Rattle.st_ast.specs.View.{view_stmt, view_stmts};
 ghost use Rattle.plc_gen.specs.Events.{move_text, moves_text, target_of};
-ghost use Rattle.plc_gen.specs.Tests.{place_name};
+ghost use Rattle.plc_gen.specs.Places.{place_name};
 ghost use Rattle.plc_code.specs.Making as m;
 
 use cif_base::{Boxed, Items, Memory, Text};

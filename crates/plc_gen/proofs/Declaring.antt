@@ -5,7 +5,7 @@ use Rattle.std.specs.Prelude.{IsTrue, int_le, nat_le, option_map, slice_get, if�
 use Rattle.std.specs.List.{AllByRecursion, AllZip, enumerate_from, list_any}
 use Rattle.std.proofs.lemmas.Int.{ints}
 use Rattle.std.proofs.lemmas.Bool.Decides.{nat_tests}
-use Rattle.std.proofs.lemmas.List.{append_assoc, map-append}
+use Rattle.std.proofs.lemmas.List.{append_assoc}
 use Rattle.std.proofs.lemmas.List.Folds.{list_any-append}
 use Rattle.grammar.specs.Pieces.{Text}
 use Rattle.cif_system.specs.System.{in_range}
@@ -13,7 +13,7 @@ use Rattle.cif_system.proofs.Lists.{none-some, some-same}
 use Rattle.cif_system.proofs.Picks.{and-left, and-right}
 use Rattle.st_ast.specs.Tree.{Program}
 use Rattle.st_ast.specs.Names.{declared, place_of, same_name}
-use Rattle.st_ast.specs.Values.{Memory, is_true, of_bool}
+use Rattle.st_ast.specs.Values.{is_true, of_bool}
 use Rattle.st_ast.specs.Scan.{first_of, first_or, start_memory, value_of_literal}
 use Rattle.st_ast.specs.Checks.{CheckFault, duplicate, init_range, is_type, starts_well, unless, variable_faults, variables_faults}
 use Rattle.st_ast.specs.Spelled.{are_declarations, is_first_spelled}
@@ -30,7 +30,7 @@ use Rattle.plc_face.specs.Names.{name_for}
 use Rattle.plc_face.specs.Face.{VariableFace, HoldsAt, head_of, declaration, declarations, literal_of, range_of}
 use Rattle.plc_face.proofs.NameLaws.{letters-differ, names-differ}
 use Rattle.plc_face.proofs.FaceLaws.{same_name-self, Typed}
-use Rattle.plc_gen.specs.Emitted.{Block, block_variables, variables_of}
+use Rattle.plc_gen.specs.Variables.{Block, variables_of}
 use Rattle.plc_gen.specs.Given.{Section, all_variables}
 use Rattle.plc_gen.proofs.Choosing.{filter-append}
 use Rattle.plc_gen.proofs.Writing.{name_of}
@@ -248,26 +248,6 @@ starts-held p l k (x ∷ xs) sound all = (
   },
   starts-held p l (k + 1) xs sound.1 all.1,
 )
-
-typed-append : (us vs : List StVar) (m w : Memory) → Typed us m → Typed vs w → Typed (us ++ vs) (m ++ w)
-typed-append [] vs [] w h g = g
-typed-append [] vs (z ∷ m) w h g = absurd h
-typed-append (u ∷ us) vs [] w h g = absurd h
-typed-append (u ∷ us) vs (z ∷ m) w h g = (h.0, typed-append us vs m w h.1 g)
-
-block-typed : (l : Letter) (c : StClass) (k : ℕ) (xs : List VariableFace) → AllSound xs → Typed (map (declaration l c) (enumerate_from k xs)) (map first_of (map (declaration l c) (enumerate_from k xs)))
-block-typed l c k [] sound = tt
-block-typed l c k (x ∷ xs) sound = (
-  subst (λ z. IsTrue (in_range (range_of x.ty) z)) (sym (literal-is x.ty x.first sound.0.first)) sound.0.first,
-  block-typed l c (k + 1) xs sound.1,
-)
-
--- and each is in its type
-pub starts-typed : (bs : List Block) → AreBlocks bs → Typed (variables_of bs) (map first_of (variables_of bs))
-starts-typed [] h = tt
-starts-typed (b ∷ bs) h =
-    subst (λ m. Typed (variables_of (b ∷ bs)) m) (sym (map-append first_of (block_variables b) (variables_of bs)))
-    (typed-append (block_variables b) (variables_of bs) (map first_of (block_variables b)) (map first_of (variables_of bs)) (block-typed b.letter b.class 0 b.faces h.2) (starts-typed bs h.3))
 
 -- a variable that breaks no check and has a spelling starts in its type
 starts-in : (t : StTy) (o : Option StLit) → is_type t ≡ true → starts_well t o ≡ true → is_first_spelled o ≡ true → IsTrue (in_range (range_of t) (first_or t o))

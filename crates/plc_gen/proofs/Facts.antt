@@ -1,9 +1,10 @@
 -- What a net keeps, as far as its program needs it.
-use Rattle.std.proofs.Common.{◌≡◌, ℕ, suc, ◌-◌, ◌^◌, ◌<◌, ◌≤◌, ℤ, pos, Bool, true, false, ◌&&◌, List, [], ◌∷◌, map, length, Some, refl, sym, ap, subst, ◌∙◌, arith, le-leb}
-use Rattle.std.specs.Prelude.{IsTrue, ◌-ℤ◌, int_le, nat_eq, nat_le, nat_lt, slice_get}
-use Rattle.std.specs.List.{AllByRecursion, AllZip, list_all}
+use Rattle.std.proofs.Common.{◌≡◌, ℕ, zero, suc, ◌+◌, ◌-◌, ◌^◌, ◌<◌, ◌≤◌, ℤ, pos, Bool, true, false, ◌&&◌, List, [], ◌∷◌, map, length, Some, refl, sym, ap, subst, ◌∙◌, arith, le-leb}
+use Rattle.std.specs.Prelude.{IsTrue, ◌-ℤ◌, int_le, nat_eq, nat_le, nat_lt, slice_get, sum}
+use Rattle.std.specs.List.{AllZip, list_all}
 use Rattle.std.proofs.lemmas.Int.{ints}
 use Rattle.std.proofs.lemmas.Bool.Decides.{nat_tests}
+use Rattle.std.proofs.lemmas.List.Sums.{sum_by-cons}
 use Rattle.cif_base.specs.declared.types.Ty.{Ty}
 use Rattle.cif_base.specs.declared.types.Ty.TheVariants as t
 use Rattle.cif_system.specs.System.{AllFit, Automaton, Edge, EndsInside, IsState, Range, State, Stored, in_range, initial}
@@ -13,16 +14,13 @@ use Rattle.cif_model.specs.Net.{NetAlg, NetAuto, NetEdge, NetInvariant, NetStore
 use Rattle.cif_model.specs.Meaning.{automaton_in, defined_value, edge_meant, invariant_in, stored_in, system_of_net, type_range}
 use Rattle.cif_model.specs.Facts as facts
 use Rattle.cif_model.specs.Facts.{alg_stands, are_all_apart, auto_stands, auto_targets, edge_stands, exclusion_stands, invariant_stands, is_net, stored_stands, things}
-use Rattle.cif_model.specs.Listing.{NetChoice}
-use Rattle.cif_model.specs.Table.{IsGuarded}
+use Rattle.cif_model.specs.Kinds.{places_of}
 use Rattle.st_ast.specs.Checks.{is_type}
+use Rattle.st_ast.specs.Tokens.{greatest}
 use Rattle.st_ast.specs.declared.tree.StTy.TheVariants as ty
 use Rattle.plc_face.specs.Face.{AutomatonFace, VariableFace, IsFaceOf, range_of, stored_of}
 use Rattle.plc_gen.specs.Faces.{alg_face_of, auto_face, face_of_net, st_type, stored_face}
-use Rattle.plc_gen.specs.Makes.{is_tested}
-use Rattle.plc_gen.proofs.Choosing.{all-of}
 use Rattle.plc_gen.proofs.Declaring.{AllSound}
-use Rattle.plc_gen.proofs.Making.{Simple}
 use Rattle.plc_gen.proofs.Moving.{EndsWithin, faces}
 
 -- ---- the tests of a net
@@ -58,6 +56,28 @@ standing n h =
       inputs = parts.1;
       vars = parts.2;
     }
+
+-- no automaton has more places than all have locations and edges
+places-below : (xs : List NetAuto) (k : ℕ) → places_of (slice_get xs k) ≤ sum (map (λ (a : NetAuto). length a.locs + length a.edges) xs)
+places-below [] k = omega arith
+places-below (a ∷ xs) zero =
+    let s : sum (map (λ (b : NetAuto). length b.locs + length b.edges) (a ∷ xs)) ≡ length a.locs + length a.edges + sum (map (λ (b : NetAuto). length b.locs + length b.edges) xs) =
+    sum_by-cons (λ x. x) (length a.locs + length a.edges) (map (λ (b : NetAuto). length b.locs + length b.edges) xs) in
+    let here : places_of (slice_get (a ∷ xs) 0) ≡ length a.locs = refl in
+    omega (arith, s, here)
+places-below (a ∷ xs) (suc k) =
+    let s : sum (map (λ (b : NetAuto). length b.locs + length b.edges) (a ∷ xs)) ≡ length a.locs + length a.edges + sum (map (λ (b : NetAuto). length b.locs + length b.edges) xs) =
+    sum_by-cons (λ x. x) (length a.locs + length a.edges) (map (λ (b : NetAuto). length b.locs + length b.edges) xs) in
+    let r : places_of (slice_get (a ∷ xs) (suc k)) ≤ sum (map (λ (b : NetAuto). length b.locs + length b.edges) xs) = places-below xs k in
+    omega (arith, s, r)
+
+-- no automaton has more places than there are literals
+pub few-places : (n : Net) → is_net n ≡ true → (k : ℕ) → places_of (slice_get n.autos k) ≤ greatest
+few-places n h k =
+    let size : nat_le (things n) 100000 ≡ true = and-left _ _ (and-left _ _ (and-left _ _ (and-left _ _ (and-left _ _ (and-left _ _ (and-left _ _ (and-left _ _ h))))))) in
+    let few : things n ≤ 100000 = grind (arith, nat_tests) in
+    let one = places-below n.autos k in
+    omega (arith, few, one)
 
 below-tested : (j k : ℕ) → nat_lt j k ≡ true → j < k
 below-tested j k h = grind (arith, nat_tests)
@@ -200,7 +220,7 @@ fit-values [] (z ∷ zs) h = absurd h
 fit-values (v ∷ xs) [] h = absurd h
 fit-values (v ∷ xs) (z ∷ zs) h = (fit-type v.type_of z h.0, fit-values xs zs h.1)
 
--- ---- choices
+-- ---- what there is none of
 
 pub none-of : {A : Type 0} (xs : List A) → nat_eq (length xs) 0 ≡ true → xs ≡ []
 none-of [] h = refl
@@ -211,14 +231,3 @@ none-of (x ∷ xs) h = absurd (some-length (length xs) h)
 
 pub meets-all : (n : Net) → n.invariants ≡ [] → (s : State) → meets_invariants (system_of_net n) s ≡ true
 meets-all n none s = ap (λ (is : List NetInvariant). list_all (λ (f : State → Bool). f s) (map (invariant_in n) is)) none
-
-pub all-simple : (n : Net) (cs : List NetChoice) → IsGuarded n cs → list_all (is_tested n) cs ≡ true → AllByRecursion (Simple n) cs
-all-simple n cs g h = all-of (Simple n) cs (λ k c at.
-    let tested : is_tested n c ≡ true = all-at (is_tested n) cs k c h at in
-    record {
-      parties = g.parties k c at;
-      tests = λ s. g.tests k c s at;
-      values = λ s. g.values k c s at;
-      direct = and-left _ _ tested;
-      told = and-right _ _ tested;
-    })

@@ -32,8 +32,8 @@ use Rattle.plc_face.proofs.FaceLaws.{Kept, Typed, pairwise-length, state-kept}
 use Rattle.plc_face.proofs.Framed.{framed-scans}
 use Rattle.plc_face.proofs.Latches.{checked-differ}
 use Rattle.plc_gen.specs.Faces.{alg_face_of, auto_face, face_of_net, stored_face}
-use Rattle.plc_gen.specs.Tests.{place_name}
-use Rattle.plc_gen.specs.Emitted.{mark_and_counter, all_shown_by, outputs_of}
+use Rattle.plc_gen.specs.Places.{place_name}
+use Rattle.plc_gen.specs.Variables.{mark_and_counter, all_shown_by, outputs_of}
 use Rattle.plc_gen.specs.Given.{Section, program_with, sections_of}
 use Rattle.plc_gen.specs.Makes.{Makes}
 use Rattle.plc_gen.proofs.Moving.{faces}

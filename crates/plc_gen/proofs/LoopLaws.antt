@@ -1,26 +1,20 @@
--- The steps of the loops over events and over parts of a test.
-use Rattle.std.proofs.Common.{◌≡◌, ℕ, ◌+◌, ◌<◌, ◌≤◌, Bool, true, false, List, [], ◌∷◌, ◌++◌, map, length, get_or, drop, refl, sym, ap, ◌∙◌}
-use Rattle.std.specs.Prelude.{IsTrue, ◌↔◌, if◌then◌else◌}
-use Rattle.std.proofs.lemmas.List.{append-nil, append_assoc, drop_more, drop_all, map-append}
+-- The steps of the loops over moves and over events.
+use Rattle.std.proofs.Common.{◌≡◌, ℕ, ◌+◌, ◌<◌, ◌≤◌, Bool, true, false, List, ◌∷◌, ◌++◌, map, length, get_or, drop, sym, ap, ◌∙◌}
+use Rattle.std.specs.Prelude.{if◌then◌else◌}
+use Rattle.std.proofs.lemmas.List.{drop_more, drop_all}
 use Rattle.cif_system.specs.System.{Class}
 use Rattle.cif_system.specs.Step.{same_class}
-use Rattle.cif_term.specs.declared.expressions.NetExpr.{NetExpr}
-use Rattle.cif_term.specs.View.{view, view_exprs}
 use Rattle.cif_model.specs.Net as n
 use Rattle.cif_net.specs.declared.events.Event.{Event}
 use Rattle.cif_net.specs.declared.listing.Move.{Move}
 use Rattle.cif_net.specs.View.{class_of, event_tree, move_tree}
-use Rattle.st_ast.specs.Tree.{Expr, Stms, append, assign, truth, choice, no_other, no_stms, stms}
-use Rattle.st_ast.specs.View.{view_branches, view_expr, view_stmt, view_stmts}
-use Rattle.st_ast.specs.declared.tree.StExpr.{StExpr}
-use Rattle.st_ast.specs.declared.tree.StBranch.{StBranch}
+use Rattle.st_ast.specs.Tree.{Stms, append, no_stms}
+use Rattle.st_ast.specs.View.{view_stmts}
 use Rattle.st_ast.specs.declared.tree.Stmt.{Stmt}
-use Rattle.plc_face.specs.Frame.{fired}
-use Rattle.plc_gen.specs.Events.{marks, move_text, moves_text}
-use Rattle.plc_gen.specs.Tests.{Naming, said, says, text, texts}
-use Rattle.plc_gen.specs.Tries.{class_bodies, first_body, one_try, other_bodies}
+use Rattle.plc_gen.specs.Events.{move_text, moves_text}
+use Rattle.plc_gen.specs.Tries.{class_bodies, first_body, other_bodies}
 use Rattle.plc_gen.proofs.Building.{append-assoc, append-none, view_append}
-use Rattle.plc_gen.proofs.TryLaws.{moves-next, moves_append}
+use Rattle.plc_gen.proofs.TryLaws.{moves-next}
 
 drop-item : {A : Type 0} (xs : List A) (i : ℕ) (x : A) → i < length xs → x ≡ get_or xs i x → drop i xs ≡ x ∷ drop (i + 1) xs
 drop-item xs i x within item = drop_more xs i x within ∙ ap (λ y. y ∷ drop (i + 1) xs) (sym item)
@@ -44,17 +38,6 @@ pub moves-done : (net : n.Net) (steps : List Move) (i : ℕ) (all : List Stmt) �
     → append (view_stmts all) (moves_text net (map move_tree (drop i steps)) no_stms) ≡ view_stmts all
 moves-done net steps i all past =
     ap (λ (ms : List Move). append (view_stmts all) (moves_text net (map move_tree ms) no_stms)) (drop_all i steps past) ∙ append-none (view_stmts all)
-
--- the moves, and then the mark
-pub moves-marked : (net : n.Net) (steps made : List Move) (a all : List Stmt) (s : Stmt) → view_stmts a ≡ moves_text net (map move_tree steps) no_stms → steps ≡ made → view_stmt s ≡ assign fired (truth true)
-    → all ≡ a ++ s ∷ [] → view_stmts all ≡ moves_text net (map move_tree made) marks
-moves-marked net steps made a all s a_is same s_is all_is =
-    ap (λ (ss : List Stmt). view_stmts ss) all_is
-    ∙ view_append a (s ∷ [])
-    ∙ ap (λ ss. append ss (stms (view_stmt s) no_stms)) a_is
-    ∙ ap (λ y. append (moves_text net (map move_tree steps) no_stms) (stms y no_stms)) s_is
-    ∙ moves_append net (map move_tree steps) marks
-    ∙ ap (λ (ms : List Move). moves_text net (map move_tree ms) marks) same
 
 -- ---- events
 
@@ -91,38 +74,3 @@ pub bodies-done : (k : Class) (es : List Event) (i : ℕ) (all : List Stmt) (bod
     → append (view_stmts all) (class_bodies k (map event_tree (drop i es)) bodies) ≡ view_stmts all
 bodies-done k es i all bodies past =
     ap (λ (xs : List Event). append (view_stmts all) (class_bodies k (map event_tree xs) bodies)) (drop_all i es past) ∙ append-none (view_stmts all)
-
--- a try where there is a branch
-pub try-made : (bs : List StBranch) (b : Bool) (s : Stmt) (ss : List Stmt) → (IsTrue b ↔ (bs ≡ [])) → b ≡ false → view_stmt s ≡ choice (view_branches bs) no_other → ss ≡ s ∷ []
-    → view_stmts ss ≡ one_try (view_branches bs)
-try-made [] b s ss h not e is = let t : IsTrue b = h.1 refl in absurd cc
-try-made (x ∷ bs) b s ss h not e is = ap (λ (xs : List Stmt). view_stmts xs) is ∙ ap (λ y. stms y no_stms) e
-
--- ---- parts of a test
-
-said-more : (e : Expr) (es : List Expr) → said e [] ++ es ≡ said e es
-said-more e es = go (says e)
-  where
-    go : (t : Bool) → (if t then e ∷ [] else []) ++ es ≡ (if t then e ∷ es else es)
-    go true = refl
-    go false = refl
-
-texts-head : (w : Naming) (parts : List NetExpr) (i : ℕ) (x : NetExpr) → i < length parts → x ≡ get_or parts i x
-    → texts w (view_exprs (drop i parts)) ≡ said (text w (view x)) (texts w (view_exprs (drop (i + 1) parts)))
-texts-head w parts i x within item = ap (λ (xs : List NetExpr). texts w (view_exprs xs)) (drop-item parts i x within item)
-
--- what is written for a part goes from what is left to what is done
-pub texts-added : (w : Naming) (parts : List NetExpr) (i : ℕ) (x : NetExpr) (all one new : List StExpr) → i < length parts → x ≡ get_or parts i x → map view_expr one ≡ said (text w (view x)) []
-    → new ≡ all ++ one → map view_expr new ++ texts w (view_exprs (drop (i + 1) parts)) ≡ map view_expr all ++ texts w (view_exprs (drop i parts))
-texts-added w parts i x all one new within item one_is new_is =
-    let rest = texts w (view_exprs (drop (i + 1) parts)) in
-    ap (λ (xs : List StExpr). map view_expr xs ++ rest) new_is
-    ∙ ap (λ xs. xs ++ rest) (map-append view_expr all one)
-    ∙ append_assoc (map view_expr all) (map view_expr one) rest
-    ∙ ap (λ xs. map view_expr all ++ (xs ++ rest)) one_is
-    ∙ ap (λ xs. map view_expr all ++ xs) (said-more (text w (view x)) rest)
-    ∙ ap (λ xs. map view_expr all ++ xs) (sym (texts-head w parts i x within item))
-
--- where no part is left, all is done
-pub texts-done : (w : Naming) (parts : List NetExpr) (i : ℕ) (all : List StExpr) → length parts ≤ i → map view_expr all ++ texts w (view_exprs (drop i parts)) ≡ map view_expr all
-texts-done w parts i all past = ap (λ (xs : List NetExpr). map view_expr all ++ texts w (view_exprs xs)) (drop_all i parts past) ∙ append-nil (map view_expr all)

@@ -1,15 +1,14 @@
 -- What the statements of an event do whose choices need a mark of the event's own: the first choice that is made sets it, and
 -- those after it are skipped. What one choice does is a premise, so choices with values and invariants come under it too.
-use Rattle.std.proofs.Common.{◌≡◌, ℕ, ◌^◌, ◌<◌, ◌≤◌, ℤ, pos, Bool, true, false, not, List, [], ◌∷◌, map, find, length, Option, Some, None, Ok, get_or, cond, inr, refl, sym, ap, subst, ◌∙◌, arith}
-use Rattle.std.specs.Prelude.{IsTrue, codes, slice_set, option_map, if◌then◌else◌}
+use Rattle.std.proofs.Common.{◌≡◌, ℕ, ◌^◌, ◌<◌, ◌≤◌, ℤ, pos, Bool, true, false, not, List, [], ◌∷◌, map, length, Option, Some, None, Ok, get_or, inr, refl, sym, ap, subst, ◌∙◌, arith}
+use Rattle.std.specs.Prelude.{IsTrue, codes, slice_set, if◌then◌else◌}
 use Rattle.std.specs.List.{AllByRecursion}
 use Rattle.std.proofs.lemmas.List.{get_or-set_same, get_or-set_other}
 use Rattle.grammar.specs.Pieces.{Text}
 use Rattle.cif_system.specs.System.{State, in_range}
-use Rattle.cif_system.specs.Step.{after, makes_step}
+use Rattle.cif_system.specs.Step.{after}
 use Rattle.cif_model.specs.Net.{Net}
 use Rattle.cif_model.specs.Meaning.{system_of_net}
-use Rattle.cif_model.specs.Listing.{NetChoice}
 use Rattle.st_ast.specs.Tree.{Expr, Program, Stm, Stms, append, assign, branches, choice, complement, named, no_branches, no_other, no_stms, stms, truth}
 use Rattle.st_ast.specs.Names.{place_of, same_name}
 use Rattle.st_ast.specs.Values.{Memory, is_true, of_bool, value_of, with_value}
@@ -22,14 +21,12 @@ use Rattle.plc_face.specs.declared.letter.Letter.TheVariants as letter
 use Rattle.plc_face.specs.Names.{name_for}
 use Rattle.plc_face.specs.Face.{IsDeclared, range_of}
 use Rattle.plc_face.specs.Frame.{Follows, Stands, WritesOnly, fired, mark_in, writable}
-use Rattle.plc_face.proofs.NameLaws.{false-true, letters-differ, names-differ}
-use Rattle.plc_face.proofs.FaceLaws.{Typed, below, declared-of, declared-type, pairwise-length, places-differ, same_name-sym, set-keeps, state-kept, typed-written}
+use Rattle.plc_face.proofs.NameLaws.{letters-differ, names-differ}
+use Rattle.plc_face.proofs.FaceLaws.{Typed, below, declared-of, declared-type, pairwise-length, places-differ, set-keeps, state-kept, typed-written}
 use Rattle.plc_gen.specs.Faces.{face_of_net}
-use Rattle.plc_gen.specs.Tests.{old_naming, text}
-use Rattle.plc_gen.specs.Events.{Written, marks, marks_with, moves_text, parts_text, tested, unless_done, written_of}
-use Rattle.plc_gen.proofs.Choosing.{choice_in}
+use Rattle.plc_gen.specs.Events.{Written, marks_with, parts_text, tested, unless_done}
 use Rattle.plc_gen.proofs.Writing.{Among, writes-none, writes-one, writes-then}
-use Rattle.plc_gen.proofs.Making.{Closed, Does, Ready, Simple, fired_is, marks-close, marks-last, moves-done, tests-hold, took, took-last}
+use Rattle.plc_gen.proofs.Making.{Does, fired_is}
 
 -- the first of two
 abbrev pub or_else : {A : Type 0} → Option A → Option A → Option A
@@ -170,9 +167,6 @@ module _ (n : Net) (p : Program) (own : List Text) (done : Text) where
 -- ---- an event with a mark of its own
 
 module _ (n : Net) (p : Program) (own : List Text) (j : ℕ) (path : Text) (above : 2 ≤ j) (small : j < 2 ^ 32) where
-  abbrev mark_name : Text
-  mark_name = name_for letter.T j path
-
   module _ (is : IsDeclared p.vars (name_for letter.T j path) ty.Bool) (mark : IsDeclared p.vars fired ty.Bool) (among : Among (name_for letter.T j path) (writable (face_of_net n) own)) where
     -- the two marks are two variables
     apart : same_name (name_for letter.T j path) fired ≡ false
@@ -214,70 +208,3 @@ module _ (n : Net) (p : Program) (own : List Text) (j : ℕ) (path : Text) (abov
           typed = d.does.typed;
           follows = follows-on n p own (name_for letter.T j path) (first_of fs s) m cleared d.does.after s (mark-kept false m) d.does.follows;
         }
-
-    -- ---- a choice that needs its test alone
-
-    module _ (ready : Ready n p) where
-      -- the event's mark before the other
-      both-close : (k : ℕ) (m : Memory) → Typed p.vars m → Closed n p ready own (marks_with (name_for letter.T j path)) k m
-      both-close k m typed =
-          let set : Memory = slice_set m (place_of p.vars (name_for letter.T j path)) (pos 1) in
-          let c = marks-close n p ready own k set (typed-written p.vars m (name_for letter.T j path) ty.Bool (pos 1) is refl typed) in
-          record {
-            after = c.after;
-            ends = cons_runs p.vars (assign (name_for letter.T j path) (truth true)) marks k k m set (set-runs true k m) ∙ c.ends;
-            writes = writes-then (writable (face_of_net n) own) p.vars m set c.after (writes-one (writable (face_of_net n) own) p.vars m (name_for letter.T j path) (pos 1) among) c.writes;
-            typed = c.typed;
-            kept = λ l other i way t at. c.kept l other i way t at ∙ set-keeps p m (name_for letter.T j path) (pos 1) l (λ i way. letters-differ l letter.T i j way path other) i way t at;
-            mark = c.mark;
-          }
-
-      both-tick : (k : ℕ) (m : Memory) (typed : Typed p.vars m) → get_or (both-close k m typed).after (place_of p.vars (name_for letter.T j path)) (pos 0) ≡ pos 1
-      unfolding both-close
-      both-tick k m typed =
-          let f = declared-of p.vars fired ty.Bool mark in
-          ap (λ a. get_or a (place_of p.vars (name_for letter.T j path)) (pos 0))
-          (marks-last n p ready own k (slice_set m (place_of p.vars (name_for letter.T j path)) (pos 1)) (typed-written p.vars m (name_for letter.T j path) ty.Bool (pos 1) is refl typed))
-          ∙ get_or-set_other (slice_set m (place_of p.vars (name_for letter.T j path)) (pos 1)) (place_of p.vars fired) (place_of p.vars (name_for letter.T j path)) (pos 1) (pos 0)
-          (λ e. places-differ p.vars fired (name_for letter.T j path) f.variable f.at (other-way (same_name fired (name_for letter.T j path)) refl) (sym e))
-          ∙ get_or-set_same m (place_of p.vars (name_for letter.T j path)) (pos 1) (pos 0) (within m typed)
-        where
-          other-way : (b : Bool) → same_name fired (name_for letter.T j path) ≡ b → b ≡ false
-          other-way false e = refl
-          other-way true e = false-true (same_name (name_for letter.T j path) fired) apart (same_name-sym fired (name_for letter.T j path) e)
-
-      -- what the choice offers
-      abbrev pub offer_of : NetChoice → Offer
-      offer_of c = record {
-        written = written_of n c;
-        made = λ s. if makes_step (system_of_net n) s c.event (choice_in n c) then Some (after (system_of_net n) s (choice_in n c)) else None;
-      }
-
-      pub offers : (c : NetChoice) → Simple n c → Offers n p own (name_for letter.T j path) (offer_of c)
-      offers c h k m s st none =
-          tested_does n p own (name_for letter.T j path) (text (old_naming n) c.test) (moves_text n c.moves (marks_with (name_for letter.T j path))) (makes_step (system_of_net n) s c.event (choice_in n c))
-          (Some (after (system_of_net n) s (choice_in n c))) k m s (tests-hold n p c m s h ready.none st) st act
-        where
-          act : makes_step (system_of_net n) s c.event (choice_in n c) ≡ true
-              → Chosen n p own (name_for letter.T j path) (Some (after (system_of_net n) s (choice_in n c))) (exec p.vars (moves_text n c.moves (marks_with (name_for letter.T j path))) k m) k m s
-          act makes =
-              let all = moves-done n p ready own c k m s h st (marks_with (name_for letter.T j path)) in
-              record {
-                does = took n p ready own c k m s h st (marks_with (name_for letter.T j path)) (both-close k all.after all.typed) makes;
-                ticks = ap (λ a. get_or a (place_of p.vars (name_for letter.T j path)) (pos 0)) (took-last n p ready own c k m s h st (marks_with (name_for letter.T j path)) (both-close k all.after all.typed) makes)
-                    ∙ both-tick k all.after all.typed;
-              }
-
-      -- the first of the offers is that of the choices that makes a step
-      pub first-made : (cs : List NetChoice) (s : State) (e : ℕ) → AllByRecursion (λ (c : NetChoice). c.event ≡ e) cs
-          → first_of (map offer_of cs) s ≡ option_map (after (system_of_net n) s) (find (makes_step (system_of_net n) s e) (map (choice_in n) cs))
-      first-made [] s e same = refl
-      first-made (c ∷ cs) s e same =
-          ap (λ i. or_else (if makes_step (system_of_net n) s i (choice_in n c) then Some (after (system_of_net n) s (choice_in n c)) else None) (first_of (map offer_of cs) s)) same.0
-          ∙ pick (makes_step (system_of_net n) s e (choice_in n c)) (first-made cs s e same.1)
-        where
-          pick : (b : Bool) → first_of (map offer_of cs) s ≡ option_map (after (system_of_net n) s) (find (makes_step (system_of_net n) s e) (map (choice_in n) cs))
-              → or_else (if b then Some (after (system_of_net n) s (choice_in n c)) else None) (first_of (map offer_of cs) s)
-              ≡ option_map (after (system_of_net n) s) (cond b (Some (choice_in n c)) (find (makes_step (system_of_net n) s e) (map (choice_in n) cs)))
-          pick true rest = refl
-          pick false rest = rest

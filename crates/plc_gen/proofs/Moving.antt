@@ -23,7 +23,7 @@ use Rattle.plc_face.specs.Frame.{WritesOnly}
 use Rattle.plc_face.proofs.NameLaws.{names-differ}
 use Rattle.plc_face.proofs.FaceLaws.{slice_get-set_same, slice_get-set_other, below, pairwise-length, places-differ, declared-of, declared-type, Typed, typed-written}
 use Rattle.plc_gen.specs.Faces.{auto_face}
-use Rattle.plc_gen.specs.Tests.{place_name}
+use Rattle.plc_gen.specs.Places.{place_name}
 use Rattle.plc_gen.specs.Events.{moves_text}
 use Rattle.plc_gen.proofs.Writing.{Among, AllAmong, writes-none, writes-then, writes-one, hold-set}
 

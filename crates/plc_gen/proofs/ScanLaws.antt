@@ -7,12 +7,10 @@ use Rattle.std.proofs.lemmas.List.Sums.{sum_by-cons}
 use Rattle.cif_system.specs.System.{Class, con, unc}
 use Rattle.cif_system.specs.Scan.{of_class}
 use Rattle.cif_system.proofs.Lists.{map-length}
-use Rattle.cif_system.proofs.Picks.{and-left, and-right}
+use Rattle.cif_system.proofs.Picks.{and-left}
 use Rattle.cif_model.specs.Net as n
 use Rattle.cif_model.specs.Facts.{things}
-use Rattle.cif_model.specs.Listing.{NetChoice}
 use Rattle.cif_model.specs.Meaning.{system_of_net}
-use Rattle.cif_model.specs.Table.{IsGuarded}
 use Rattle.cif_net.specs.declared.automata.Auto.{Auto}
 use Rattle.cif_net.specs.declared.net.Net.{Net}
 use Rattle.cif_net.specs.View.{auto_tree, net_tree}
@@ -25,19 +23,16 @@ use Rattle.st_ast.specs.declared.tree.StClass.TheVariants as class
 use Rattle.plc_face.specs.declared.letter.Letter.TheVariants as letter
 use Rattle.plc_face.specs.Face.{VariableFace, alg_face, algs_of, declarations, places_of, place_face}
 use Rattle.plc_face.specs.Frame.{Part, framed, latches_of, loop_of, part_of, tries_of}
-use Rattle.plc_gen.specs.Emitted.{all_shown_by, mark_and_counter, outputs_of, parts_of, program_of}
+use Rattle.plc_gen.specs.Variables.{all_shown_by, mark_and_counter, outputs_of}
 use Rattle.plc_gen.specs.Faces.{alg_face_of, auto_face, face_of_net, stored_face}
-use Rattle.plc_gen.specs.Makes.{needs_tests_alone}
 use Rattle.plc_gen.specs.Shown.{AreFaces, declared_by, declared_for, face_tree}
 use Rattle.plc_gen.specs.Given.{EventPart, all_variables, asked, body_of, framed_program, own_variables, program_with, sections_of}
-use Rattle.plc_gen.specs.Tries.{all_tries, class_bodies, scan_text}
+use Rattle.plc_gen.specs.Tries.{class_bodies, scan_text}
 use Rattle.plc_gen.specs.declared.faces.Faces.{Faces}
 use Rattle.plc_gen.specs.declared.faces.Shown.{Shown}
 use Rattle.plc_gen.proofs.Building.{append-assoc, view_append}
-use Rattle.plc_gen.proofs.Emits.{own-declared-none}
 use Rattle.plc_gen.proofs.Framing.{stms_of-append}
-use Rattle.plc_gen.proofs.Facts.{all-simple, none-of}
-use Rattle.plc_gen.proofs.TryLaws.{bodies-are, tries-are}
+use Rattle.plc_gen.proofs.TryLaws.{bodies-are}
 
 -- ---- sizes
 
@@ -157,15 +152,6 @@ module _ (x : n.Net) (parts : List Part) where
       ∙ ap (made_of (codes "CifScan") (all_variables (sections_of (face_of_net x) own))) (d ∙ scan-is bodies U C are)
 
 -- ---- the programs
-
--- what code puts together from the choices of a net
-pub emitted-is : (x : n.Net) (cs : List NetChoice) → IsGuarded x cs → needs_tests_alone x cs ≡ true → (own : List StVar) (bodies : List Stms) (U C : ℕ) (f : Faces) (name : Text) (vars : List StVar) (body : List Stmt)
-    → own ≡ [] → bodies ≡ all_tries x cs → AreFaces x f → name ≡ codes "CifScan" → vars ≡ declared_for f own → view_stmts body ≡ scan_text x bodies U C
-    → program_of_parts name vars body ≡ program_of x cs U C
-emitted-is x cs guarded alone own bodies U C f name vars body nothing are h a b d =
-    let simple = all-simple x cs guarded (and-right _ _ alone) in
-    program-is x (parts_of x cs) own bodies U C f name vars body (none-of x.algs (and-right _ _ (and-left _ _ alone))) (are ∙ tries-are x cs simple) h a b d
-    ∙ ap (λ (vs : List StVar). program_with x vs (parts_of x cs) U C) (nothing ∙ sym (own-declared-none x cs simple))
 
 -- what code puts together from given parts
 pub given-is : (x : n.Net) (parts : List EventPart) (own : List StVar) (bodies : List Stms) (U C : ℕ) (f : Faces) (name : Text) (vars : List StVar) (body : List Stmt)

@@ -21,7 +21,7 @@ use Rattle.plc_face.specs.Face.{VariableFace, HoldsAt, declaration, range_of}
 use Rattle.plc_face.proofs.NameLaws.{letters-differ, names-differ}
 use Rattle.plc_face.proofs.FaceLaws.{slice_get-set_same, slice_get-set_other, below, get_or-of, pairwise-length, places-differ, same_name-self, Typed, typed-set}
 use Rattle.plc_face.proofs.Latches.{Differ}
-use Rattle.plc_gen.specs.Emitted.{shown_by}
+use Rattle.plc_gen.specs.Variables.{shown_by}
 use Rattle.plc_gen.proofs.Writing.{name_of}
 use Rattle.plc_gen.proofs.Choosing.{all-filter}
 use Rattle.plc_gen.proofs.Declaring.{AllDeclared}

@@ -1,8 +1,7 @@
 -- The statements of an event: the first of its choices whose test holds and whose values and invariants allow it is taken.
-use Rattle.std.specs.Prelude.{ℕ, pos, Bool, true, false, ◌&&◌, nat_lt, List, [], ◌∷◌, map, length, filter, nat_eq, Option, Some, None, is_none, option_and_then, slice_get, codes, if◌then◌else◌}
-use Rattle.std.specs.List.{list_all, enumerate_from}
+use Rattle.std.specs.Prelude.{ℕ, pos, Bool, true, false, nat_lt, List, [], ◌∷◌, length, filter, nat_eq, Option, Some, None, option_and_then, slice_get, codes, if◌then◌else◌}
+use Rattle.std.specs.List.{list_all}
 use Rattle.grammar.specs.Pieces.{Text}
-use Rattle.cif_term.specs.Tree.{NetUpdates, no_net_updates, net_updates}
 use Rattle.cif_model.specs.Net.{NetEdge, NetAuto, Net}
 use Rattle.cif_model.specs.Listing.{NetMove, NetChoice}
 use Rattle.st_ast.specs.Tree.{Expr, truth, number, named, complement, Stms, Branches, assign, choice, no_stms, stms, append, no_branches, branches, no_other}
@@ -10,8 +9,8 @@ use Rattle.st_ast.specs.declared.tree.StTy.TheVariants as ty
 use Rattle.plc_face.specs.declared.letter.Letter.TheVariants as letter
 use Rattle.plc_face.specs.Names.{name_for}
 use Rattle.plc_face.specs.Face.{VariableFace}
-use Rattle.plc_face.specs.Frame.{fired, Part}
-use Rattle.plc_gen.specs.Tests.{text, place_name, old_naming}
+use Rattle.plc_face.specs.Frame.{fired}
+use Rattle.plc_gen.specs.Places.{place_name}
 
 -- ---- what is written for a choice
 
@@ -34,22 +33,6 @@ move_text n m ss = elim (target_of n m) [ None ↦ ss | Some x ↦ stms (assign 
 abbrev pub moves_text : Net → List NetMove → Stms → Stms
 moves_text n [] ss = ss
 moves_text n (m ∷ ms) ss = move_text n m (moves_text n ms ss)
-
-abbrev pub writes_nothing : NetUpdates → Bool
-writes_nothing no_net_updates = true
-writes_nothing (net_updates u us) = false
-
--- it sends and assigns no value, and no state invariant is asked of it
-abbrev pub is_direct : NetChoice → Bool
-is_direct c = is_none c.sent && writes_nothing c.writes && nat_eq (length c.invariants) 0
-
-abbrev pub written_of : Net → NetChoice → Written
-written_of n c = record {
-  before = no_stms;
-  test = text (old_naming n) c.test;
-  act = moves_text n c.moves;
-  is_bare = is_direct c;
-}
 
 -- ---- statements
 
@@ -101,20 +84,10 @@ event_text done (w ∷ v ∷ ws) =
 abbrev pub done_face : VariableFace
 done_face = record { path = codes "done"; ty = ty.Bool; first = pos 0 }
 
-abbrev pub own_of : List Written → List VariableFace
-own_of ws = if needs_mark ws then done_face ∷ [] else []
-
 abbrev pub own_name : ℕ × VariableFace → Text
 own_name (k, x) = name_for letter.T k x.path
-
--- the part of an event whose variables have numbers from k on
-abbrev pub event_part : ℕ → List Written → Part
-event_part k ws = record { own = map own_name (enumerate_from k (own_of ws)); body = event_text (own_name (k, done_face)) ws }
 
 -- ---- the choices of an event
 
 abbrev pub choices_of : List NetChoice → ℕ → List NetChoice
 choices_of cs e = filter (λ (c : NetChoice). nat_eq c.event e) cs
-
-abbrev pub written_for : Net → List NetChoice → ℕ → List Written
-written_for n cs e = map (written_of n) (choices_of cs e)

@@ -4,7 +4,6 @@ use Rattle.std.specs.List.{AllByRecursion}
 use Rattle.grammar.specs.Pieces.{Text}
 use Rattle.cif_model.specs.Net.{Net}
 use Rattle.cif_model.specs.Meaning.{system_of_net}
-use Rattle.cif_model.specs.Listing.{NetChoice}
 use Rattle.st_ast.specs.Checks.{check_faults}
 use Rattle.st_ast.specs.Spelled.{is_spelled}
 use Rattle.st_ast.specs.Tree.{Stms, Program}
@@ -18,7 +17,7 @@ use Rattle.plc_face.specs.Names.{name_for}
 use Rattle.plc_face.specs.Face.{Face, VariableFace, declarations, places_of, algs_of}
 use Rattle.plc_face.specs.Frame.{HasClass, Part, TriesEvent, framed, part_of}
 use Rattle.plc_gen.specs.declared.given.Part.{Part as GivenPart}
-use Rattle.plc_gen.specs.Emitted.{mark_and_counter, outputs_of, parts_of}
+use Rattle.plc_gen.specs.Variables.{mark_and_counter, outputs_of}
 use Rattle.plc_gen.specs.Faces.{face_of_net}
 
 -- ---- what is given
@@ -82,16 +81,6 @@ program_with n own parts U C =
 
 abbrev pub framed_program : Net → List EventPart → ℕ → ℕ → Program
 framed_program n parts U C = program_with n (own_variables parts) (map asked parts) U C
-
--- ---- the parts of choices
-
--- without variables of its own
-abbrev pub bare_part : Part → EventPart
-bare_part q = record { own = []; body = q.body }
-
--- the parts that the program of these choices has
-abbrev pub emitted_parts : Net → List NetChoice → List EventPart
-emitted_parts n cs = map bare_part (parts_of n cs)
 
 -- ---- what is asked
 

@@ -1,10 +1,9 @@
 pub mod Faces
-pub mod Tests
+pub mod Places
 pub mod Events
-pub mod Emitted
+pub mod Variables
 pub mod Makes
 pub mod Given
 pub mod Small
-pub mod Shapes
 pub mod Shown
 pub mod Tries

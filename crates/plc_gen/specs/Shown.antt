@@ -7,7 +7,7 @@ use Rattle.plc_face.specs.declared.letter.Letter.TheVariants as letter
 use Rattle.plc_face.specs.Face.{VariableFace, declarations, places_of}
 use Rattle.plc_gen.specs.declared.faces.Faces.{Faces}
 use Rattle.plc_gen.specs.declared.faces.Shown.{Shown}
-use Rattle.plc_gen.specs.Emitted.{mark_and_counter}
+use Rattle.plc_gen.specs.Variables.{mark_and_counter}
 use Rattle.plc_gen.specs.Faces.{face_of_net}
 
 abbrev pub face_tree : Shown → VariableFace

@@ -6,7 +6,7 @@ ghost use Rattle.plc_face.specs.Face.{place_face, places_of};
 ghost use Rattle.plc_gen.specs.Faces as f;
 ghost use Rattle.plc_gen.specs.Faces.{auto_face, face_of_net, stored_face};
 ghost use Rattle.plc_gen.specs.Shown.{face_tree, AreFaces};
-ghost use Rattle.plc_gen.specs.Emitted.{mark_and_counter};
+ghost use Rattle.plc_gen.specs.Variables.{mark_and_counter};
 ghost use Rattle.plc_gen.specs.Small.{is_small, are_small};
 
 use cif_base::{Boxed, Items, Memory, Text, Ty};

@@ -44,9 +44,11 @@ fn taken_apart(alloc: Global, parts: Items<Part>) -> Result<Split, Memory>
     Ok(Split { own, bodies })
 }
 
-/// The program that has the frame of `emit` round these parts, one for each event: in each loop the statements of the events
-/// of its class stand in the order of their numbers, and the variables of the events are declared after the mark that
-/// something fired (`T0_fired`) and the counter of rounds (`T1_rounds`). The time is linear in what is written.
+/// The program round these parts, one for each event. In each scan it latches the inputs, makes rounds of the uncontrollable
+/// events, then rounds of the controllable ones, and then shows the state in its outputs. In a round the statements of the
+/// events of the class stand in the order of their numbers. The rounds of a class end after one in which nothing fired, or
+/// after the bound of the class. The variables of the events are declared after the mark that something fired (`T0_fired`)
+/// and the counter of rounds (`T1_rounds`). The time is linear in what is written.
 pub fn frame(
     alloc: Global,
     net: &Net,

@@ -5,7 +5,7 @@ ghost use Rattle.st_ast.specs.View.{view_stmts};
 ghost use Rattle.cif_net.specs.View.{net_tree};
 ghost use Rattle.plc_face.specs.Frame.{latches_of};
 ghost use Rattle.plc_gen.specs.Faces.{face_of_net};
-ghost use Rattle.plc_gen.specs.Emitted.{outputs_of};
+ghost use Rattle.plc_gen.specs.Variables.{outputs_of};
 ghost use Rattle.plc_gen.specs.Shown.{AreFaces};
 ghost use Rattle.plc_gen.specs.Tries.{scan_text};
 

@@ -1,15 +1,14 @@
-//! The statements that try the events.
+//! The statements that try the events of each class.
 
 ghost use Rattle.std.specs.Prelude.{◌≡◌, map, reverse as reversed, IfOk};
 ghost use Rattle.cif_system.specs.System as s;
 ghost use Rattle.cif_net.specs.View.{net_tree};
-ghost use Rattle.st_ast.specs.Tree.{choice, no_other};
-ghost use Rattle.st_ast.specs.View.{view_stmt, view_stmts, view_branches};
+ghost use Rattle.st_ast.specs.View.{view_stmts};
 ghost use Rattle.plc_gen.specs.Tries as t;
 
-use cif_base::{Boxed, Items, Memory};
+use cif_base::{Items, Memory};
 use cif_net::{Class, Net};
-use st_ast::{StBranch, Stmt};
+use st_ast::Stmt;
 use std::alloc::Global;
 
 /// The tries of the uncontrollable events, and of the controllable ones.
@@ -17,37 +16,6 @@ use std::alloc::Global;
 pub struct Tries {
     pub unc: Items<Stmt>,
     pub con: Items<Stmt>,
-}
-
-/// The first of the branches whose condition holds.
-fn selection(alloc: Global, branches: Items<StBranch>) -> Result<Boxed<Stmt>, Memory>
-    ensures { IfOk result (λ s. view_stmt s ≡ choice (view_branches branches) no_other) }
-{
-    let other = None;
-    Boxed::new(alloc, Stmt::If { branches, other })
-}
-
-/// The statement with these branches, and none where there is no branch.
-fn attempt(alloc: Global, branches: Items<StBranch>) -> Result<Items<Stmt>, Memory>
-    ensures { IfOk result (λ ss. view_stmts ss ≡ t.one_try (view_branches branches)) }
-{
-    let mut all = Items::new(alloc);
-    if branches.is_empty() {
-        return Ok(all);
-    }
-    all.push(selection(alloc, branches)?.into_inner())?;
-    Ok(all)
-}
-
-/// The tries of all events, from the branches of each.
-pub fn attempts(alloc: Global, lists: Items<Items<StBranch>>) -> Result<Items<Items<Stmt>>, Memory>
-    ensures { IfOk result (λ all. map view_stmts all ≡ map t.one_try (map view_branches lists)) }
-{
-    let mut all = Items::new(alloc);
-    for list in lists.into_vec() {
-        all.push(attempt(alloc, list)?)?;
-    }
-    Ok(all)
 }
 
 /// The last of the bodies, and an empty one where there is none.

@@ -4,7 +4,7 @@ ghost use Rattle.std.specs.Prelude.{◌≡◌, ◌<◌, ◌^◌, length, map, If
 ghost use Rattle.st_ast.specs.Tree.{stms_of};
 ghost use Rattle.st_ast.specs.View.{view_stmt, view_stmts};
 ghost use Rattle.plc_face.specs.Face as f;
-ghost use Rattle.plc_gen.specs.Emitted.{all_shown_by, shown_by};
+ghost use Rattle.plc_gen.specs.Variables.{all_shown_by, shown_by};
 ghost use Rattle.plc_gen.specs.Shown.{face_tree, declared_for};
 
 use crate::faces::{Faces, Shown, own_variables};

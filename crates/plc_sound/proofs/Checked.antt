@@ -24,7 +24,7 @@ use Rattle.plc_face.specs.Names.{name_for}
 use Rattle.plc_face.specs.Face.{VariableFace, IsDeclared, declaration, place_face}
 use Rattle.plc_face.specs.Frame.{fired}
 use Rattle.plc_gen.specs.Faces.{auto_face, st_type}
-use Rattle.plc_gen.specs.Tests.{place_name}
+use Rattle.plc_gen.specs.Places.{place_name}
 use Rattle.plc_gen.specs.Events.{done_face, moves_text, own_name}
 use Rattle.plc_gen.proofs.Checking.{AllChecked}
 use Rattle.plc_gen.proofs.Declaring.{AllDeclared, declared-at}

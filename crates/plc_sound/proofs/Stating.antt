@@ -17,7 +17,7 @@ use Rattle.plc_face.specs.Face.{IsDeclared, declaration, place_face}
 use Rattle.plc_face.specs.Frame.{fired}
 use Rattle.plc_face.proofs.FaceLaws.{declared-of}
 use Rattle.plc_gen.specs.Faces.{auto_face}
-use Rattle.plc_gen.specs.Tests.{place_name}
+use Rattle.plc_gen.specs.Places.{place_name}
 use Rattle.plc_gen.specs.Events.{Written, all_bare, alone, chain, chain_branches, event_text, marks, marks_with, move_text, moves_text, needs_mark, parts_text, tested, unless_done}
 use Rattle.plc_gen.proofs.Checking.{AllChecked, all-checked, checked-append}
 use Rattle.plc_expr.specs.Sorts.{HasSort, OwnIs}

@@ -14,7 +14,7 @@ use Rattle.plc_face.specs.declared.letter.Letter.{Letter}
 use Rattle.plc_face.specs.declared.letter.Letter.TheVariants as letter
 use Rattle.plc_face.specs.Face.{Face, VariableFace, alg_face, algs_of, places_of}
 use Rattle.plc_gen.specs.Faces.{alg_face_of, face_of_net}
-use Rattle.plc_gen.specs.Emitted.{Block, counter_face, mark_face}
+use Rattle.plc_gen.specs.Variables.{Block, counter_face, mark_face}
 use Rattle.plc_gen.specs.Given.{Section, all_variables, sections_of}
 use Rattle.plc_gen.proofs.Declaring.{AllDeclared, AllOf, AllSound, AreBlocks, AreSections, declared-of, section-declared, variables-checked}
 use Rattle.plc_gen.proofs.Facts.{Standing, inputs-sound, places-sound, standing, vars-sound}

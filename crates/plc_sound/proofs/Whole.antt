@@ -27,19 +27,18 @@ use Rattle.plc_face.specs.Names.{name_for}
 use Rattle.plc_face.specs.Face.{Face, declaration, places_of as face_places}
 use Rattle.plc_face.specs.Frame.{Part, fired, latches_of, part_of, part_or_none}
 use Rattle.plc_gen.specs.Faces.{face_of_net, st_type, stored_face}
-use Rattle.plc_gen.specs.Tests.{place_name}
+use Rattle.plc_gen.specs.Places.{place_name}
 use Rattle.plc_gen.specs.Events.{choices_of}
-use Rattle.plc_gen.specs.Emitted.{all_shown_by, outputs_of}
+use Rattle.plc_gen.specs.Variables.{all_shown_by, outputs_of}
 use Rattle.plc_gen.specs.Given.{asked, program_with}
 use Rattle.plc_gen.specs.Small.{is_small}
 use Rattle.plc_gen.proofs.Checking.{AllChecked, all-checked}
 use Rattle.plc_gen.proofs.Choosing.{all-filter}
 use Rattle.plc_gen.proofs.Declaring.{AllDeclared, AllOf, declared-at}
-use Rattle.plc_gen.proofs.Facts.{Standing, ends-within, first-inside, none-of, standing}
+use Rattle.plc_gen.proofs.Facts.{Standing, ends-within, few-places, first-inside, none-of, standing}
 use Rattle.plc_gen.proofs.Framing.{body-checked, mark_declared, place-declared, stms_of-append}
 use Rattle.plc_gen.proofs.Moving.{faces}
 use Rattle.plc_gen.proofs.Spelling.{FaceSpelled, append-spelled, both-true, copies-spelled, frame-spelled, place-face-spelled}
-use Rattle.plc_gen.proofs.Whole.{few-places}
 use Rattle.plc_expr.specs.Sorts.{HasSort, NamesHaveSorts, OwnIs, is_bool_type, sort_by}
 use Rattle.plc_act.specs.Own.{data_naming, path_of}
 use Rattle.plc_act.specs.Parts.{data_part, event_faces}

@@ -13,7 +13,7 @@ use Rattle.st_ast.specs.Tree.{Expr, truth, number, named, complement, equal, Stm
 use Rattle.plc_face.specs.declared.letter.Letter.TheVariants as letter
 use Rattle.plc_face.specs.Frame.{fired}
 use Rattle.plc_gen.specs.Faces.{st_type}
-use Rattle.plc_gen.specs.Tests.{path_in, place_name}
+use Rattle.plc_gen.specs.Places.{path_in, place_name}
 use Rattle.plc_gen.specs.Events.{Written, all_bare, alone, chain, chain_branches, done_face, event_text, marks, marks_with, move_text, moves_text, own_name, parts_text, tested, unless_done}
 use Rattle.plc_gen.proofs.Moving.{EndsWithin, edge_stands}
 use Rattle.plc_gen.proofs.Spelling.{append-spelled, both-true, name-spelled}

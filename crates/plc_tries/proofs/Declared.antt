@@ -12,7 +12,7 @@ use Rattle.st_ast.specs.declared.tree.StTy.TheVariants as ty
 use Rattle.plc_face.specs.declared.letter.Letter.TheVariants as letter
 use Rattle.plc_face.specs.Face.{VariableFace, IsDeclared, algs_of, declarations, head_of, places_of}
 use Rattle.plc_face.specs.Frame.{fired}
-use Rattle.plc_gen.specs.Emitted.{mark_and_counter, mark_face}
+use Rattle.plc_gen.specs.Variables.{mark_and_counter, mark_face}
 use Rattle.plc_gen.specs.Events.{choices_of}
 use Rattle.plc_gen.specs.Faces.{face_of_net}
 use Rattle.plc_gen.specs.Given.{own_variables}

@@ -1,7 +1,7 @@
 use Rattle.std.proofs.Common.{List, map, ap, ◌∙◌}
 use Rattle.st_ast.specs.Tree.{stms_of}
 use Rattle.plc_face.specs.declared.letter.Letter.TheVariants as letter
-use Rattle.plc_gen.specs.Emitted.{all_shown_by}
+use Rattle.plc_gen.specs.Variables.{all_shown_by}
 use Rattle.plc_gen.specs.Shown.{face_tree}
 use Rattle.plc_gen.specs.declared.faces.Shown.{Shown}
 use Rattle.cif_net.specs.View.{net_tree}

@@ -1,7 +1,7 @@
 use Rattle.std.proofs.Common.{◌≡◌, ◌++◌, map, drop}
 use Rattle.std.specs.List.{enumerate_from}
 use Rattle.st_ast.specs.View.{view_stmt}
-use Rattle.plc_gen.specs.Emitted.{all_shown_by, shown_by}
+use Rattle.plc_gen.specs.Variables.{all_shown_by, shown_by}
 use Rattle.plc_gen.specs.Shown.{face_tree}
 use Rattle.plc_gen.proofs.variables.copies.Given as goal
 
