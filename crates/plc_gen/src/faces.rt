@@ -1,13 +1,12 @@
 //! What the program shows of the automata, variables and inputs of a net.
 
-ghost use Rattle.std.specs.Prelude.{◌≡◌, ◌<◌, ◌^◌, true, length, map, IfOk};
+ghost use Rattle.std.specs.Prelude.{◌≡◌, ◌<◌, ◌^◌, length, map, IfOk};
 ghost use Rattle.cif_net.specs.View.{net_tree, auto_tree, input_tree, var_tree};
 ghost use Rattle.plc_face.specs.Face.{place_face, places_of};
 ghost use Rattle.plc_gen.specs.Faces as f;
 ghost use Rattle.plc_gen.specs.Faces.{auto_face, face_of_net, stored_face};
 ghost use Rattle.plc_gen.specs.Shown.{face_tree, AreFaces};
 ghost use Rattle.plc_gen.specs.Variables.{mark_and_counter};
-ghost use Rattle.plc_gen.specs.Small.{is_small, are_small};
 
 use cif_base::{Boxed, Items, Memory, Text, Ty};
 use cif_net::{Auto, Net};
@@ -30,11 +29,9 @@ pub struct Faces {
     pub inputs: Items<Shown>,
 }
 
-/// What the program shows of the net. Its enumerations are small, as their sizes are numbers of 32 bits.
+/// What the program shows of the net.
 pub fn shown_faces(alloc: Global, net: &Net) -> Result<Faces, Memory>
-    ensures faces { IfOk result (λ f. AreFaces (net_tree net.now) f) }
-    ensures small_variables { IfOk result (λ f. are_small (net_tree net.now).vars ≡ true) }
-    ensures small_inputs { IfOk result (λ f. are_small (net_tree net.now).inputs ≡ true) }
+    ensures { IfOk result (λ f. AreFaces (net_tree net.now) f) }
 {
     let places = shown_places(alloc, net)?;
     let variables = shown_variables(alloc, net)?;
@@ -48,8 +45,7 @@ pub fn shown_faces(alloc: Global, net: &Net) -> Result<Faces, Memory>
 
 /// The type of a variable, where a literal of an enumeration is its place.
 fn st_type(ty: Ty) -> StTy
-    ensures mapped { result ≡ f.st_type ty }
-    ensures small { is_small ty ≡ true }
+    ensures { result ≡ f.st_type ty }
 {
     match ty {
         Ty::Bool => StTy::Bool,
@@ -87,8 +83,7 @@ fn shown_places(alloc: Global, net: &Net) -> Result<Items<Shown>, Memory>
 
 /// The discrete variables.
 fn shown_variables(alloc: Global, net: &Net) -> Result<Items<Shown>, Memory>
-    ensures small { IfOk result (λ all. are_small (net_tree net.now).vars ≡ true) }
-    ensures all { IfOk result (λ all. map face_tree all ≡ (face_of_net (net_tree net.now)).variables) }
+    ensures { IfOk result (λ all. map face_tree all ≡ (face_of_net (net_tree net.now)).variables) }
 {
     let mut all = Items::new(alloc);
     for var in net.vars.as_slice() {
@@ -103,8 +98,7 @@ fn shown_variables(alloc: Global, net: &Net) -> Result<Items<Shown>, Memory>
 
 /// The inputs.
 fn shown_inputs(alloc: Global, net: &Net) -> Result<Items<Shown>, Memory>
-    ensures small { IfOk result (λ all. are_small (net_tree net.now).inputs ≡ true) }
-    ensures all { IfOk result (λ all. map face_tree all ≡ (face_of_net (net_tree net.now)).inputs) }
+    ensures { IfOk result (λ all. map face_tree all ≡ (face_of_net (net_tree net.now)).inputs) }
 {
     let mut all = Items::new(alloc);
     for input in net.inputs.as_slice() {

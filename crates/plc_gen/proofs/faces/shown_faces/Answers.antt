@@ -1,12 +1,12 @@
 use Rattle.plc_gen.proofs.ScanLaws.{few-inputs-shown, few-places-shown, few-variables-shown}
 use Rattle.plc_gen.proofs.faces.shown_faces.Goals as goal
 
-pub returns-clause-faces : goal.returns-clause-faces
-returns-clause-faces c = record {
+pub returns : goal.returns
+returns c = record {
   places = c.in_ok-places.ensures;
-  variables = c.in_ok-variables.ensures.all;
-  inputs = c.in_ok-inputs.ensures.all;
+  variables = c.in_ok-variables.ensures;
+  inputs = c.in_ok-inputs.ensures;
   few_places = few-places-shown c.args.net.now c.in_ok-places.places c.in_ok-places.ensures;
-  few_variables = few-variables-shown c.args.net.now c.in_ok-variables.variables c.in_ok-variables.ensures.all;
-  few_inputs = few-inputs-shown c.args.net.now c.in_ok-inputs.inputs c.in_ok-inputs.ensures.all;
+  few_variables = few-variables-shown c.args.net.now c.in_ok-variables.variables c.in_ok-variables.ensures;
+  few_inputs = few-inputs-shown c.args.net.now c.in_ok-inputs.inputs c.in_ok-inputs.ensures;
 }

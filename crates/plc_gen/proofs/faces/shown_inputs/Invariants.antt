@@ -1,13 +1,11 @@
-use Rattle.std.proofs.Common.{◌≡◌, true, map, drop, take}
+use Rattle.std.proofs.Common.{◌≡◌, map, take}
 use Rattle.cif_net.specs.View.{input_tree}
 use Rattle.plc_gen.specs.Faces.{stored_face}
 use Rattle.plc_gen.specs.Shown.{face_tree}
-use Rattle.plc_gen.specs.Small.{are_small}
 use Rattle.plc_gen.proofs.faces.shown_inputs.Given as goal
 
 abbrev pub invariant-loop-input : goal.invariant-loop-input
 invariant-loop-input l = record {
   items : l.input-items ≡ l.net.inputs;
   all : map face_tree l.all ≡ map stored_face (map input_tree (take l.input-index l.input-items));
-  small : are_small (map input_tree (drop l.input-index l.input-items)) ≡ true → are_small (map input_tree l.net.inputs) ≡ true;
 }
