@@ -32,10 +32,11 @@ use Rattle.cif_image.proofs.ValueLaws.{constant_fits}
 use Rattle.cif_image.proofs.FoundLaws.{declaration-listed}
 use Rattle.cif_image.proofs.RuleLaws.{constants-kept, declaration-cases}
 use Rattle.cif_image.proofs.DistinctLaws.{paths-differ, declared-once}
+use Rattle.cif_image.proofs.FormLaws.{decl-algebra}
 use Rattle.cif_fits.specs.Kinds.{net_kind}
 use Rattle.cif_fits.proofs.KindLaws.{texts-self, kind-self}
 use Rattle.cif_fits.proofs.ExprLaws.{is_valued}
-use Rattle.cif_fits.proofs.SoundLaws.{IsSound, home, no-params, root, IsFound, found-is, bare-decl}
+use Rattle.cif_fits.proofs.SoundLaws.{IsSound, home, bare-params, root, IsFound, found-is}
 use Rattle.cif_fits.proofs.TypeLaws.{literal-fits, written, type-fits}
 
 -- ---- lists
@@ -83,7 +84,7 @@ module _ (t : Source) (s : IsSound t) where
 
   -- a body declares each name once
   body-single : (c : Component) → Member c (bodies t) → has_twice (names (body_entries (body_of c))) ≡ false
-  body-single c m = subst (λ ps. has_twice (names (param_entries ps ++ body_entries (body_of c))) ≡ false) (no-params t s c m) (s.single c (home t s c m))
+  body-single c m = subst (λ ps. has_twice (names (param_entries ps ++ body_entries (body_of c))) ≡ false) (bare-params t s c m) (s.single c (home t s c m))
 
   -- ---- variables
 
@@ -159,8 +160,8 @@ module _ (t : Source) (s : IsSound t) where
   place-fits : (c : Component) (e : Entry) → IsFound t s (c, e) → is_valued (kind_at (reached (c, e))) ≡ true → form_fits whole_net None (net_kind (kind_at (reached (c, e)))) (net_object (c, e)) ≡ true
   place-fits c (declared (const_decl x n e)) f v = constant-fits c f.body x n e f.placed v
   place-fits c (declared (disc_decl x n e)) f v = variable-fits c f.body x n e f.placed v
-  place-fits c (declared (alg_decl x n e)) f v = absurd (false-true refl (bare-decl t s c f.body (alg_decl x n e) f.placed))
-  place-fits c (declared (input_decl x n)) f v = absurd (false-true refl (bare-decl t s c f.body (input_decl x n) f.placed))
+  place-fits c (declared (alg_decl x n e)) f v = absurd (false-true refl (decl-algebra t s.built c f.body (alg_decl x n e) f.placed))
+  place-fits c (declared (input_decl x n)) f v = absurd (false-true refl (decl-algebra t s.built c f.body (input_decl x n) f.placed))
   place-fits c (declared (type_decl n x)) f v = absurd (false-true refl v)
   place-fits c (declared (enum_decl n ls)) f v = absurd (false-true refl v)
   place-fits c (declared (event_decl k h n)) f v = absurd (false-true refl v)

@@ -1,4 +1,4 @@
--- The net of a source of the forms built so far has automata and variables alone.
+-- The net of a source of the forms built so far has no algebraic variables, state invariants and channels.
 use Rattle.std.proofs.Common.{◌≡◌, Bool, true, false, [], map, filter, refl, ◌∙◌, ap}
 use Rattle.cif_ast.specs.declared.names.Ident.{Ident}
 use Rattle.cif_ast.specs.declared.declarations.Class.{Class}
@@ -8,9 +8,9 @@ use Rattle.cif_system.proofs.Distinct.{member-map}
 use Rattle.cif_model.specs.Net.{NetEvent, no_net_chan}
 use Rattle.cif_source.specs.Source.{DeclTree, type_decl, enum_decl, event_decl, const_decl, alg_decl, input_decl, disc_decl, equation_decl, invariant_decl, marked_decl, ChannelTree, no_type, void_type, value_type, Source}
 use Rattle.cif_source.specs.Components.{Component}
-use Rattle.cif_source.specs.Objects.{events, is_event, is_input, is_alg, Declared, declarations}
+use Rattle.cif_source.specs.Objects.{events, is_event, is_alg, Declared, declarations}
 use Rattle.cif_image.specs.Built.{is_built, is_no_channel}
-use Rattle.cif_image.specs.Flat.{net_of_source, net_event, net_stored, net_alg, net_exclusions, net_invariants}
+use Rattle.cif_image.specs.Flat.{net_of_source, net_event, net_alg, net_invariants}
 use Rattle.cif_image.proofs.FormLaws.{flat-nothing}
 use Rattle.cif_flat.specs.Silent.{IsSilent}
 use Rattle.cif_flat.proofs.Lists.{empty}
@@ -27,30 +27,6 @@ no-alg (disc_decl ty n e) h = refl
 no-alg (equation_decl q) h = refl
 no-alg (invariant_decl i) h = refl
 no-alg (marked_decl p) h = refl
-
-no-input : (d : DeclTree) → IsBuiltDecl d → is_input d ≡ false
-no-input (type_decl n ty) h = refl
-no-input (enum_decl n ls) h = refl
-no-input (event_decl k x n) h = refl
-no-input (const_decl ty n e) h = refl
-no-input (alg_decl ty n e) h = refl
-no-input (input_decl ty n) h = absurd (false-true refl h.algebra)
-no-input (disc_decl ty n e) h = refl
-no-input (equation_decl q) h = refl
-no-input (invariant_decl i) h = refl
-no-input (marked_decl p) h = refl
-
-no-exclusions : (c : Component) (d : DeclTree) → IsBuiltDecl d → net_exclusions (c, d) ≡ []
-no-exclusions c (type_decl n ty) h = refl
-no-exclusions c (enum_decl n ls) h = refl
-no-exclusions c (event_decl k x n) h = refl
-no-exclusions c (const_decl ty n e) h = refl
-no-exclusions c (alg_decl ty n e) h = refl
-no-exclusions c (input_decl ty n) h = refl
-no-exclusions c (disc_decl ty n e) h = refl
-no-exclusions c (equation_decl q) h = refl
-no-exclusions c (invariant_decl i) h = absurd (false-true refl h.invariant)
-no-exclusions c (marked_decl p) h = refl
 
 no-invariants : (c : Component) (d : DeclTree) → IsBuiltDecl d → net_invariants (c, d) ≡ []
 no-invariants c (type_decl n ty) h = refl
@@ -90,8 +66,6 @@ module _ (t : Source) (built : is_built t ≡ true) where
   pub silent : IsSilent (net_of_source t)
   silent = record {
     algs = ap (map net_alg) (none-of is_alg no-alg);
-    inputs = ap (map net_stored) (none-of is_input no-input);
-    exclusions = flat-nothing net_exclusions (declarations t) (λ d m. no-exclusions d.0 d.1 (declared-built t built d m));
     invariants = flat-nothing net_invariants (declarations t) (λ d m. no-invariants d.0 d.1 (declared-built t built d m));
     channels = λ e m.
         let d = member-map net_event e (events t) m in

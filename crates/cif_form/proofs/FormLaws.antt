@@ -9,8 +9,8 @@ use Rattle.cif_model.proofs.Passing.{both-pass, all-member}
 use Rattle.cif_source.specs.Source.{RoleTree, syncs, sends, receives, UseTree, EdgeTree, EquationTree, LocationTree, DeclTree, SourceItem, decl_item, component_item, definition_item, instance_item, SourceBody, group_body, automaton_body, Source, no_source, source, list_of_items}
 use Rattle.cif_source.specs.Components.{Component, whole, part, body_of}
 use Rattle.cif_source.specs.Objects.{bodies, bodies_in, bodies_at, bodies_under, items_in, item_decls, decls_in, locs_in}
-use Rattle.cif_image.specs.Received.{without_received, updates_without, decl_without, use_without, edge_without, location_without}
-use Rattle.cif_image.specs.Built.{stands_alone, has_no_definitions, is_nothing, is_no_algebra, has_no_algebra, has_no_equations, is_no_channel, only_syncs, has_no_channels, is_no_invariant, has_no_invariants, has_no_received, every_decl, every_edge, every_location, is_built}
+use Rattle.cif_image.specs.Received.{without_received, updates_without, decl_without, use_without, edge_without, location_without, item_without}
+use Rattle.cif_image.specs.Built.{stands_alone, has_no_definitions, is_nothing, is_no_algebra, has_no_algebra, has_no_equations, is_no_channel, only_syncs, takes_no_channel, has_no_channels, is_no_invariant, has_no_invariants, has_no_received, every_item, every_decl, every_edge, every_location, is_built}
 use Rattle.cif_image.proofs.RuleLaws.{all-from}
 use Rattle.cif_form.specs.Forms.{decl_fits, edge_fits, location_fits, items_fit, item_fits, body_fits}
 
@@ -88,6 +88,22 @@ location-still l h =
     let f = location-fits l h in
     all-three (list_all without_received l.marked) (list_all (λ (q : EquationTree). without_received q.value) l.equations) (list_all edge_without l.edges) f.1
     (none-still l.equations f.0) (all-implied edge_fits edge_without l.edges edge-still f.2)
+
+-- ---- items that stand alone
+
+-- it is no definition, and takes no channel
+alone-takes : (i : SourceItem) → stands_alone i ≡ true → takes_no_channel i ≡ true
+alone-takes (decl_item d) h = refl
+alone-takes (component_item n b) h = refl
+alone-takes (definition_item n ps b) h = absurd (false-true refl h)
+alone-takes (instance_item i) h = refl
+
+-- it is neither a definition nor an instance, and no `?` stands in it
+alone-still : (i : SourceItem) → stands_alone i ≡ true → item_without i ≡ true
+alone-still (decl_item d) h = refl
+alone-still (component_item n b) h = refl
+alone-still (definition_item n ps b) h = absurd (false-true refl h)
+alone-still (instance_item i) h = absurd (false-true refl h)
 
 -- ---- what a body has itself
 
@@ -178,6 +194,10 @@ whole-fits : (t : Source) → items_fit t ≡ true → list_all own_at (bodies t
 whole-fits t h = and-both (own (group_body t)) (list_all own_at (bodies_in (whole t) t)) (body-own (group_body t) h) (bodies-fit t (whole t) h)
 
 module _ (t : Source) (h : list_all own_at (bodies t) ≡ true) where
+  items-fit : (test : SourceItem → Bool) → ((i : SourceItem) → stands_alone i ≡ true → test i ≡ true) → every_item test t ≡ true
+  items-fit test f =
+      all-implied own_at (λ c. list_all test (items_in (body_of c))) (bodies t) (λ c k. all-implied stands_alone test (items_in (body_of c)) f (own-alone (body_of c) k)) h
+
   decls-fit : (test : DeclTree → Bool) → ((d : DeclTree) → decl_fits d ≡ true → test d ≡ true) → every_decl test t ≡ true
   decls-fit test f =
       all-implied own_at (λ c. list_all test (decls_in (body_of c))) (bodies t) (λ c k. all-implied decl_fits test (decls_in (body_of c)) f (own-decls (body_of c) k)) h
@@ -194,11 +214,13 @@ module _ (t : Source) (h : list_all own_at (bodies t) ≡ true) where
       and-both (has_no_definitions t && has_no_algebra t && has_no_channels t && has_no_invariants t) (has_no_received t)
       (and-both (has_no_definitions t && has_no_algebra t && has_no_channels t) (has_no_invariants t)
       (all-three (has_no_definitions t) (has_no_algebra t) (has_no_channels t)
-      (all-implied own_at (λ c. list_all stands_alone (items_in (body_of c))) (bodies t) (λ c k. own-alone (body_of c) k) h)
+      (items-fit stands_alone (λ i f. f))
       (and-both (every_decl is_no_algebra t) (every_location has_no_equations t) (decls-fit is_no_algebra (λ d f. (decl-fits d f).0)) (locations-fit has_no_equations (λ l f. (location-fits l f).0)))
-      (and-both (every_decl is_no_channel t) (every_edge (λ e. list_all only_syncs e.uses) t) (decls-fit is_no_channel (λ d f. (decl-fits d f).1)) (edges-fit (λ e. list_all only_syncs e.uses) (λ e f. (edge-fits e f).0))))
+      (all-three (every_decl is_no_channel t) (every_edge (λ e. list_all only_syncs e.uses) t) (every_item takes_no_channel t)
+      (decls-fit is_no_channel (λ d f. (decl-fits d f).1)) (edges-fit (λ e. list_all only_syncs e.uses) (λ e f. (edge-fits e f).0)) (items-fit takes_no_channel alone-takes)))
       (decls-fit is_no_invariant (λ d f. (decl-fits d f).2)))
-      (and-both (every_decl decl_without t) (every_location location_without t) (decls-fit decl_without (λ d f. (decl-fits d f).3)) (locations-fit location_without location-still))
+      (all-three (every_decl decl_without t) (every_location location_without t) (every_item item_without t)
+      (decls-fit decl_without (λ d f. (decl-fits d f).3)) (locations-fit location_without location-still) (items-fit item_without alone-still))
 
 module _ (t : Source) (h : is_built t ≡ true) where
   parts : (has_no_definitions t && has_no_algebra t && has_no_channels t && has_no_invariants t) ≡ true
@@ -207,8 +229,13 @@ module _ (t : Source) (h : is_built t ≡ true) where
   each : (has_no_definitions t ≡ true) × (has_no_algebra t ≡ true) × (has_no_channels t ≡ true) × (has_no_invariants t ≡ true)
   each = and-four (has_no_definitions t) (has_no_algebra t) (has_no_channels t) (has_no_invariants t) parts
 
-  still : has_no_received t ≡ true
-  still = and-right (has_no_definitions t && has_no_algebra t && has_no_channels t && has_no_invariants t) (has_no_received t) h
+  channels : (every_decl is_no_channel t ≡ true) × (every_edge (λ e. list_all only_syncs e.uses) t ≡ true) × (every_item takes_no_channel t ≡ true)
+  channels = and-three (every_decl is_no_channel t) (every_edge (λ e. list_all only_syncs e.uses) t) (every_item takes_no_channel t) each.2
+
+  still : (every_decl decl_without t ≡ true) × (every_location location_without t ≡ true) × (every_item item_without t ≡ true)
+  still =
+      and-three (every_decl decl_without t) (every_location location_without t) (every_item item_without t)
+      (and-right (has_no_definitions t && has_no_algebra t && has_no_channels t && has_no_invariants t) (has_no_received t) h)
 
   -- a test that all bodies pass, of one of them
   body-passes : (test : SourceBody → Bool) → list_all (λ c. test (body_of c)) (bodies t) ≡ true → (c : Component) → Member c (bodies t) → test (body_of c) ≡ true
@@ -225,16 +252,16 @@ module _ (t : Source) (h : is_built t ≡ true) where
       and-both (is_no_algebra d && is_no_channel d && is_no_invariant d) (decl_without d)
       (all-three (is_no_algebra d) (is_no_channel d) (is_no_invariant d)
       (decl-passes is_no_algebra (and-left (every_decl is_no_algebra t) (every_location has_no_equations t) each.1) c m d k)
-      (decl-passes is_no_channel (and-left (every_decl is_no_channel t) (every_edge (λ e. list_all only_syncs e.uses) t) each.2) c m d k)
+      (decl-passes is_no_channel channels.0 c m d k)
       (decl-passes is_no_invariant each.3 c m d k))
-      (decl-passes decl_without (and-left (every_decl decl_without t) (every_location location_without t) still) c m d k)
+      (decl-passes decl_without still.0 c m d k)
 
   location-built : (c : Component) → Member c (bodies t) → (l : LocationTree) → Member l (locs_in (body_of c)) → location_fits l ≡ true
   location-built c m l k =
       let without = and-three (list_all without_received l.marked) (list_all (λ (q : EquationTree). without_received q.value) l.equations) (list_all edge_without l.edges)
-      (location-passes location_without (and-right (every_decl decl_without t) (every_location location_without t) still) c m l k) in
+      (location-passes location_without still.1 c m l k) in
       let syncing : list_all (λ (e : EdgeTree). list_all only_syncs e.uses) l.edges ≡ true =
-      location-passes (λ l. list_all (λ (e : EdgeTree). list_all only_syncs e.uses) l.edges) (and-right (every_decl is_no_channel t) (every_edge (λ e. list_all only_syncs e.uses) t) each.2) c m l k in
+      location-passes (λ l. list_all (λ (e : EdgeTree). list_all only_syncs e.uses) l.edges) channels.1 c m l k in
       all-three (is_nothing l.equations) (list_all without_received l.marked) (list_all edge_fits l.edges)
       (location-passes has_no_equations (and-right (every_decl is_no_algebra t) (every_location has_no_equations t) each.1) c m l k)
       without.0

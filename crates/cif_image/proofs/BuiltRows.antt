@@ -6,11 +6,11 @@ use Rattle.cif_ast.specs.declared.declarations.Class.TheVariants as class
 use Rattle.cif_source.specs.Source.{no_type, syncs, event_decl, decl_item, component_item, group_body, automaton_body, Source}
 use Rattle.cif_source.proofs.Terms.{word, dotted, event_use, edge_by, place, behaviour, source_list}
 use Rattle.cif_source.proofs.Rows.{two_classes, counter, invariant, frames}
-use Rattle.cif_image.specs.Built.{has_no_definitions, has_no_data, has_no_channels, has_no_invariants, has_no_algebra, has_no_received, is_built, is_flat}
-use Rattle.cif_image.proofs.Trees.{channel, classless, circular, fixed, monitored, safe_division, swap}
+use Rattle.cif_image.specs.Built.{has_no_definitions, has_no_algebra, has_no_channels, has_no_invariants, has_no_received, is_built}
+use Rattle.cif_image.proofs.Trees.{channel, circular, classless, fixed, monitored, never, passing, reading, safe_division, swap}
 
-two_classes_is_flat : is_flat two_classes ≡ true
-two_classes_is_flat = refl
+two_classes_is_built : is_built two_classes ≡ true
+two_classes_is_built = refl
 
 -- group g: uncontrollable u; plant A: location x: initial; edge g.u goto y; location y: edge .g.u goto x; end end
 abbrev pub grouped : Source
@@ -24,60 +24,74 @@ grouped = source_list (component_item (word (codes "g") 6) (group_body (source_l
     ∷ [])))
     ∷ [])
 
-grouped_is_flat : is_flat grouped ≡ true
-grouped_is_flat = refl
+grouped_is_built : is_built grouped ≡ true
+grouped_is_built = refl
 
 -- an event without a class, and a location without a name
-classless_is_flat : is_flat classless ≡ true
-classless_is_flat = refl
-
--- data
-counter_has_data : has_no_data counter ≡ false
-counter_has_data = refl
-
-fixed_has_data : has_no_data fixed ≡ false
-fixed_has_data = refl
-
-fixed_is_not_flat : is_flat fixed ≡ false
-fixed_is_not_flat = refl
-
--- channels
-channel_has_a_channel : has_no_channels channel ≡ false
-channel_has_a_channel = refl
-
--- definitions
-frames_has_definitions : has_no_definitions frames ≡ false
-frames_has_definitions = refl
-
-invariant_has_invariants : has_no_invariants invariant ≡ false
-invariant_has_invariants = refl
+classless_is_built : is_built classless ≡ true
+classless_is_built = refl
 
 -- alphabets and monitors
-monitored_is_flat : is_flat monitored ≡ true
-monitored_is_flat = refl
+monitored_is_built : is_built monitored ≡ true
+monitored_is_built = refl
 
--- data is built
+-- data
 counter_is_built : is_built counter ≡ true
 counter_is_built = refl
 
 swap_is_built : is_built swap ≡ true
 swap_is_built = refl
 
-division_is_built : is_built safe_division ≡ true
-division_is_built = refl
+safe_division_is_built : is_built safe_division ≡ true
+safe_division_is_built = refl
 
 fixed_is_built : is_built fixed ≡ true
 fixed_is_built = refl
 
-monitored_is_built : is_built monitored ≡ true
-monitored_is_built = refl
+-- definitions and instances
+frames_has_definitions : has_no_definitions frames ≡ false
+frames_has_definitions = refl
 
--- an algebraic variable, and a `?`
+frames_is_not_built : is_built frames ≡ false
+frames_is_not_built = refl
+
+-- an algebraic variable, and an input
 circular_has_algebra : has_no_algebra circular ≡ false
 circular_has_algebra = refl
+
+reading_has_algebra : has_no_algebra reading ≡ false
+reading_has_algebra = refl
+
+reading_is_not_built : is_built reading ≡ false
+reading_is_not_built = refl
+
+-- channels
+channel_has_a_channel : has_no_channels channel ≡ false
+channel_has_a_channel = refl
 
 channel_receives : has_no_received channel ≡ false
 channel_receives = refl
 
 channel_is_not_built : is_built channel ≡ false
 channel_is_not_built = refl
+
+-- a parameter that is a channel, and a `?` as an argument
+passing_has_a_channel : has_no_channels passing ≡ false
+passing_has_a_channel = refl
+
+passing_receives : has_no_received passing ≡ false
+passing_receives = refl
+
+-- parameters and arguments without these
+frames_has_no_channels : has_no_channels frames ≡ true
+frames_has_no_channels = refl
+
+frames_receives_nothing : has_no_received frames ≡ true
+frames_receives_nothing = refl
+
+-- invariants
+invariant_has_invariants : has_no_invariants invariant ≡ false
+invariant_has_invariants = refl
+
+never_is_not_built : is_built never ≡ false
+never_is_not_built = refl

@@ -1,4 +1,4 @@
--- The events that edges name: where names keep their rules and the forms are those built so far, each is declared, and has a
+-- The events that edges name: where names keep their rules and no definition is written, each is declared, and has a
 -- number below that of all events.
 use Rattle.std.proofs.Common.{◌≡◌, ℕ, suc, ◌+◌, ◌<◌, ◌≤◌, ◌⊎◌, Bool, true, false, cond, inl, List, [], ◌∷◌, length, Some, refl, sym, ◌∙◌, ap, subst, arith}
 use Rattle.std.specs.Prelude.{◌&&◌, ◌||◌, not}
@@ -19,7 +19,7 @@ use Rattle.cif_source.specs.Step.{event_at}
 use Rattle.cif_source.specs.Scoping.{is_missing, is_wrong, UnknownDue, UnknownName, UnknownOwn, WrongKindDue, WrongName, WrongOwn, WrongCount}
 use Rattle.cif_source.proofs.ReachLaws.{frames-listed}
 use Rattle.cif_source.proofs.NameLaws.{is_parameter, in_body-own, passed-own, denotes-found}
-use Rattle.cif_image.specs.Built.{is_flat}
+use Rattle.cif_image.specs.Built.{has_no_definitions}
 use Rattle.cif_image.proofs.KeptLaws.{member-passes}
 use Rattle.cif_image.proofs.FoundLaws.{Ok, outward-ok, root-ok, inside-ok, declaration-listed, reached-same}
 use Rattle.cif_image.proofs.RuleLaws.{member-any}
@@ -59,7 +59,7 @@ pub record LeadsToEvent (t : Source) (c : Component) (nm : Name) : Type 0 where
   pub is_declared : Member (event_decl class channel ident) (decls_of place)
   pub is_found : found c nm ≡ reached (place, declared (event_decl class channel ident))
 
-abbrev pub EventEntry : Entry → Type 0
+abbrev EventEntry : Entry → Type 0
 EventEntry e = (k : Class) × (h : ChannelTree) × (n : Ident) × (e ≡ declared (event_decl k h n))
 
 event-entry : (e : Entry) → is_asked event_asked e ≡ true → is_parameter e ≡ false → EventEntry e
@@ -88,6 +88,14 @@ position-below p (x ∷ xs) h =
       | false ↦ λ g. omega (arith, position-below p xs g)
     ]) h
 
+path-self : (p : List Text) → pointwise same_text p p ≡ true
+path-self [] = refl
+path-self (x ∷ p) = ap (λ b. b && pointwise same_text p p) (nat_list_eq_equiv.refl x) ∙ path-self p
+
+-- a name and a path are those of themselves
+pub named-self : (x : Text) (p : List Text) → (same_text x x && pointwise same_text p p) ≡ true
+named-self x p = ap (λ b. b && pointwise same_text p p) (nat_list_eq_equiv.refl x) ∙ path-self p
+
 -- what stands in a component that is written where it stands is no argument
 pub plain-thing : (x : ScopeEntry) → is_plain_part x.0 ≡ true → stands_for_argument x ≡ false
 plain-thing (whole is, e) h = refl
@@ -95,7 +103,7 @@ plain-thing (part o n b, e) h = refl
 plain-thing (blank o n ps b, e) h = refl
 plain-thing (copy o n ps b g i, e) h = absurd (false-true refl h)
 
-module _ (t : Source) (flat : is_flat t ≡ true) (listed : components_of t ≡ bodies t) (few : length (components_of t) ≤ most_objects) where
+module _ (t : Source) (alone : has_no_definitions t ≡ true) (listed : components_of t ≡ bodies t) (few : length (components_of t) ≤ most_objects) where
   home : (c : Component) → Member c (bodies t) → Member c (components_of t)
   home c m = subst (Member c) (sym listed) m
 
@@ -111,61 +119,56 @@ module _ (t : Source) (flat : is_flat t ≡ true) (listed : components_of t ≡ 
   parts-fine c m true [] at y h = cc
   parts-fine c m false [] at y h = cc
   parts-fine c m true (p ∷ ps) at y h = goes (in_scope (whole (specification_of c)) p.text) (λ z i. (root-ok t few c (home c m) p.text z i, in_body-own (whole (specification_of c)) p.text z i)) ps y h
-  parts-fine c m false (p ∷ ps) at y h = goes (outward c p.text) (λ z i. (outward-ok t few c (home c m) p.text z i, outward-own c p.text z (only-parts t flat c m) i)) ps y h
+  parts-fine c m false (p ∷ ps) at y h = goes (outward c p.text) (λ z i. (outward-ok t few c (home c m) p.text z i, outward-own c p.text z (only-parts t alone c m) i)) ps y h
 
   pub found-fine : (c : Component) → Member c (bodies t) → (nm : Name) (y : ScopeEntry) → found c nm ≡ reached y → Ok t few y × (is_parameter y.1 ≡ false)
   found-fine c m nm y h = parts-fine c m nm.from_root nm.parts nm.at y h
 
   module _ (known : (at : ℕ) → UnknownDue t at → ⊥) (sorts : (at : ℕ) → WrongKindDue t at → ⊥) where
-    pub leads : (c : Component) → Member c (bodies t) → (nm : Name) → Member (record { name = nm; asks = event_asked }) (uses c) → LeadsToEvent t c nm
-    leads c m nm k =
-        (elim (found c nm) as (λ r. found c nm ≡ r → LeadsToEvent t c nm) [
-          | missing ↦ λ h. absurd (known nm.at (member-any (λ c. UnknownName c nm.at ⊎ UnknownOwn c nm.at) c (bodies t) m (inl (member-any (λ (u : Use). (u.name.at ≡ nm.at) × (is_missing (sought c u) ≡ true)) this (uses c) k (refl, ap is_missing h)))))
-          | blocked ↦ λ h. absurd (wrong (ap (is_wrong (is_asked event_asked)) h))
-          | reached x ↦ λ h. event x h (asked x h)
+    -- a name that is used leads to what is asked for
+    pub asked : (c : Component) → Member c (bodies t) → (u : Use) → Member u (uses c) → sought c u ≡ found c u.name → (x : ScopeEntry) × (found c u.name ≡ reached x) × (is_asked u.asks x.1 ≡ true)
+    asked c m u k same =
+        (elim (found c u.name) as (λ r. found c u.name ≡ r → (x : ScopeEntry) × (found c u.name ≡ reached x) × (is_asked u.asks x.1 ≡ true)) [
+          | missing ↦ λ e. absurd (known u.name.at (member-any (λ c. UnknownName c u.name.at ⊎ UnknownOwn c u.name.at) c (bodies t) m (inl (member-any (λ (v : Use). (v.name.at ≡ u.name.at) × (is_missing (sought c v) ≡ true)) u (uses c) k (refl, ap is_missing (same ∙ e))))))
+          | blocked ↦ λ e. absurd (wrong (ap (is_wrong (is_asked u.asks)) (same ∙ e)))
+          | reached x ↦ λ e. (x, e, sort x e)
         ]) refl
       where
-        this : Use
-        this = record { name = nm; asks = event_asked }
+        wrong : is_wrong (is_asked u.asks) (sought c u) ≡ true → ⊥
+        wrong g = sorts u.name.at (member-any (λ c. WrongName c u.name.at ⊎ WrongOwn c u.name.at ⊎ WrongCount c u.name.at) c (bodies t) m (inl (member-any (λ (v : Use). (v.name.at ≡ u.name.at) × (is_wrong (is_asked v.asks) (sought c v) ≡ true)) u (uses c) k (refl, g))))
 
-        wrong : is_wrong (is_asked event_asked) (found c nm) ≡ true → ⊥
-        wrong g = sorts nm.at (member-any (λ c. WrongName c nm.at ⊎ WrongOwn c nm.at ⊎ WrongCount c nm.at) c (bodies t) m (inl (member-any (λ (u : Use). (u.name.at ≡ nm.at) × (is_wrong (is_asked u.asks) (sought c u) ≡ true)) this (uses c) k (refl, g))))
-
-        asked : (x : ScopeEntry) → found c nm ≡ reached x → is_asked event_asked x.1 ≡ true
-        asked x h =
-            (elim (is_asked event_asked x.1) as (λ b. is_asked event_asked x.1 ≡ b → b ≡ true) [
+        sort : (x : ScopeEntry) → found c u.name ≡ reached x → is_asked u.asks x.1 ≡ true
+        sort x e =
+            (elim (is_asked u.asks x.1) as (λ b. is_asked u.asks x.1 ≡ b → b ≡ true) [
               | true ↦ λ g. refl
-              | false ↦ λ g. absurd (wrong (ap (is_wrong (is_asked event_asked)) h ∙ ap not g))
+              | false ↦ λ g. absurd (wrong (ap (is_wrong (is_asked u.asks)) (same ∙ e) ∙ ap not g))
             ]) refl
 
-        event : (x : ScopeEntry) → found c nm ≡ reached x → is_asked event_asked x.1 ≡ true → LeadsToEvent t c nm
-        event (d, e) h a =
-            let fine = found-fine c m nm (d, e) h in
-            let is = event-entry e a fine.1 in
-            let reaches : found c nm ≡ reached (d, declared (event_decl is.0 is.1 is.2)) = h ∙ ap (λ (y : Entry). reached (d, y)) is.3 in
-            record {
-              place = d;
-              class = is.0;
-              channel = is.1;
-              ident = is.2;
-              is_body = subst (Member d) listed fine.0.0.0;
-              is_declared = (found-fine c m nm (d, declared (event_decl is.0 is.1 is.2)) reaches).0.1;
-              is_found = reaches;
-            }
+    pub leads : (c : Component) → Member c (bodies t) → (nm : Name) → Member (record { name = nm; asks = event_asked }) (uses c) → LeadsToEvent t c nm
+    leads c m nm k =
+        let x = asked c m (record { name = nm; asks = event_asked }) k refl in
+        let fine = found-fine c m nm x.0 x.1 in
+        let is = event-entry x.0.1 x.2 fine.1 in
+        let reaches : found c nm ≡ reached (x.0.0, declared (event_decl is.0 is.1 is.2)) = x.1 ∙ ap (λ (y : Entry). reached (x.0.0, y)) is.3 in
+        record {
+          place = x.0.0;
+          class = is.0;
+          channel = is.1;
+          ident = is.2;
+          is_body = subst (Member x.0.0) listed fine.0.0.0;
+          is_declared = (found-fine c m nm (x.0.0, declared (event_decl is.0 is.1 is.2)) reaches).0.1;
+          is_found = reaches;
+        }
 
   -- what such a name denotes, by its number
-  pub event-number : (c : Component) → Member c (bodies t) → (nm : Name) → (l : LeadsToEvent t c nm) → event_at (denotes c nm) ≡ Some (number_in (events t) l.place l.ident.text)
-  event-number c m nm l =
-      ap event_at (denotes-found c nm (l.place, declared (event_decl l.class l.channel l.ident)) l.is_found (plain-thing (l.place, declared (event_decl l.class l.channel l.ident)) (only-parts t flat l.place l.is_body)))
+  pub event-number : (c : Component) (nm : Name) (l : LeadsToEvent t c nm) → event_at (denotes c nm) ≡ Some (number_in (events t) l.place l.ident.text)
+  event-number c nm l =
+      ap event_at (denotes-found c nm (l.place, declared (event_decl l.class l.channel l.ident)) l.is_found (plain-thing (l.place, declared (event_decl l.class l.channel l.ident)) (only-parts t alone l.place l.is_body)))
       ∙ ap (λ s. Some (number_in (events s) l.place l.ident.text)) (frames-listed t few l.place (home l.place l.is_body)).0
-
-  path-self : (p : List Text) → pointwise same_text p p ≡ true
-  path-self [] = refl
-  path-self (x ∷ p) = ap (λ b. b && pointwise same_text p p) (nat_list_eq_equiv.refl x) ∙ path-self p
 
   pub event-below : (c : Component) (nm : Name) (l : LeadsToEvent t c nm) → number_in (events t) l.place l.ident.text < length (events t)
   event-below c nm l =
       position-below (is_declared l.place l.ident.text) (events t)
       (member-passes (is_declared l.place l.ident.text) (events t) (l.place, event_decl l.class l.channel l.ident)
       (filter-member (λ (d : Declared). is_event d.1) (declarations t) (l.place, event_decl l.class l.channel l.ident) (declaration-listed t few l.place (event_decl l.class l.channel l.ident) (home l.place l.is_body) l.is_declared) refl)
-      (ap (λ b. b && pointwise same_text (path_of l.place) (path_of l.place)) (nat_list_eq_equiv.refl l.ident.text) ∙ path-self (path_of l.place)))
+      (named-self l.ident.text (path_of l.place)))

@@ -1,16 +1,18 @@
 -- The forms of a source that are built so far. Each test names one form that is not built yet, and is about bodies as written.
 use Rattle.std.specs.Prelude.{Bool, true, false, ◌&&◌, List, [], ◌∷◌}
 use Rattle.std.specs.List.{list_all}
-use Rattle.cif_ast.specs.Tree.{UpdateTrees, no_updates, updates}
-use Rattle.cif_source.specs.Source.{no_type, void_type, value_type, syncs, sends, receives, UseTree, EdgeTree, LocationTree, DeclTree, event_decl, alg_decl, input_decl, equation_decl, invariant_decl, SourceItem, decl_item, component_item, definition_item, instance_item, SourceBody, Source}
+use Rattle.cif_source.specs.Source.{ChannelTree, no_type, void_type, value_type, syncs, sends, receives, UseTree, EdgeTree, LocationTree, DeclTree, event_decl, alg_decl, input_decl, equation_decl, invariant_decl, ParamTree, event_param, SourceItem, decl_item, component_item, definition_item, instance_item, SourceBody, Source}
 use Rattle.cif_source.specs.Components.{body_of}
 use Rattle.cif_source.specs.Objects.{bodies, items_in, decls_in, locs_in}
-use Rattle.cif_image.specs.Received.{decl_without, location_without}
+use Rattle.cif_image.specs.Received.{decl_without, location_without, item_without}
 
 -- ---- tests of all bodies
 
 abbrev pub every_body : (SourceBody → Bool) → Source → Bool
 every_body test t = list_all (λ c. test (body_of c)) (bodies t)
+
+abbrev pub every_item : (SourceItem → Bool) → Source → Bool
+every_item test t = every_body (λ b. list_all test (items_in b)) t
 
 abbrev pub every_decl : (DeclTree → Bool) → Source → Bool
 every_decl test t = every_body (λ b. list_all test (decls_in b)) t
@@ -34,41 +36,34 @@ stands_alone (definition_item n ps b) = false
 stands_alone (instance_item i) = false
 
 abbrev pub has_no_definitions : Source → Bool
-has_no_definitions t = every_body (λ b. list_all stands_alone (items_in b)) t
-
--- ---- data: types, values, guards, updates and predicates
-
-abbrev pub is_no_data : DeclTree → Bool
-is_no_data (event_decl k h n) = true
-is_no_data (invariant_decl i) = true
-is_no_data _ = false
-
-abbrev pub has_no_predicates : LocationTree → Bool
-has_no_predicates l = is_nothing l.marked && is_nothing l.equations
-
-abbrev pub updates_nothing : UpdateTrees → Bool
-updates_nothing no_updates = true
-updates_nothing (updates u us) = false
-
-abbrev pub is_bare : EdgeTree → Bool
-is_bare e = is_nothing e.guards && updates_nothing e.updates
-
-abbrev pub has_no_data : Source → Bool
-has_no_data t = every_decl is_no_data t && every_location has_no_predicates t && every_edge is_bare t
+has_no_definitions t = every_item stands_alone t
 
 -- ---- channels
 
+-- an event of this data type is no channel
+abbrev pub has_no_type : ChannelTree → Bool
+has_no_type no_type = true
+has_no_type void_type = false
+has_no_type (value_type ty) = false
+
 abbrev pub is_no_channel : DeclTree → Bool
-is_no_channel (event_decl k no_type n) = true
-is_no_channel (event_decl k void_type n) = false
-is_no_channel (event_decl k (value_type ty) n) = false
+is_no_channel (event_decl k h n) = has_no_type h
 is_no_channel _ = true
 
 abbrev pub only_syncs : UseTree → Bool
 only_syncs u = elim u.role [ syncs ↦ true | sends e ↦ false | receives ↦ false ]
 
+abbrev pub is_no_channel_param : ParamTree → Bool
+is_no_channel_param (event_param k h n) = has_no_type h
+is_no_channel_param _ = true
+
+abbrev pub takes_no_channel : SourceItem → Bool
+takes_no_channel (definition_item n ps b) = list_all is_no_channel_param ps
+takes_no_channel _ = true
+
+-- no event is one, neither a declared one nor a parameter, and no edge sends or receives
 abbrev pub has_no_channels : Source → Bool
-has_no_channels t = every_decl is_no_channel t && every_edge (λ e. list_all only_syncs e.uses) t
+has_no_channels t = every_decl is_no_channel t && every_edge (λ e. list_all only_syncs e.uses) t && every_item takes_no_channel t
 
 -- ---- invariants
 
@@ -90,20 +85,17 @@ is_no_algebra _ = true
 abbrev pub has_no_equations : LocationTree → Bool
 has_no_equations l = is_nothing l.equations
 
+-- A parameter `alg` of a definition is not asked: it is no algebraic variable, and stands for its argument.
 abbrev pub has_no_algebra : Source → Bool
 has_no_algebra t = every_decl is_no_algebra t && every_location has_no_equations t
 
 -- ---- received values
 
 abbrev pub has_no_received : Source → Bool
-has_no_received t = every_decl decl_without t && every_location location_without t
+has_no_received t = every_decl decl_without t && every_location location_without t && every_item item_without t
 
 -- ---- all
 
 -- groups and automata with events, locations and edges, discrete variables, constants, types, guards, updates and marking predicates
 abbrev pub is_built : Source → Bool
 is_built t = has_no_definitions t && has_no_algebra t && has_no_channels t && has_no_invariants t && has_no_received t
-
--- the forms that are built: groups and automata with events, locations and edges
-abbrev pub is_flat : Source → Bool
-is_flat t = has_no_definitions t && has_no_data t && has_no_channels t && has_no_invariants t

@@ -2,7 +2,7 @@
 use Rattle.std.specs.Prelude.{Bool, true, false, ◌&&◌, Option, Some, None}
 use Rattle.std.specs.List.{list_all}
 use Rattle.cif_ast.specs.Tree.{Tree, node, Shape, truth, number, named, received, paren, negative, positive, negation, absolute, least, greatest, sum, product, comparison, all_of, any_of, implication, equivalence, choice, Trees, no_trees, trees, Terms, no_terms, terms, Factors, no_factors, factors, Branches, no_branches, branches, UpdateTree, assignment, selection, UpdateTrees, no_updates, updates, UpdateBranches, no_update_branches, update_branches}
-use Rattle.cif_source.specs.Source.{TypeTree, bool_type, int_type, range_type, named_type, ChannelTree, no_type, void_type, value_type, syncs, sends, receives, UseTree, EdgeTree, EquationTree, LocationTree, DeclTree, type_decl, enum_decl, event_decl, const_decl, alg_decl, input_decl, disc_decl, equation_decl, invariant_decl, marked_decl}
+use Rattle.cif_source.specs.Source.{TypeTree, bool_type, int_type, range_type, named_type, ChannelTree, no_type, void_type, value_type, syncs, sends, receives, UseTree, EdgeTree, EquationTree, LocationTree, DeclTree, type_decl, enum_decl, event_decl, const_decl, alg_decl, input_decl, disc_decl, equation_decl, invariant_decl, marked_decl, ParamTree, event_param, alg_param, location_param, SourceItem, definition_item, instance_item}
 use Rattle.cif_rules.specs.Demands.{predicate_of}
 
 -- ---- in expressions
@@ -100,3 +100,16 @@ edge_without e = list_all use_without e.uses && list_all without_received e.guar
 
 abbrev pub location_without : LocationTree → Bool
 location_without l = list_all without_received l.marked && list_all (λ (q : EquationTree). without_received q.value) l.equations && list_all edge_without l.edges
+
+-- ---- in items
+
+abbrev pub param_without : ParamTree → Bool
+param_without (event_param k h n) = channel_without h
+param_without (alg_param ty n) = type_without ty
+param_without (location_param n) = true
+
+-- what stands in the body of a component or of a definition has tests of its own
+abbrev pub item_without : SourceItem → Bool
+item_without (definition_item n ps b) = list_all param_without ps
+item_without (instance_item i) = list_all without_received i.args
+item_without _ = true

@@ -17,9 +17,9 @@ use Rattle.cif_system.specs.Step.{same_role}
 use Rattle.cif_rules.specs.InstanceRules.{synchronised_name}
 use Rattle.cif_image.specs.Flat.{event_number, named_events, alphabet_in, alphabet_of, monitored_in, monitored_events, net_edge}
 use Rattle.cif_image.proofs.EdgeLaws.{is_some, number-found}
-use Rattle.cif_image.proofs.NamedLaws.{LeadsToEvent}
-use Rattle.cif_inst.proofs.BuiltLaws.{no-definitions, Syncs, only-sync}
-use Rattle.cif_inst.proofs.EventLaws.{leads, event-number, event-below}
+use Rattle.cif_image.proofs.NamedLaws.{LeadsToEvent, leads, event-number, event-below}
+use Rattle.cif_image.proofs.FormLaws.{no-definitions, way-syncs}
+use Rattle.cif_inst.proofs.BuiltLaws.{Syncs}
 use Rattle.cif_inst.specs.Naming.{component_at}
 use Rattle.cif_inst.specs.Alphabets.{automaton_edges, used_events, alphabet_by, alphabet_for, monitors_by, monitors_for}
 use Rattle.cif_inst.specs.declared.naming.Naming.{Naming}
@@ -63,7 +63,7 @@ module _ (t : Source) (h : IsSound t) where
   used-numbered : (c : Component) → Member c (bodies t) → (nm : Name) → Member (event-use nm) (uses c) → Numbered t c nm
   used-numbered c m nm k =
       let l : LeadsToEvent t c nm = leads t (no-definitions t h.built) (listed t h) (few t h) h.scoping.known h.scoping.fitting c m nm k in
-      let at : event_at (denotes c nm) ≡ Some (number_in (events t) l.place l.ident.text) = event-number t (no-definitions t h.built) (listed t h) (few t h) c m nm l in
+      let at : event_at (denotes c nm) ≡ Some (number_in (events t) l.place l.ident.text) = event-number t (no-definitions t h.built) (listed t h) (few t h) c nm l in
       let is : event_number c nm ≡ number_in (events t) l.place l.ident.text = ap (λ o. unwrap_or o 0) at in
       record {
         number = sym (number-found (event_at (denotes c nm)) (ap is_some at));
@@ -92,7 +92,7 @@ module _ (t : Source) (h : IsSound t) where
 
     synchronised-numbered : (nm : Name) → Member nm (flat_map synchronised_name (event_edges c)) → Numbered t c nm
     synchronised-numbered nm k =
-        let w = member-map use_name nm (event_edges c) (subst (Member nm) (synchronised-all (event_edges c) (only-sync t h.built c m)) k) in
+        let w = member-map use_name nm (event_edges c) (subst (Member nm) (synchronised-all (event_edges c) (way-syncs t h.built c m)) k) in
         subst (Numbered t c) (sym w.2) (edge-numbered c m w.0 w.1)
 
     pub alphabet-below : (x : ℕ) → Member x (alphabet_of c) → x < length (events t)
@@ -122,7 +122,7 @@ module _ (n : Naming) (k : ℕ) (t : Source) (h : IsSound t) (m : Member (compon
       ap (alphabet_in own) e
       ∙ (elim a.alphabet as (λ o. ((nm : Name) → Member nm (unwrap_or o []) → Numbered t own nm)
       → named_events own (elim o [ None ↦ flat_map synchronised_name (event_edges own) | Some nms ↦ nms ]) ≡ alphabet_by n k o (used_events n k a)) [
-        | None ↦ λ u. found-events own (event_edges own) (only-sync t h.built own m) (λ w x. (edge-numbered t h own m w x).number) ∙ sym (ap (map event_of) edges)
+        | None ↦ λ u. found-events own (event_edges own) (way-syncs t h.built own m) (λ w x. (edge-numbered t h own m w x).number) ∙ sym (ap (map event_of) edges)
         | Some nms ↦ λ u. named-are own nms (λ nm x. (u nm x).number)
       ]) (alphabet-numbered t h own m a e)
 

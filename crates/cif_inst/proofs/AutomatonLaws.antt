@@ -14,13 +14,13 @@ use Rattle.cif_scope.proofs.LookLaws.{slot-is}
 use Rattle.cif_image.specs.Flat.{net_edge}
 use Rattle.cif_image.proofs.KeptLaws.{has_twice}
 use Rattle.cif_image.proofs.PathLaws.{names}
+use Rattle.cif_image.proofs.FormLaws.{way-syncs}
 use Rattle.cif_inst.specs.Naming.{source_for, component_at, AreNamesOf}
 use Rattle.cif_inst.specs.Edges.{locations_edges}
 use Rattle.cif_inst.specs.Alphabets.{name_places, location_places, automaton_edges, used_events, alphabet_for, monitors_for, is_outside, first_failing, or_later, tells, marked, is_unmarked, AreMarks}
 use Rattle.cif_inst.specs.declared.error.InstErr.{InstErr}
 use Rattle.cif_inst.specs.declared.error.InstErr.TheVariants.{AlphabetLacks, TooManyObjects, ConstantRange, Memory}
 use Rattle.cif_inst.specs.declared.naming.Naming.{Naming}
-use Rattle.cif_inst.proofs.BuiltLaws.{only-sync}
 use Rattle.cif_inst.proofs.NamingLaws.{IsSound, names-sound, single, own-scope, body-is}
 use Rattle.cif_inst.proofs.EdgeLaws.{place_of, TargetsAre, slotted-place, automaton-place, all-edges-are}
 use Rattle.cif_inst.proofs.MarkLaws.{marked-outside, same-failing}
@@ -47,7 +47,7 @@ module _ (n : Naming) (h : AreNamesOf n) where
   edges k below a e =
       let c = component_at n k in
       let m : Member c (bodies (source_for n)) = at-member (bodies (source_for n)) k c (body-is (source_for n) k below) in
-      ap (λ b. locations_edges n k (length a.locs) 0 (locs_in b)) (sym e) ∙ all-edges-are n k (length a.locs) (targets k below a e) (only-sync (source_for n) h.built c m)
+      ap (λ b. locations_edges n k (length a.locs) 0 (locs_in b)) (sym e) ∙ all-edges-are n k (length a.locs) (targets k below a e) (way-syncs (source_for n) h.built c m)
 
   -- ---- marks
 

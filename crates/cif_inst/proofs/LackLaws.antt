@@ -18,7 +18,7 @@ use Rattle.cif_rules.specs.InstanceRules.{synchronised_name, is_lacking, Alphabe
 use Rattle.cif_image.specs.Flat.{event_number, net_edge}
 use Rattle.cif_image.proofs.SystemLaws.{map-map, alphabet-same}
 use Rattle.cif_image.proofs.RuleLaws.{member-any}
-use Rattle.cif_inst.proofs.BuiltLaws.{only-sync}
+use Rattle.cif_image.proofs.FormLaws.{way-syncs}
 use Rattle.cif_inst.specs.Naming.{component_at}
 use Rattle.cif_inst.specs.Alphabets.{name_places, use_place, edge_places, location_places, automaton_edges, used_events, alphabet_for, monitors_by, monitors_for, is_outside, first_failing, or_later, automaton_lacks}
 use Rattle.cif_inst.specs.declared.naming.Naming.{Naming}
@@ -126,7 +126,7 @@ module _ (n : Naming) (k : ℕ) (t : Source) (h : IsSound t) (m : Member (compon
 
   names-are : asked_names own ≡ edge_names ++ unwrap_or a.monitor []
   names-are =
-      ap (λ xs. xs ++ rules.monitored_in (body_of own)) (synchronised-all (event_edges own) (only-sync t h.built own m))
+      ap (λ xs. xs ++ rules.monitored_in (body_of own)) (synchronised-all (event_edges own) (way-syncs t h.built own m))
       ∙ ap (λ b. edge_names ++ rules.monitored_in b) e
 
   edge-name-numbered : (nm : Name) → Member nm edge_names → Numbered t own nm

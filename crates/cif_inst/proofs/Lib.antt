@@ -1,7 +1,6 @@
 pub mod BuiltLaws
 pub mod RowLaws
 pub mod SlotLaws
-pub mod EventLaws
 pub mod NamingLaws
 pub mod EdgeLaws
 pub mod UseLaws

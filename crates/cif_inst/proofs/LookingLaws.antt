@@ -15,12 +15,13 @@ use Rattle.cif_net.specs.declared.automata.NetRole.TheVariants as role
 use Rattle.cif_net.specs.View.{edge_tree}
 use Rattle.cif_image.specs.Flat.{event_number, net_updates_of, value_places}
 use Rattle.cif_image.specs.Translation.{net_guard}
+use Rattle.cif_image.proofs.FormLaws.{no-definitions}
 use Rattle.cif_translate.specs.Looking as looks
 use Rattle.cif_translate.specs.declared.looking.Looking.{Looking}
 use Rattle.cif_inst.specs.Naming.{source_for, component_at, AreNamesOf, looking_of}
 use Rattle.cif_inst.specs.Edges.{sync_edge}
 use Rattle.cif_inst.specs.declared.naming.Naming.{Naming}
-use Rattle.cif_inst.proofs.BuiltLaws.{no-definitions, parts-alone}
+use Rattle.cif_inst.proofs.BuiltLaws.{parts-alone}
 
 pub looked_names : (n : Naming) (l : Looking) → l ≡ looking_of n → AreNamesOf n → looks.AreNamesOf l
 looked_names n l is h = subst looks.AreNamesOf (sym is) (record { scopes = h.scopes.numbers; parts = parts-alone (source_for n) (no-definitions (source_for n) h.built); objects = h.objects })

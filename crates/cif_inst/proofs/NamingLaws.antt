@@ -27,12 +27,11 @@ use Rattle.cif_image.proofs.SingleLaws.{scopes-single}
 use Rattle.cif_image.proofs.WalkLaws.{body_objects, bodies-components, few-objects}
 use Rattle.cif_image.proofs.BodyLaws.{is_single, paths-distinct}
 use Rattle.cif_image.proofs.NumberLaws.{number-is}
-use Rattle.cif_image.proofs.FormLaws.{is_plain_part}
+use Rattle.cif_image.proofs.FormLaws.{is_plain_part, no-definitions, no-params, only-parts}
 use Rattle.cif_image.proofs.NamedLaws.{plain-thing}
 use Rattle.cif_inst.specs.Events.{rows_slots}
 use Rattle.cif_inst.specs.Naming.{or_whole, body_at, source_for, component_at, slot_number, number_at, AreNamesOf}
 use Rattle.cif_inst.specs.declared.naming.Naming.{Naming}
-use Rattle.cif_inst.proofs.BuiltLaws.{no-definitions, no-params, only-parts}
 use Rattle.cif_inst.proofs.RowLaws.{row_for, rows-are, objects-are}
 use Rattle.cif_inst.proofs.SlotLaws.{event-at, other-at}
 

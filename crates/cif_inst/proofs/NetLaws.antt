@@ -34,7 +34,7 @@ use Rattle.cif_image.specs.Small.{HasSmallParts}
 use Rattle.cif_image.specs.WellFormed.{KeepsBefore, algebraic}
 use Rattle.cif_image.proofs.RuleLaws.{declaration-cases}
 use Rattle.cif_image.proofs.WalkLaws.{body_objects, bodies-components, few-objects, many-objects}
-use Rattle.cif_image.proofs.FormLaws.{is_plain_part, flat-nothing}
+use Rattle.cif_image.proofs.FormLaws.{is_plain_part, flat-nothing, no-definitions, decl-algebra, decl-invariant, only-parts}
 use Rattle.cif_inst.specs.Rows.{RowTree, rows_of}
 use Rattle.cif_inst.specs.Objects.{stop, rows_count}
 use Rattle.cif_inst.specs.Events.{rows_events, rows_slots}
@@ -46,7 +46,7 @@ use Rattle.cif_inst.specs.Alphabets.{tells}
 use Rattle.cif_inst.specs.declared.error.InstErr.{InstErr}
 use Rattle.cif_inst.specs.declared.error.InstErr.TheVariants.{AlphabetLacks, TooManyObjects, ConstantRange, Memory}
 use Rattle.cif_inst.specs.declared.naming.Naming.{Naming}
-use Rattle.cif_inst.proofs.BuiltLaws.{no-definitions, no-algebra, no-invariant, only-parts, all-plain}
+use Rattle.cif_inst.proofs.BuiltLaws.{all-plain}
 use Rattle.cif_inst.proofs.RowLaws.{prefix_of, prefix-step, prefix-dotted, row_for, rows-are, From, from-here, from-next, all-bodies, objects-are, events-are}
 use Rattle.cif_inst.proofs.NamingLaws.{IsSound, names-sound, listed, few, body-is}
 use Rattle.cif_inst.proofs.AlphabetLaws.{alphabet-is, monitors-are}
@@ -181,11 +181,11 @@ module _ (t : Source) (h : IsSound t) where
   net-parts = λ i. record {
     autos = map net_auto (automata t);
     events = map net_event (events t);
-    inputs = map net_stored (filter-nothing (λ (d : Declared). is_input d.1) (declarations t) (λ d m. let p = its-place d m in no-input d.1 (no-algebra t h.built d.0 p.0 d.1 p.1)) i);
+    inputs = map net_stored (filter-nothing (λ (d : Declared). is_input d.1) (declarations t) (λ d m. let p = its-place d m in no-input d.1 (decl-algebra t h.built d.0 p.0 d.1 p.1)) i);
     vars = map net_stored (variables t);
-    algs = map net_alg (filter-nothing (λ (d : Declared). is_alg d.1) (declarations t) (λ d m. let p = its-place d m in no-alg d.1 (no-algebra t h.built d.0 p.0 d.1 p.1)) i);
-    exclusions = flat-nothing net_exclusions (declarations t) (λ d m. let p = its-place d m in no-exclusion d.0 d.1 (no-invariant t h.built d.0 p.0 d.1 p.1)) i;
-    invariants = flat-nothing net_invariants (declarations t) (λ d m. let p = its-place d m in no-state d.0 d.1 (no-invariant t h.built d.0 p.0 d.1 p.1)) i;
+    algs = map net_alg (filter-nothing (λ (d : Declared). is_alg d.1) (declarations t) (λ d m. let p = its-place d m in no-alg d.1 (decl-algebra t h.built d.0 p.0 d.1 p.1)) i);
+    exclusions = flat-nothing net_exclusions (declarations t) (λ d m. let p = its-place d m in no-exclusion d.0 d.1 (decl-invariant t h.built d.0 p.0 d.1 p.1)) i;
+    invariants = flat-nothing net_invariants (declarations t) (λ d m. let p = its-place d m in no-state d.0 d.1 (decl-invariant t h.built d.0 p.0 d.1 p.1)) i;
   }
 
 -- ---- what is given of a source whose objects are few

@@ -20,7 +20,7 @@ use Rattle.cif_image.specs.Built.{stands_alone, has_no_definitions, is_no_channe
 use Rattle.cif_image.specs.Flat.{dotted, net_event}
 use Rattle.cif_image.proofs.WalkLaws.{is_written_out, body_objects}
 use Rattle.cif_image.proofs.NumberLaws.{kept-all, append-kept}
-use Rattle.cif_inst.proofs.BuiltLaws.{no-definitions, no-channel}
+use Rattle.cif_image.proofs.FormLaws.{no-definitions, decl-channel}
 use Rattle.cif_inst.specs.Rows.{RowTree, rows_in, rows_from, rows_of}
 use Rattle.cif_inst.specs.Objects as objects
 use Rattle.cif_inst.specs.Events as events
@@ -190,6 +190,6 @@ rows-events (c ∷ cs) h =
 pub events-are : (t : Source) → is_built t ≡ true → components_of t ≡ bodies t → events.rows_events (rows_of t) ≡ map net_event (events t)
 events-are t built listed =
     ap events.rows_events (rows-are t (no-definitions t built))
-    ∙ rows-events (bodies t) (no-channel t built)
+    ∙ rows-events (bodies t) (decl-channel t built)
     ∙ ap (map net_event) (sym (kept-all (bodies t)))
     ∙ ap (λ cs. map net_event (filter (λ (d : Declared). is_event d.1) (flat_map (λ c. map (λ d. (c, d)) (decls_of c)) cs))) (sym listed)

@@ -14,10 +14,9 @@ use Rattle.cif_constants.specs.Constants.{BoundsDue}
 use Rattle.cif_scope.specs.Scopes.{KeepsScoping}
 use Rattle.cif_types.specs.Kinds.{KeepsKinds}
 use Rattle.cif_image.specs.WellFormed.{unknown, duplicate, wrong_kind, definition_cycle, mismatch, not_constant, initials, not_own, assigned_twice, equations, alphabet_lacks, role_mixed, too_many_objects, constant_range, alg_cycle, zero_divisor, too_wide, invariant_reads_input, invariant_false, too_large, too_many_choices, algebraic, KeepsBefore}
-use Rattle.cif_image.proofs.FormLaws.{any-member}
+use Rattle.cif_image.proofs.FormLaws.{any-member, way-syncs}
 use Rattle.cif_image.proofs.RuleLaws.{member-any}
 use Rattle.cif_inst.specs.Net.{KeepsInstances}
-use Rattle.cif_inst.proofs.BuiltLaws.{only-sync}
 use Rattle.cif_inst.proofs.NamingLaws.{IsSound}
 use Rattle.cif_inst.proofs.UseLaws.{automaton-body}
 
@@ -38,7 +37,7 @@ module _ (t : Source) (h : IsSound t) where
   -- no edge has another role
   no-edge : (p : Role) → same_role p syncing ≡ false → (e : ℕ) (a : Component) → Member a (bodies t) → has_edge p e a ≡ false
   no-edge p other e a m =
-      none-passes (has_role p e a) (event_edges a) (λ w k. ap (λ r. same_role p (role_of r) && denotes_event e a w.event_use.name) (only-sync t h.built a m w k) ∙ ap (λ b. b && denotes_event e a w.event_use.name) other)
+      none-passes (has_role p e a) (event_edges a) (λ w k. ap (λ r. same_role p (role_of r) && denotes_event e a w.event_use.name) (way-syncs t h.built a m w k) ∙ ap (λ b. b && denotes_event e a w.event_use.name) other)
 
   pub no-roles : (at : ℕ) → RoleMixedDue t at → ⊥
   no-roles at due =

@@ -10,12 +10,11 @@ use Rattle.cif_source.specs.Objects.{components_of, bodies, automata, is_automat
 use Rattle.cif_rules.specs.InstanceRules.{is_lacking, AlphabetLacksDue}
 use Rattle.cif_scope.specs.Tables.{IsBody}
 use Rattle.cif_image.proofs.RuleLaws.{member-any}
-use Rattle.cif_image.proofs.FormLaws.{any-member}
+use Rattle.cif_image.proofs.FormLaws.{any-member, no-definitions}
 use Rattle.cif_inst.specs.Rows.{RowTree, rows_of}
 use Rattle.cif_inst.specs.Naming.{source_for, component_at, or_whole, AreNamesOf}
 use Rattle.cif_inst.specs.Autos.{body_lacks, rows_lacks}
 use Rattle.cif_inst.specs.declared.naming.Naming.{Naming}
-use Rattle.cif_inst.proofs.BuiltLaws.{no-definitions}
 use Rattle.cif_inst.proofs.RowLaws.{row_for, rows-are, From, from-here, from-next, all-bodies}
 use Rattle.cif_inst.proofs.NamingLaws.{listed}
 use Rattle.cif_inst.proofs.UseLaws.{automaton-body}

@@ -9,10 +9,8 @@ use Rattle.cif_source.specs.Source.{UseTree, EquationTree, EdgeTree, LocationTre
 use Rattle.cif_source.specs.Components.{Component, body_of, params_of}
 use Rattle.cif_source.specs.Objects.{components_of, bodies, automata, is_automaton, locs_of, locs_in, EventEdge, event_edges}
 use Rattle.cif_source.specs.Uses.{Use, uses, event_asked, asking, param_uses, body_uses, decl_uses, location_uses, value_uses, edge_uses, event_uses, updates_uses}
-use Rattle.cif_image.proofs.FormLaws.{edge-stands, enumerated}
-use Rattle.cif_image.proofs.NamedLaws.{LeadsToEvent}
-use Rattle.cif_inst.proofs.BuiltLaws.{no-definitions}
-use Rattle.cif_inst.proofs.EventLaws.{leads}
+use Rattle.cif_image.proofs.FormLaws.{edge-stands, enumerated, no-definitions}
+use Rattle.cif_image.proofs.NamedLaws.{LeadsToEvent, leads}
 use Rattle.cif_inst.proofs.NamingLaws.{IsSound, listed, few}
 
 abbrev pub event-use : Name → Use

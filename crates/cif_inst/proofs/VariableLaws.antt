@@ -25,13 +25,13 @@ use Rattle.cif_image.specs.Built.{is_built}
 use Rattle.cif_image.specs.Flat.{net_stored}
 use Rattle.cif_image.specs.Types.{net_type}
 use Rattle.cif_image.proofs.NumberLaws.{append-kept}
+use Rattle.cif_image.proofs.FormLaws.{no-definitions}
 use Rattle.cif_inst.specs.Naming.{or_whole, body_at}
 use Rattle.cif_inst.specs.Rows.{rows_of}
 use Rattle.cif_inst.specs.Variables.{variable, decl_variables, decls_variables, items_variables, body_variables, rows_variables, typed_source, typed_body, AreTypesOf, StandIn}
 use Rattle.cif_inst.specs.Views.{row_tree, row_body}
 use Rattle.cif_inst.specs.declared.rows.Row.{Row}
 use Rattle.cif_inst.specs.declared.variables.Typing.{Typing}
-use Rattle.cif_inst.proofs.BuiltLaws.{no-definitions}
 use Rattle.cif_inst.proofs.NamingLaws.{body-is}
 use Rattle.cif_inst.proofs.RowAutoLaws.{row_below, row_written}
 use Rattle.cif_inst.proofs.RowLaws.{prefix_of, prefix-dotted, row_for, rows-are, From, from-here, from-next, all-bodies}

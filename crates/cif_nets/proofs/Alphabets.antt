@@ -21,8 +21,9 @@ use Rattle.cif_image.specs.Flat.{event_number, named_events, alphabet_in, alphab
 use Rattle.cif_image.proofs.SystemLaws.{alphabet-same}
 use Rattle.cif_image.proofs.KeptLaws.{member-passes}
 use Rattle.cif_image.proofs.RuleLaws.{member-any, all-from}
+use Rattle.cif_image.proofs.FormLaws.{way-syncs}
 use Rattle.cif_nets.proofs.Sound.{IsSound, alphabets}
-use Rattle.cif_nets.proofs.Forms.{automaton-body, edge-of, use-of, way-syncs}
+use Rattle.cif_nets.proofs.Forms.{automaton-body, edge-of, use-of}
 use Rattle.cif_nets.proofs.Finding.{event-use, leads-event}
 use Rattle.cif_nets.proofs.Uses.{event-used, alphabet-used, monitor-used}
 use Rattle.cif_nets.proofs.Numbers.{Numbered, numbered}
@@ -67,7 +68,7 @@ module _ (t : Source) (h : IsSound t) where
       let m = automaton-body t h c a in
       inside-alphabet c a w.event_use.name
       (append-left w.event_use.name (flat_map synchronised_name (event_edges c)) (rules.monitored_in (body_of c))
-      (subst (Member w.event_use.name) (sym (synchronised-all (event_edges c) (way-syncs t h c m))) (map-member use_name w (event_edges c) k)))
+      (subst (Member w.event_use.name) (sym (synchronised-all (event_edges c) (way-syncs t h.built c m))) (map-member use_name w (event_edges c) k)))
       (edge-numbered c m w k).number
 
   module _ (c : Component) (m : Member c (automata t)) (a : AutomatonTree) (e : body_of c ≡ automaton_body a) where
@@ -89,7 +90,7 @@ module _ (t : Source) (h : IsSound t) where
 
     synchronised-numbered : (nm : Name) → Member nm (flat_map synchronised_name (event_edges c)) → Numbered t h c nm
     synchronised-numbered nm k =
-        let w = member-map use_name nm (event_edges c) (subst (Member nm) (synchronised-all (event_edges c) (way-syncs t h c home)) k) in
+        let w = member-map use_name nm (event_edges c) (subst (Member nm) (synchronised-all (event_edges c) (way-syncs t h.built c home)) k) in
         subst (Numbered t h c) (sym w.2) (edge-numbered c home w.0 w.1)
 
     pub alphabet-below : (x : ℕ) → Member x (alphabet_of c) → x < length (events t)

@@ -22,8 +22,9 @@ use Rattle.cif_image.specs.Translation.{net_of, net_guard}
 use Rattle.cif_image.specs.Small.{HasSmallParts}
 use Rattle.cif_image.specs.WellFormed.{algebraic, KeepsBefore}
 use Rattle.cif_image.proofs.RuleLaws.{all-from}
+use Rattle.cif_image.proofs.FormLaws.{way-syncs}
 use Rattle.cif_nets.proofs.Sound.{IsSound}
-use Rattle.cif_nets.proofs.Forms.{automaton-body, edge-of, way-syncs}
+use Rattle.cif_nets.proofs.Forms.{automaton-body, edge-of}
 use Rattle.cif_nets.proofs.Things.{net-is, things-few, events-stand, declared-home}
 use Rattle.cif_nets.proofs.Types.{variable-stands}
 use Rattle.cif_nets.proofs.Targets.{from-small, end-small, first-small}
@@ -112,7 +113,7 @@ module _ (t : Source) (h : IsSound t) (small : HasSmallParts t) (kept : KeepKind
     one-edge : (w : EventEdge) → Member w (event_edges c) → edge_stands (net_of_source t) (net_auto c) (net_edge c w) ≡ true
     one-edge w k =
         let number = edge-numbered t h c home w k in
-        ap (edge_stands (net_of_source t) (net_auto c)) (edge-syncs c w (way-syncs t h c home w k))
+        ap (edge_stands (net_of_source t) (net_auto c)) (edge-syncs c w (way-syncs t h.built c home w k))
         ∙ edge-tests (nat_lt (event_number c w.event_use.name) (length (map net_event (events t)))) (nat_lt w.from (length (map location_name (locs_of c)))) (nat_lt (end_of c w) (length (map location_name (locs_of c))))
         (fits (net_of_source t) None bool_kind (net_guard c w.event_use.name.at w.edge.guards)) (updates_stand (net_of_source t) None (net_updates_of c w.edge.updates))
         (nat_eq (length (sync_edge c w).places) (length (edge_values (sync_edge c w)))) (nat_lt (length (sync_edge c w).places) 4294967296) (has (alphabet_of c) (event_number c w.event_use.name))

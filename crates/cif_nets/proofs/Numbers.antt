@@ -1,17 +1,16 @@
 -- The numbers of events and of variables: a name that leads to one has its number, and a variable stands at its number.
 use Rattle.std.proofs.Common.{◌≡◌, suc, ◌+◌, ◌<◌, Bool, true, false, cond, List, [], ◌∷◌, length, Some, refl, sym, ◌∙◌, ap, subst, arith}
-use Rattle.std.specs.Prelude.{◌&&◌, ◌||◌, not, slice_get, unwrap_or}
+use Rattle.std.specs.Prelude.{◌||◌, not, slice_get, unwrap_or}
 use Rattle.std.specs.List.{list_any, position_or_len}
-use Rattle.std.specs.Cmp.Lexicographic.{pointwise}
 use Rattle.std.proofs.lemmas.Cmp.{nat_list_eq_equiv}
 use Rattle.cif_ast.specs.declared.names.Name.{Name}
 use Rattle.cif_system.specs.Words.{Member}
 use Rattle.cif_system.proofs.Lists.{false-true, filter-member, filter-within}
 use Rattle.cif_system.proofs.Picks.{and-left, and-right, at-member}
-use Rattle.cif_source.specs.Source.{Text, event_decl, disc_decl, Source}
-use Rattle.cif_source.specs.Components.{Component, body_of, path_of, same_text, declared}
+use Rattle.cif_source.specs.Source.{Text, disc_decl, Source}
+use Rattle.cif_source.specs.Components.{Component, body_of, path_of, declared}
 use Rattle.cif_source.specs.Lookup.{denotes}
-use Rattle.cif_source.specs.Objects.{decls_of, Declared, declarations, events, variables, is_event, is_variable, is_declared, declares, number_in}
+use Rattle.cif_source.specs.Objects.{decls_of, Declared, declarations, events, variables, is_variable, is_declared, declares, number_in}
 use Rattle.cif_source.specs.Step.{event_at, variable_at}
 use Rattle.cif_source.proofs.ReachLaws.{frames-listed}
 use Rattle.cif_source.proofs.NameLaws.{denotes-found}
@@ -21,9 +20,10 @@ use Rattle.cif_image.proofs.PathLaws.{path-told}
 use Rattle.cif_image.proofs.FoundLaws.{declaration-listed}
 use Rattle.cif_image.proofs.RuleLaws.{declaration-cases}
 use Rattle.cif_image.proofs.DistinctLaws.{paths-differ, declared-once}
-use Rattle.cif_image.proofs.NamedLaws.{LeadsToEvent, plain-thing, position-below}
-use Rattle.cif_nets.proofs.Sound.{IsSound, few, home, from-home, scopes, body-single}
-use Rattle.cif_nets.proofs.Forms.{only-parts}
+use Rattle.cif_image.proofs.FormLaws.{only-parts}
+use Rattle.cif_image.proofs.NamedLaws as named
+use Rattle.cif_image.proofs.NamedLaws.{LeadsToEvent, plain-thing, named-self, event-below}
+use Rattle.cif_nets.proofs.Sound.{IsSound, alone, listed, few, home, from-home, scopes, body-single}
 use Rattle.cif_nets.proofs.Finding.{LeadsToVariable}
 
 -- ---- places in lists
@@ -39,27 +39,8 @@ position-found {A = A} p (x ∷ xs) h =
           (rest.0, ap (slice_get (x ∷ xs)) (let e : 1 + position_or_len p xs ≡ suc (position_or_len p xs) = omega arith in e) ∙ rest.1, rest.2)
     ]) refl h
 
-path-self : (p : List Text) → pointwise same_text p p ≡ true
-path-self [] = refl
-path-self (x ∷ p) = ap (λ b. b && pointwise same_text p p) (nat_list_eq_equiv.refl x) ∙ path-self p
-
-named-self : (x : Text) (p : List Text) → (same_text x x && pointwise same_text p p) ≡ true
-named-self x p = ap (λ b. b && pointwise same_text p p) (nat_list_eq_equiv.refl x) ∙ path-self p
-
 module _ (t : Source) (h : IsSound t) where
   -- ---- events
-
-  event-at-number : (c : Component) (nm : Name) (l : LeadsToEvent t c nm) → event_at (denotes c nm) ≡ Some (number_in (events t) l.place l.ident.text)
-  event-at-number c nm l =
-      ap event_at (denotes-found c nm (l.place, declared (event_decl l.class l.channel l.ident)) l.is_found (plain-thing (l.place, declared (event_decl l.class l.channel l.ident)) (only-parts t h l.place l.is_body)))
-      ∙ ap (λ s. Some (number_in (events s) l.place l.ident.text)) (frames-listed t (few t h) l.place (home t h l.place l.is_body)).0
-
-  event-below : (c : Component) (nm : Name) (l : LeadsToEvent t c nm) → number_in (events t) l.place l.ident.text < length (events t)
-  event-below c nm l =
-      position-below (is_declared l.place l.ident.text) (events t)
-      (member-passes (is_declared l.place l.ident.text) (events t) (l.place, event_decl l.class l.channel l.ident)
-      (filter-member (λ (d : Declared). is_event d.1) (declarations t) (l.place, event_decl l.class l.channel l.ident) (declaration-listed t (few t h) l.place (event_decl l.class l.channel l.ident) (home t h l.place l.is_body) l.is_declared) refl)
-      (named-self l.ident.text (path_of l.place)))
 
   -- a name of an event, with the number of the event
   pub record Numbered (c : Component) (nm : Name) : Type 0 where
@@ -68,15 +49,15 @@ module _ (t : Source) (h : IsSound t) where
 
   pub numbered : (c : Component) (nm : Name) → LeadsToEvent t c nm → Numbered c nm
   numbered c nm l =
-      let at = event-at-number c nm l in
+      let at = named.event-number t (alone t h) (listed t h) (few t h) c nm l in
       let is : event_number c nm ≡ number_in (events t) l.place l.ident.text = ap (λ o. unwrap_or o 0) at in
-      record { number = at ∙ ap Some (sym is); below = omega (arith, is, event-below c nm l) }
+      record { number = at ∙ ap Some (sym is); below = omega (arith, is, event-below t (alone t h) (listed t h) (few t h) c nm l) }
 
   -- ---- variables
 
   variable-at-number : (c : Component) (nm : Name) (l : LeadsToVariable t c nm) → variable_at (denotes c nm) ≡ Some (number_in (variables t) l.place l.ident.text)
   variable-at-number c nm l =
-      ap variable_at (denotes-found c nm (l.place, declared (disc_decl l.type_of l.ident l.first)) l.is_found (plain-thing (l.place, declared (disc_decl l.type_of l.ident l.first)) (only-parts t h l.place l.is_body)))
+      ap variable_at (denotes-found c nm (l.place, declared (disc_decl l.type_of l.ident l.first)) l.is_found (plain-thing (l.place, declared (disc_decl l.type_of l.ident l.first)) (only-parts t (alone t h) l.place l.is_body)))
       ∙ ap (λ s. Some (number_in (variables s) l.place l.ident.text)) (frames-listed t (few t h) l.place (home t h l.place l.is_body)).0
 
   -- two declarations of one name by one component are one

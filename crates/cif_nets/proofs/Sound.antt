@@ -1,20 +1,19 @@
 -- A source of the forms built so far that keeps its rules up to those on algebraic variables: what each rule gives, and that
 -- its components are its bodies.
 use Rattle.std.proofs.Common.{◌≡◌, ℕ, suc, ◌≤◌, true, false, inl, inr, length, sym, ◌∙◌, ap, subst, arith}
-use Rattle.std.specs.Prelude.{◌&&◌}
 use Rattle.cif_system.specs.Words.{Member}
-use Rattle.cif_system.proofs.Picks.{and-left, and-right}
 use Rattle.cif_source.specs.Source.{Source}
 use Rattle.cif_source.specs.Components.{Component, body_of, params_of, param_entries, body_entries}
 use Rattle.cif_source.specs.Objects.{components_of, most_objects, bodies}
 use Rattle.cif_source.specs.Scoping.{UnknownDue, DuplicateDue, WrongKindDue}
 use Rattle.cif_rules.specs.BodyRules.{MismatchDue, InitialsDue, NotOwnDue, AssignedTwiceDue}
 use Rattle.cif_rules.specs.InstanceRules.{AlphabetLacksDue, TooManyObjectsDue, ConstantRangeDue}
-use Rattle.cif_image.specs.Built.{has_no_definitions, has_no_algebra, has_no_channels, has_no_invariants, has_no_received, is_built}
+use Rattle.cif_image.specs.Built.{has_no_definitions, is_built}
 use Rattle.cif_image.specs.WellFormed.{unknown, duplicate, wrong_kind, mismatch, initials, not_own, assigned_twice, alphabet_lacks, too_many_objects, constant_range, algebraic, KeepsBefore}
 use Rattle.cif_image.proofs.KeptLaws.{has_twice}
 use Rattle.cif_image.proofs.PathLaws.{names, names-append, not-twice-right}
 use Rattle.cif_image.proofs.RuleLaws.{within-or-past, few-kept}
+use Rattle.cif_image.proofs.FormLaws.{no-definitions}
 use Rattle.cif_image.proofs.WalkLaws.{body_objects, bodies-components, many-objects}
 use Rattle.cif_image.proofs.DistinctLaws.{ScopesAreSingle}
 use Rattle.cif_image.proofs.SingleLaws.{scopes-single}
@@ -58,26 +57,8 @@ module _ (t : Source) (h : IsSound t) where
 
   -- ---- forms
 
-  four : (has_no_definitions t && has_no_algebra t && has_no_channels t && has_no_invariants t) ≡ true
-  four = and-left (has_no_definitions t && has_no_algebra t && has_no_channels t && has_no_invariants t) (has_no_received t) h.built
-
-  three : (has_no_definitions t && has_no_algebra t && has_no_channels t) ≡ true
-  three = and-left (has_no_definitions t && has_no_algebra t && has_no_channels t) (has_no_invariants t) four
-
-  two : (has_no_definitions t && has_no_algebra t) ≡ true
-  two = and-left (has_no_definitions t && has_no_algebra t) (has_no_channels t) three
-
-  pub no-definitions : has_no_definitions t ≡ true
-  no-definitions = and-left (has_no_definitions t) (has_no_algebra t) two
-
-  pub no-algebra : has_no_algebra t ≡ true
-  no-algebra = and-right (has_no_definitions t) (has_no_algebra t) two
-
-  pub no-channels : has_no_channels t ≡ true
-  no-channels = and-right (has_no_definitions t && has_no_algebra t) (has_no_channels t) three
-
-  pub no-invariants : has_no_invariants t ≡ true
-  no-invariants = and-right (has_no_definitions t && has_no_algebra t && has_no_channels t) (has_no_invariants t) four
+  pub alone : has_no_definitions t ≡ true
+  alone = no-definitions t h.built
 
   -- ---- components
 
@@ -85,11 +66,11 @@ module _ (t : Source) (h : IsSound t) where
   few-objects =
       elim (within-or-past (body_objects t) most_objects) [
         | inl w ↦ w
-        | inr w ↦ absurd (sizes (suc most_objects) (many-objects t no-definitions w))
+        | inr w ↦ absurd (sizes (suc most_objects) (many-objects t alone w))
       ]
 
   pub listed : components_of t ≡ bodies t
-  listed = bodies-components t no-definitions few-objects
+  listed = bodies-components t alone few-objects
 
   pub few : length (components_of t) ≤ most_objects
   few = few-kept t sizes

@@ -21,10 +21,9 @@ use Rattle.cif_rules.specs.BodyRules.{HasInitials, initial_count, name_at}
 use Rattle.cif_image.proofs.KeptLaws.{or-right}
 use Rattle.cif_image.proofs.NumberLaws.{all-joined}
 use Rattle.cif_image.proofs.RuleLaws.{member-any}
-use Rattle.cif_image.proofs.FormLaws.{is_plain_part, edge-stands, enumerated}
+use Rattle.cif_image.proofs.FormLaws.{is_plain_part, only-parts, no-params, edge-stands, enumerated}
 use Rattle.cif_image.proofs.NamedLaws.{position-below}
-use Rattle.cif_nets.proofs.Sound.{IsSound, known, sorts, begun}
-use Rattle.cif_nets.proofs.Forms.{only-parts, no-params}
+use Rattle.cif_nets.proofs.Sound.{IsSound, alone, known, sorts, begun}
 use Rattle.cif_nets.proofs.Tests.{one-any, eq-true, eq-told}
 
 -- ---- lists
@@ -118,7 +117,7 @@ module _ (t : Source) (h : IsSound t) where
           (elim (nat_eq (initial_count c) 1) as (λ b. nat_eq (initial_count c) 1 ≡ b → initial_count c ≡ 1) [
             | true ↦ λ e. eq-told (initial_count c) 1 e
             | false ↦ λ e.
-                let name = name-of c (only-parts t h c m) a in
+                let name = name-of c (only-parts t (alone t h) c m) a in
                 absurd (begun t h name.0 (initial_count c) (member-any (λ d. HasInitials d name.0 (initial_count c)) c (bodies t) m (record { automaton = a; named = name.1; counted = refl; other = λ g. false-true e (eq-true (initial_count c) 1 g) })))
           ]) refl
 
@@ -165,7 +164,7 @@ module _ (t : Source) (h : IsSound t) where
         let y = entry-found n.text (scope_of c) (location at.0) at.1 in
         let own : Member {A = Ident × Entry} (y.0, location at.0) (body_entries (body_of c)) =
         elim (append-cases {A = Ident × Entry} (y.0, location at.0) (param_entries (params_of c)) (body_entries (body_of c)) y.1) [
-          | inl v ↦ absurd (subst (λ ps. Member {A = Ident × Entry} (y.0, location at.0) (param_entries ps)) (no-params t h c m) v)
+          | inl v ↦ absurd (subst (λ ps. Member {A = Ident × Entry} (y.0, location at.0) (param_entries ps)) (no-params t (alone t h) c m) v)
           | inr v ↦ v
         ] in
         ap (λ b. list_any (is_named n.text) (locs_in b)) e

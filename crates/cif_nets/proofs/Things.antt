@@ -17,9 +17,8 @@ use Rattle.cif_image.specs.Built.{is_no_channel, is_no_invariant, is_no_algebra}
 use Rattle.cif_image.specs.Flat.{net_of_source, net_auto, net_edge, net_event, net_stored, net_alg, net_exclusions, net_invariants, location_name}
 use Rattle.cif_image.proofs.RuleLaws.{declaration-cases, all-from}
 use Rattle.cif_image.proofs.NumberLaws.{append-kept}
-use Rattle.cif_image.proofs.FormLaws.{flat-nothing}
+use Rattle.cif_image.proofs.FormLaws.{flat-nothing, decl-algebra, decl-channel, decl-invariant}
 use Rattle.cif_nets.proofs.Sound.{IsSound, few-objects, listed, from-home}
-use Rattle.cif_nets.proofs.Forms.{decl-algebra, decl-channel, decl-invariant}
 use Rattle.cif_nets.proofs.Tests.{filter-nothing}
 
 -- ---- other forms
@@ -181,11 +180,11 @@ module _ (t : Source) (h : IsSound t) where
   net-is = λ i. record {
     autos = map net_auto (automata t);
     events = map net_event (events t);
-    inputs = map net_stored (filter-nothing (λ (d : Declared). is_input d.1) (declarations t) (λ d m. let k = declared-home d m in no-input d.1 (decl-algebra t h d.0 k.0 d.1 k.1)) i);
+    inputs = map net_stored (filter-nothing (λ (d : Declared). is_input d.1) (declarations t) (λ d m. let k = declared-home d m in no-input d.1 (decl-algebra t h.built d.0 k.0 d.1 k.1)) i);
     vars = map net_stored (variables t);
-    algs = map net_alg (filter-nothing (λ (d : Declared). is_alg d.1) (declarations t) (λ d m. let k = declared-home d m in no-alg d.1 (decl-algebra t h d.0 k.0 d.1 k.1)) i);
-    exclusions = flat-nothing net_exclusions (declarations t) (λ d m. let k = declared-home d m in no-exclusion d.0 d.1 (decl-invariant t h d.0 k.0 d.1 k.1)) i;
-    invariants = flat-nothing net_invariants (declarations t) (λ d m. let k = declared-home d m in no-invariant d.0 d.1 (decl-invariant t h d.0 k.0 d.1 k.1)) i;
+    algs = map net_alg (filter-nothing (λ (d : Declared). is_alg d.1) (declarations t) (λ d m. let k = declared-home d m in no-alg d.1 (decl-algebra t h.built d.0 k.0 d.1 k.1)) i);
+    exclusions = flat-nothing net_exclusions (declarations t) (λ d m. let k = declared-home d m in no-exclusion d.0 d.1 (decl-invariant t h.built d.0 k.0 d.1 k.1)) i;
+    invariants = flat-nothing net_invariants (declarations t) (λ d m. let k = declared-home d m in no-invariant d.0 d.1 (decl-invariant t h.built d.0 k.0 d.1 k.1)) i;
   }
 
   sort-counted : (sort : DeclTree → Bool) → length (filter (λ (d : Declared). sort d.1) (declarations t)) ≡ sort_total sort (bodies t)
@@ -215,4 +214,4 @@ module _ (t : Source) (h : IsSound t) where
       all-from event_stands (map net_event (events t)) (λ x m.
       let d = member-map net_event x (events t) m in
       let k = declared-home d.0 (filter-within (λ (d : Declared). is_event d.1) (declarations t) d.0 d.1) in
-      ap event_stands d.2 ∙ no-channel d.0.0 d.0.1 (decl-channel t h d.0.0 k.0 d.0.1 k.1))
+      ap event_stands d.2 ∙ no-channel d.0.0 d.0.1 (decl-channel t h.built d.0.0 k.0 d.0.1 k.1))

@@ -32,11 +32,12 @@ use Rattle.cif_constants.proofs.RowLaws.{all_rows, slot-is}
 use Rattle.cif_translate.specs.Objects.{object_form, object_in, object_at, AreObjectsOf}
 use Rattle.cif_translate.specs.declared.objects.Object.{Object}
 use Rattle.cif_translate.specs.declared.objects.Object.TheVariants as object
-use Rattle.cif_image.specs.Built.{is_no_algebra, every_decl, every_location, has_no_equations, has_no_definitions, has_no_algebra, has_no_channels, has_no_invariants, has_no_received, is_built}
+use Rattle.cif_image.specs.Built.{is_no_algebra, is_built}
 use Rattle.cif_image.specs.Translation.{net_constant, net_object}
 use Rattle.cif_image.specs.Types.{net_type}
 use Rattle.cif_image.proofs.KeptLaws.{has_twice}
 use Rattle.cif_image.proofs.PathLaws.{names}
+use Rattle.cif_image.proofs.FormLaws.{decl-algebra}
 use Rattle.cif_image.proofs.RuleLaws.{all-from}
 use Rattle.cif_image.proofs.SingleLaws.{scopes-single}
 use Rattle.cif_image.proofs.BodyLaws.{is_single, paths-distinct}
@@ -73,13 +74,7 @@ module _ (t : Source) (s : Scopes) (ns : List (List ℕ)) (vs : List ℤ) (h : I
       (elim w.2 [ inl f ↦ inl f | inr r ↦ inr (inr r) ]))
 
   no-algebra : (k : ℕ) (c : Component) (d : DeclTree) → IsBody t k c → Member d (decls_of c) → is_no_algebra d ≡ true
-  no-algebra k c d own m =
-      let first : (has_no_definitions t && has_no_algebra t) ≡ true =
-      and-left (has_no_definitions t && has_no_algebra t) (has_no_channels t)
-      (and-left (has_no_definitions t && has_no_algebra t && has_no_channels t) (has_no_invariants t)
-      (and-left (has_no_definitions t && has_no_algebra t && has_no_channels t && has_no_invariants t) (has_no_received t) h.built)) in
-      let decls : every_decl is_no_algebra t ≡ true = and-left (every_decl is_no_algebra t) (every_location has_no_equations t) (and-right (has_no_definitions t) (has_no_algebra t) first) in
-      all-member is_no_algebra (decls_of c) d (all-at (λ (x : Component). list_all is_no_algebra (decls_in (body_of x))) (bodies t) k c decls own) m
+  no-algebra k c d own m = decl-algebra t h.built c (at-member (bodies t) k c own) d m
 
   plain-params : (c : Component) → is_plain c ≡ true → params_of c ≡ []
   plain-params (whole is) p = refl

@@ -1,22 +1,21 @@
 -- An edge of the net of a source has the updates of an edge of a body, as deep as these.
 use Rattle.std.proofs.Common.{◌≡◌, ◌≤◌, true, le-leb, sym, subst, arith}
-use Rattle.std.specs.Prelude.{◌&&◌, nat_le}
+use Rattle.std.specs.Prelude.{nat_le}
 use Rattle.cif_ast.specs.View.{view_items}
 use Rattle.cif_ast.specs.Shallow.{IsShallow}
 use Rattle.cif_ast.specs.declared.components.Spec.{Spec}
 use Rattle.cif_system.specs.Words.{Member}
 use Rattle.cif_system.proofs.Lists.{filter-within}
-use Rattle.cif_system.proofs.Picks.{and-left}
 use Rattle.cif_system.proofs.Distinct.{member-map, member-flat_map}
 use Rattle.cif_model.specs.Net.{NetEdge, NetAuto}
 use Rattle.cif_model.specs.Exprs.{all_edges}
 use Rattle.cif_source.specs.Source.{Source, source_of}
 use Rattle.cif_source.specs.Components.{Component, body_of}
 use Rattle.cif_source.specs.Objects.{components_of, automata, is_automaton, event_edges, EventEdge, locs_of}
-use Rattle.cif_image.specs.Built.{has_no_definitions, has_no_algebra, has_no_channels, has_no_invariants, has_no_received, is_built}
+use Rattle.cif_image.specs.Built.{is_built}
 use Rattle.cif_image.specs.Flat.{net_of_source, net_auto, net_edge}
 use Rattle.cif_image.proofs.RuleLaws.{all-from}
-use Rattle.cif_image.proofs.FormLaws.{edge-stands, enumerated}
+use Rattle.cif_image.proofs.FormLaws.{edge-stands, enumerated, no-definitions}
 use Rattle.cif_flat.proofs.Walk.{component-body}
 use Rattle.cif_nesting.specs.Nesting.{updates_depth, most_nesting, is_shallow}
 use Rattle.cif_shallow.proofs.DepthLaws.{updates-as-deep}
@@ -27,13 +26,6 @@ edge-shallow c h w m =
     let at = edge-stands c w m in
     let few = h at.place.1 (enumerated 0 at.place (locs_of c) at.location).0 w.edge at.edge in
     omega (arith, few, updates-as-deep c w.edge.updates)
-
-built-alone : (t : Source) → is_built t ≡ true → has_no_definitions t ≡ true
-built-alone t h =
-    and-left (has_no_definitions t) (has_no_algebra t)
-    (and-left (has_no_definitions t && has_no_algebra t) (has_no_channels t)
-    (and-left (has_no_definitions t && has_no_algebra t && has_no_channels t) (has_no_invariants t)
-    (and-left (has_no_definitions t && has_no_algebra t && has_no_channels t && has_no_invariants t) (has_no_received t) h)))
 
 module _ (t : Source) (shallow : (c : Component) → Member c (components_of t) → IsShallowBody (body_of c)) where
   auto-shallow : (c : Component) → Member c (automata t) → (x : NetEdge) → Member x (net_auto c).edges → updates_depth x.updates ≤ 100
@@ -51,5 +43,4 @@ module _ (t : Source) (shallow : (c : Component) → Member c (components_of t) 
 
 pub shallow-nets : (spec : Spec) → IsShallow spec → is_built (source_of spec) ≡ true → is_shallow (net_of_source (source_of spec)) ≡ true
 shallow-nets spec shallow built =
-    let alone = built-alone (source_of spec) built in
-    net-shallow (source_of spec) (λ c m. bodies-shallow (view_items spec.items) shallow.forms c (component-body (source_of spec) alone c m))
+    net-shallow (source_of spec) (λ c m. bodies-shallow (view_items spec.items) shallow.forms c (component-body (source_of spec) (no-definitions (source_of spec) built) c m))

@@ -2,4 +2,3 @@ pub mod NameLaws
 pub mod PlaceLaws
 pub mod ListLaws
 pub mod UpdateLaws
-pub mod PartLaws

@@ -3,7 +3,6 @@
 #![tactic(auto)]
 
 mod expressions;
-mod laws;
 mod looking;
 mod objects;
 mod operators;
@@ -11,7 +10,6 @@ mod places;
 mod translating;
 mod updating;
 
-pub use laws::flat_has_parts_alone;
 pub use looking::Looking;
 pub use objects::Object;
 pub use places::value_places;

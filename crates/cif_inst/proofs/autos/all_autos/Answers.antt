@@ -2,13 +2,13 @@ use Rattle.std.proofs.Common.{rules, ◌<◌, ◌+◌, List, ◌∷◌, [], ◌+
 use Rattle.cif_source.specs.Components.{body_of}
 use Rattle.cif_source.specs.Objects.{bodies}
 use Rattle.cif_source.specs.Source.{automaton_tree}
+use Rattle.cif_image.proofs.FormLaws.{no-definitions}
 use Rattle.cif_net.specs.View.{auto_tree}
 use Rattle.cif_inst.specs.Autos.{auto_for, body_autos, body_lacks, rows_autos, rows_lacks}
 use Rattle.cif_inst.specs.Alphabets.{automaton_lacks, tells, AreMarks}
 use Rattle.cif_inst.specs.Naming.{source_for, component_at}
 use Rattle.cif_inst.specs.Views.{row_body, row_tree}
 use Rattle.cif_net.specs.declared.automata.Auto.{Auto}
-use Rattle.cif_inst.proofs.BuiltLaws.{no-definitions}
 use Rattle.cif_inst.proofs.MarkLaws.{first_marks, later_marks}
 use Rattle.cif_inst.proofs.RowAutoLaws.{row_below, row_written, auto_added, none_added, lacks_passed, lacks_told}
 use Rattle.cif_inst.proofs.autos.all_autos.Goals as goal
