@@ -1,16 +1,20 @@
 -- What is counted for all events, automaton by automaton.
-use Rattle.std.proofs.Common.{◌≡◌, ℕ, zero, suc, ◌+◌, ◌*◌, Bool, true, false, ◌||◌, List, [], ◌∷◌, sum_by, refl, sym, ◌∙◌, ap, if◌then◌else◌, arith}
+use Rattle.std.proofs.Common.{◌≡◌, ℕ, suc, ◌+◌, ◌*◌, Bool, true, false, ◌||◌, List, [], ◌∷◌, ◌++◌, length, flat_map, sum_by, Some, None, slice_get, refl, sym, ◌∙◌, ap, if◌then◌else◌, arith}
 use Rattle.std.specs.List.{list_any, range_with_len}
 use Rattle.std.proofs.Math.Nat.{mul_assoc, add-mul, mul-add}
+use Rattle.std.proofs.lemmas.List.{append-nil, append_assoc}
 use Rattle.std.proofs.lemmas.List.Sums.{sum_by-cons}
+use Rattle.cif_system.specs.System.{Role, sending, receiving}
 use Rattle.cif_system.specs.Choices.{product_by}
-use Rattle.cif_model.specs.Net.{NetEdge, NetAuto, NetExclusion}
+use Rattle.cif_model.specs.Net.{NetEdge, NetAuto, NetEvent, NetExclusion}
 use Rattle.cif_model.specs.Listing.{syncs_on}
+use Rattle.cif_alg.specs.declared.weighed.Weighed.{Weighed}
 use Rattle.cif_alg.specs.declared.tally.Tally.{Tally}
-use Rattle.cif_alg.specs.Weighed.{cut}
-use Rattle.cif_alg.specs.Tallies.{nothing_met, opened, with_edge, with_stay, closed, with_besides, tally_nodes, edge_nodes, exclusion_nodes, edges_noted, stays_noted, closed_for, exclusions_noted, tallied, all_tallied, tallies_nodes, counted}
-use Rattle.cif_alg.proofs.CutLaws.{all-weighed}
+use Rattle.cif_alg.specs.Weighed.{cut, weighed, paired, all_nodes}
+use Rattle.cif_alg.specs.Tallies.{nothing_met, opened, with_edge, with_stay, closed, with_besides, tally_nodes, edge_nodes, exclusion_nodes, edges_noted, stays_noted, closed_for, exclusions_noted, tallied, all_tallied, is_channel_event, tallies_nodes, counted}
+use Rattle.cif_alg.proofs.CutLaws.{pairs, all-weighed}
 use Rattle.cif_alg.proofs.TableLaws.{table, filled-table, each_at, each-table}
+use Rattle.cif_alg.proofs.NodeLaws.{own_edges}
 use Rattle.cif_alg.proofs.TallyLaws.{resting, option_count, option_nodes, edges_at, auto_at, auto-counted, exclusions_for, exclusions_at, beside, exclusions-counted}
 
 -- ---- one event
@@ -38,12 +42,9 @@ or-assoc : (x y z : Bool) → (x || y || z) ≡ (x || (y || z))
 or-assoc true y z = refl
 or-assoc false y z = refl
 
--- one option without nodes changes nothing
-same-resting : (r w : ℕ) (p : Bool) → resting (r * 1) (w * 1 + r * 0) (p || false) ≡ resting r w p
-same-resting r w p =
-    let e : r * 1 ≡ r = omega arith in
-    let f : w * 1 + r * 0 ≡ w = omega arith in
-    ap (λ k. resting k (w * 1 + r * 0) (p || false)) e ∙ ap (λ k. resting r k (p || false)) f ∙ ap (resting r w) (or-false p)
+-- the edges of all automata for the event in a role
+abbrev pub role_edges : Role → ℕ → List NetAuto → List NetEdge
+role_edges p j autos = flat_map (λ (a : NetAuto). own_edges p j a.edges) autos
 
 -- ---- all events
 
@@ -53,7 +54,7 @@ tallied-table a n f =
     let h : ℕ → Tally = λ j. edges_at a.edges j (g j) in
     let k : ℕ → Tally = λ j. each_at (λ e. e) (λ e. with_stay) a.monitors j (h j) in
     ap (λ ts. closed_for a.alphabet (stays_noted a.monitors (edges_noted a.edges ts))) (each-table (λ e. e) (λ e. opened) a.alphabet n f)
-    ∙ ap (λ ts. closed_for a.alphabet (stays_noted a.monitors ts)) (each-table (λ (x : NetEdge). x.event) (λ x. with_edge (edge_nodes x)) a.edges n g)
+    ∙ ap (λ ts. closed_for a.alphabet (stays_noted a.monitors ts)) (each-table (λ (x : NetEdge). x.event) (λ x. with_edge x.role (edge_nodes x)) a.edges n g)
     ∙ ap (closed_for a.alphabet) (each-table (λ e. e) (λ e. with_stay) a.monitors n h)
     ∙ each-table (λ e. e) (λ e. closed) a.alphabet n k
 
@@ -61,12 +62,19 @@ all-table : (autos : List NetAuto) (n : ℕ) (f : ℕ → Tally) → all_tallied
 all-table [] n f = refl
 all-table (a ∷ autos) n f = ap (all_tallied autos) (tallied-table a n f) ∙ all-table autos n (λ j. auto_at a j (f j))
 
-nodes-summed : (f : ℕ → Tally) (g : ℕ → ℕ) → ((j : ℕ) → tally_nodes (f j) ≡ cut (g j)) → (i n m k : ℕ) → m ≡ cut k → tallies_nodes m (table f i n) ≡ cut (k + sum_by g (range_with_len i n))
-nodes-summed f g h i zero m k e = let z : k + 0 ≡ k = omega arith in e ∙ sym (ap cut z)
-nodes-summed f g h i (suc n) m k e =
-    let s : cut (m + tally_nodes (f i)) ≡ cut (k + g i) = omega (arith, h i, e) in
-    let z : k + g i + sum_by g (range_with_len (i + 1) n) ≡ k + sum_by g (range_with_len i (suc n)) = omega (arith, sum_by-cons g i (range_with_len (i + 1) n)) in
-    nodes-summed f g h (i + 1) n (cut (m + tally_nodes (f i))) (k + g i) s ∙ ap cut z
+-- the event there is a channel
+abbrev pub is_channel_there : List NetEvent → ℕ → Bool
+is_channel_there es e = elim (slice_get es e) [ None ↦ false | Some x ↦ is_channel_event x ]
+
+nodes-summed : (f : ℕ → Tally) (c : ℕ → Bool) (g : ℕ → ℕ) → ((j : ℕ) → tally_nodes (c j) (f j) ≡ cut (g j)) → (es : List NetEvent) (i m k : ℕ) → ((d : ℕ) → is_channel_there es d ≡ c (i + d)) → m ≡ cut k
+    → tallies_nodes m es (table f i (length es)) ≡ cut (k + sum_by g (range_with_len i (length es)))
+nodes-summed f c g h [] i m k t e = let z : k + 0 ≡ k = omega arith in e ∙ sym (ap cut z)
+nodes-summed f c g h (x ∷ es) i m k t e =
+    let first : i + 0 ≡ i = omega arith in
+    let here : tally_nodes (is_channel_event x) (f i) ≡ cut (g i) = ap (λ b. tally_nodes b (f i)) (t 0 ∙ ap c first) ∙ h i in
+    let s : cut (m + tally_nodes (is_channel_event x) (f i)) ≡ cut (k + g i) = omega (arith, here, e) in
+    let z : k + g i + sum_by g (range_with_len (i + 1) (length es)) ≡ k + sum_by g (range_with_len i (length (x ∷ es))) = omega (arith, sum_by-cons g i (range_with_len (i + 1) (length es))) in
+    nodes-summed f c g h es (i + 1) (cut (m + tally_nodes (is_channel_event x) (f i))) (k + g i) (λ d. let n : i + suc d ≡ i + 1 + d = omega arith in t (suc d) ∙ ap c n) s ∙ ap cut z
 
 -- where an edge has v nodes, and an exclusion u
 module _ (v : NetEdge → ℕ) (u : NetExclusion → ℕ) where
@@ -83,62 +91,99 @@ module _ (v : NetEdge → ℕ) (u : NetExclusion → ℕ) where
   besides xs j = sum_by u (exclusions_for j xs)
 
   -- the nodes of all choices for an event
-  abbrev pub event_total : List NetAuto → List NetExclusion → ℕ → ℕ
-  event_total autos xs j = if list_any (syncs_on j) autos then rows j autos * (1 + besides xs j) + rows_nodes j autos else 0
+  abbrev pub event_total : List NetAuto → List NetExclusion → Bool → ℕ → ℕ
+  event_total autos xs c j =
+      if c then
+      length (role_edges sending j autos) * (length (role_edges receiving j autos) * rows j autos) * (1 + besides xs j)
+      + (sum_by v (role_edges sending j autos) * (length (role_edges receiving j autos) * rows j autos)
+      + length (role_edges sending j autos) * (sum_by v (role_edges receiving j autos) * rows j autos + length (role_edges receiving j autos) * rows_nodes j autos))
+      else (if list_any (syncs_on j) autos then rows j autos * (1 + besides xs j) + rows_nodes j autos else 0)
+
+  -- one option without nodes changes nothing
+  same-resting : (r w : ℕ) (p : Bool) (ss rs : List NetEdge) → resting v (r * 1) (w * 1 + r * 0) (p || false) ss rs ≡ resting v r w p ss rs
+  same-resting r w p ss rs =
+      let e : r * 1 ≡ r = omega arith in
+      let f : w * 1 + r * 0 ≡ w = omega arith in
+      λ i. resting v (e i) (f i) (or-false p i) ss rs
 
   module _ (edges : (x : NetEdge) → edge_nodes x ≡ cut (v x)) (exclusions : (x : NetExclusion) → exclusion_nodes x ≡ cut (u x)) where
-    one-counted : (a : NetAuto) (j r w : ℕ) (p : Bool) → auto_at a j (resting r w p) ≡ resting (r * factor j a) (w * factor j a + r * addend j a) (p || syncs_on j a)
-    one-counted a j r w p = auto-counted v edges a j r w p ∙ by (syncs_on j a) p
+    one-counted : (a : NetAuto) (j r w : ℕ) (p : Bool) (ss rs : List NetEdge)
+        → auto_at a j (resting v r w p ss rs) ≡ resting v (r * factor j a) (w * factor j a + r * addend j a) (p || syncs_on j a) (ss ++ own_edges sending j a.edges) (rs ++ own_edges receiving j a.edges)
+    one-counted a j r w p ss rs = auto-counted v edges a j r w p ss rs ∙ by (syncs_on j a) p
       where
-        by : (b q : Bool) → (if b then resting (r * option_count j a) (w * option_count j a + r * option_nodes v j a) true else resting r w q)
-            ≡ resting (r * (if b then option_count j a else 1)) (w * (if b then option_count j a else 1) + r * (if b then option_nodes v j a else 0)) (q || b)
+        ts : List NetEdge
+        ts = ss ++ own_edges sending j a.edges
+
+        us : List NetEdge
+        us = rs ++ own_edges receiving j a.edges
+
+        by : (b q : Bool) → (if b then resting v (r * option_count j a) (w * option_count j a + r * option_nodes v j a) true ts us else resting v r w q ts us)
+            ≡ resting v (r * (if b then option_count j a else 1)) (w * (if b then option_count j a else 1) + r * (if b then option_nodes v j a else 0)) (q || b) ts us
         by true true = refl
         by true false = refl
-        by false q = sym (same-resting r w q)
+        by false q = sym (same-resting r w q ts us)
 
-    autos-counted : (autos : List NetAuto) (j r w : ℕ) (p : Bool)
-        → autos_at autos j (resting r w p) ≡ resting (r * rows j autos) (w * rows j autos + r * rows_nodes j autos) (p || list_any (syncs_on j) autos)
-    autos-counted [] j r w p = sym (same-resting r w p)
-    autos-counted (a ∷ autos) j r w p =
+    autos-counted : (autos : List NetAuto) (j r w : ℕ) (p : Bool) (ss rs : List NetEdge)
+        → autos_at autos j (resting v r w p ss rs) ≡ resting v (r * rows j autos) (w * rows j autos + r * rows_nodes j autos) (p || list_any (syncs_on j) autos) (ss ++ role_edges sending j autos) (rs ++ role_edges receiving j autos)
+    autos-counted [] j r w p ss rs = sym (same-resting r w p ss rs) ∙ λ i. resting v (r * 1) (w * 1 + r * 0) (p || false) (sym (append-nil ss) i) (sym (append-nil rs) i)
+    autos-counted (a ∷ autos) j r w p ss rs =
         let f : ℕ = factor j a in
         let d : ℕ = addend j a in
         let q : ℕ = rows j autos in
         let s : ℕ = rows_nodes j autos in
-        let has : Bool = list_any (syncs_on j) autos in
-        ap (autos_at autos j) (one-counted a j r w p)
-        ∙ autos-counted autos j (r * f) (w * f + r * d) (p || syncs_on j a)
-        ∙ ap (λ k. resting k ((w * f + r * d) * q + r * f * s) (p || syncs_on j a || has)) (mul_assoc r f q)
-        ∙ ap (λ k. resting (r * (f * q)) k (p || syncs_on j a || has)) (spread r w f d q s)
-        ∙ ap (resting (r * (f * q)) (w * (f * q) + r * (d * q + f * s))) (or-assoc p (syncs_on j a) has)
+        ap (autos_at autos j) (one-counted a j r w p ss rs)
+        ∙ autos-counted autos j (r * f) (w * f + r * d) (p || syncs_on j a) (ss ++ own_edges sending j a.edges) (rs ++ own_edges receiving j a.edges)
+        ∙ λ i. resting v (mul_assoc r f q i) (spread r w f d q s i) (or-assoc p (syncs_on j a) (list_any (syncs_on j) autos) i)
+        (append_assoc ss (own_edges sending j a.edges) (role_edges sending j autos) i) (append_assoc rs (own_edges receiving j a.edges) (role_edges receiving j autos) i)
 
-    rests : (autos : List NetAuto) (j : ℕ) → autos_at autos j nothing_met ≡ resting (rows j autos) (rows_nodes j autos) (list_any (syncs_on j) autos)
+    rests : (autos : List NetAuto) (j : ℕ) → autos_at autos j nothing_met ≡ resting v (rows j autos) (rows_nodes j autos) (list_any (syncs_on j) autos) (role_edges sending j autos) (role_edges receiving j autos)
     rests autos j =
         let e : 1 * rows j autos ≡ rows j autos = omega arith in
         let f : 0 * rows j autos + 1 * rows_nodes j autos ≡ rows_nodes j autos = omega arith in
-        autos-counted autos j 1 0 false
-        ∙ ap (λ k. resting k (0 * rows j autos + 1 * rows_nodes j autos) (list_any (syncs_on j) autos)) e
-        ∙ ap (λ k. resting (rows j autos) k (list_any (syncs_on j) autos)) f
+        autos-counted autos j 1 0 false [] []
+        ∙ λ i. resting v (e i) (f i) (list_any (syncs_on j) autos) (role_edges sending j autos) (role_edges receiving j autos)
 
-    total-counted : (autos : List NetAuto) (xs : List NetExclusion) (j : ℕ) → tally_nodes (exclusions_at xs j (autos_at autos j nothing_met)) ≡ cut (event_total autos xs j)
-    total-counted autos xs j =
-        let t : Tally = resting (rows j autos) (rows_nodes j autos) (list_any (syncs_on j) autos) in
-        let z : 0 + besides xs j ≡ besides xs j = omega arith in
-        ap (λ q. tally_nodes (exclusions_at xs j q)) (rests autos j)
-        ∙ ap tally_nodes (exclusions-counted u exclusions j t xs 0)
-        ∙ ap (λ b. tally_nodes (beside t b)) z
-        ∙ by (list_any (syncs_on j) autos)
+    total-counted : (autos : List NetAuto) (xs : List NetExclusion) (c : Bool) (j : ℕ) → tally_nodes c (exclusions_at xs j (autos_at autos j nothing_met)) ≡ cut (event_total autos xs c j)
+    total-counted autos xs c j =
+        let t : Tally = resting v p q (list_any (syncs_on j) autos) ss rs in
+        let z : 0 + b ≡ b = omega arith in
+        ap (λ y. tally_nodes c (exclusions_at xs j y)) (rests autos j)
+        ∙ ap (tally_nodes c) (exclusions-counted u exclusions j t xs 0)
+        ∙ ap (λ y. tally_nodes c (beside t y)) z
+        ∙ by c (list_any (syncs_on j) autos)
       where
-        by : (b : Bool) → tally_nodes (beside (resting (rows j autos) (rows_nodes j autos) b) (besides xs j)) ≡ cut (if b then rows j autos * (1 + besides xs j) + rows_nodes j autos else 0)
-        by true = all-weighed (besides xs j) (rows j autos) (rows_nodes j autos)
-        by false = refl
+        p : ℕ
+        p = rows j autos
 
-    pub counted_are : (autos : List NetAuto) (xs : List NetExclusion) (events : ℕ) → counted autos xs events ≡ cut (sum_by (event_total autos xs) (range_with_len 0 events))
+        q : ℕ
+        q = rows_nodes j autos
+
+        b : ℕ
+        b = besides xs j
+
+        ss : List NetEdge
+        ss = role_edges sending j autos
+
+        rs : List NetEdge
+        rs = role_edges receiving j autos
+
+        by : (c any : Bool) → tally_nodes c (beside (resting v p q any ss rs) b)
+            ≡ cut (if c then length ss * (length rs * p) * (1 + b) + (sum_by v ss * (length rs * p) + length ss * (sum_by v rs * p + length rs * q)) else (if any then p * (1 + b) + q else 0))
+        by true any =
+            ap (λ (o : Weighed). all_nodes (cut (1 + cut b)) (paired (weighed (length ss) (sum_by v ss)) o)) (pairs (length rs) (sum_by v rs) p q)
+            ∙ ap (all_nodes (cut (1 + cut b))) (pairs (length ss) (sum_by v ss) (length rs * p) (sum_by v rs * p + length rs * q))
+            ∙ all-weighed b (length ss * (length rs * p)) (sum_by v ss * (length rs * p) + length ss * (sum_by v rs * p + length rs * q))
+        by false true = all-weighed b p q
+        by false false = refl
+
+    pub counted_are : (autos : List NetAuto) (xs : List NetExclusion) (events : List NetEvent) → counted autos xs events ≡ cut (sum_by (λ j. event_total autos xs (is_channel_there events j) j) (range_with_len 0 (length events)))
     counted_are autos xs events =
+        let n : ℕ = length events in
         let f : ℕ → Tally = λ j. exclusions_at xs j (autos_at autos j nothing_met) in
-        let all : ℕ = sum_by (event_total autos xs) (range_with_len 0 events) in
-        let z : 0 + all ≡ all = omega arith in
-        ap (λ ts. tallies_nodes 0 (exclusions_noted xs (all_tallied autos ts))) (filled-table nothing_met 0 events)
-        ∙ ap (λ ts. tallies_nodes 0 (exclusions_noted xs ts)) (all-table autos events (λ j. nothing_met))
-        ∙ ap (tallies_nodes 0) (each-table (λ (x : NetExclusion). x.event) (λ x. with_besides (exclusion_nodes x)) xs events (λ j. autos_at autos j nothing_met))
-        ∙ nodes-summed f (event_total autos xs) (total-counted autos xs) 0 events 0 0 refl
+        let total : ℕ → ℕ = λ j. event_total autos xs (is_channel_there events j) j in
+        let z : 0 + sum_by total (range_with_len 0 n) ≡ sum_by total (range_with_len 0 n) = omega arith in
+        ap (λ ts. tallies_nodes 0 events (exclusions_noted xs (all_tallied autos ts))) (filled-table nothing_met 0 n)
+        ∙ ap (λ ts. tallies_nodes 0 events (exclusions_noted xs ts)) (all-table autos n (λ j. nothing_met))
+        ∙ ap (tallies_nodes 0 events) (each-table (λ (x : NetExclusion). x.event) (λ x. with_besides (exclusion_nodes x)) xs n (λ j. autos_at autos j nothing_met))
+        ∙ nodes-summed f (is_channel_there events) total (λ j. total-counted autos xs (is_channel_there events j) j) events 0 0 0 (λ d. let e : d ≡ 0 + d = omega arith in ap (is_channel_there events) e) refl
         ∙ ap cut z

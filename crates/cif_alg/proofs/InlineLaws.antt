@@ -1,7 +1,9 @@
 -- What is counted are the nodes of the net.
-use Rattle.std.proofs.Common.{◌≡◌, ℕ, ◌+◌, ◌*◌, Bool, true, false, ◌&&◌, nat_eq, List, [], ◌∷◌, map, length, sum_by, Option, refl, sym, ◌∙◌, ap, if◌then◌else◌, arith}
+use Rattle.std.proofs.Common.{◌≡◌, ℕ, ◌+◌, ◌*◌, Bool, true, false, ◌&&◌, nat_eq, List, [], ◌∷◌, ◌++◌, map, length, sum_by, refl, sym, ◌∙◌, ap, length-append, if◌then◌else◌, arith}
 use Rattle.std.specs.List.{list_all, list_any, range_with_len}
-use Rattle.std.proofs.lemmas.List.Sums.{sum_by-cons}
+use Rattle.std.proofs.lemmas.List.{map-append}
+use Rattle.std.proofs.lemmas.List.Sums.{sum_by-cons, sum_by-append}
+use Rattle.cif_system.specs.System.{Role, syncing, sending, receiving}
 use Rattle.cif_system.specs.Choices.{product_by}
 use Rattle.cif_system.proofs.Lists.{map-length}
 use Rattle.cif_term.specs.Tree.{NetExpr}
@@ -10,23 +12,19 @@ use Rattle.cif_model.specs.Meaning.{event_in}
 use Rattle.cif_model.specs.Unfolding.{at_or, unfolded}
 use Rattle.cif_model.specs.Exprs.{edge_exprs}
 use Rattle.cif_model.specs.Listing.{syncs_on}
-use Rattle.cif_model.specs.Facts.{is_net}
+use Rattle.cif_model.specs.Facts.{auto_stands, is_net}
 use Rattle.cif_model.specs.Counts.{no_form, measure_by, measure, alg_measure, alg_measures, sizes, size_of, exclusions_of, invariant_exprs, event_nodes, nodes, weight, stopped, most_nodes}
 use Rattle.cif_model.proofs.Passing.{and-left, and-right}
 use Rattle.cif_measure.specs.Meanings.{table_measure}
 use Rattle.cif_measure.specs.Sizes.{sizes_by}
-use Rattle.cif_alg.specs.Channels.{is_no_channel}
 use Rattle.cif_alg.specs.Weighed.{cut}
 use Rattle.cif_alg.specs.Tallies.{edge_nodes, exclusion_nodes, counted}
-use Rattle.cif_alg.proofs.TallyLaws.{option_count, option_nodes, exclusions_for}
-use Rattle.cif_alg.proofs.AutoLaws.{factor, addend, rows, rows_nodes, besides, event_total, counted_are}
-use Rattle.cif_alg.proofs.ProductLaws.{keyed, sum-mapped}
-use Rattle.cif_alg.proofs.NodeLaws.{edge_weight, own_edges, option_weight, auto_options, base, event-nodes, options-counted, options-weighed}
-use Rattle.cif_alg.proofs.RoleLaws.{all_synchronise, own-same, parties, no-channels, synchronising}
-
-sum-same : {A : Type 0} (f g : A → ℕ) → ((y : A) → f y ≡ g y) → (ys : List A) → sum_by f ys ≡ sum_by g ys
-sum-same f g h [] = refl
-sum-same f g h (y ∷ ys) = omega (arith, sum_by-cons f y ys, sum_by-cons g y ys, h y, sum-same f g h ys)
+use Rattle.cif_alg.proofs.SumLaws.{sum-same, sum-mapped, spread, spread-weighed}
+use Rattle.cif_alg.proofs.TallyLaws.{exclusions_for}
+use Rattle.cif_alg.proofs.AutoLaws.{factor, addend, rows, rows_nodes, role_edges, is_channel_there, besides, event_total, counted_are}
+use Rattle.cif_alg.proofs.NodeLaws.{edge_weight, own_edges, stays, own_weights, base, plain-nodes, channel-nodes, own-weighed, role-weighed}
+use Rattle.cif_alg.proofs.ChannelLaws.{all_weights, pair-total}
+use Rattle.cif_alg.proofs.RoleLaws.{channel-told, parties, one-roles}
 
 -- what the predicate of an exclusion weighs
 abbrev exclusion_weight : n.Net → n.NetExclusion → ℕ
@@ -35,57 +33,67 @@ exclusion_weight x y = (measure x y.pred).size
 module _ (x : n.Net) (e : ℕ) where
   -- ---- one automaton
 
-  same-factor : (a : n.NetAuto) → all_synchronise a ≡ true → length (auto_options x e a) ≡ factor e a
-  same-factor a h = options-counted x e a ∙ by (syncs_on e a)
+  same-factor : (a : n.NetAuto) → length (own_weights x e a) ≡ factor e a
+  same-factor a = ap length (own-weighed x e a) ∙ by (syncs_on e a) (list_any (nat_eq e) a.monitors)
     where
-      by : (b : Bool) → (if b then length (own_edges e a.edges) + (if b && list_any (nat_eq e) a.monitors then 1 else 0) else 1) ≡ (if b then option_count e a else 1)
-      by true = ap (λ xs. length xs + (if list_any (nat_eq e) a.monitors then 1 else 0)) (own-same e a.edges h)
-      by false = refl
+      ws : List ℕ
+      ws = map (edge_weight x) (own_edges syncing e a.edges)
+
+      by : (b s : Bool) → length (if b then ws ++ stays (b && s) else 0 ∷ []) ≡ (if b then length (own_edges syncing e a.edges) + (if s then 1 else 0) else 1)
+      by true true = omega (arith, length-append ws (1 ∷ []), map-length (edge_weight x) (own_edges syncing e a.edges))
+      by true false = omega (arith, length-append ws [], map-length (edge_weight x) (own_edges syncing e a.edges))
+      by false s = refl
 
   abbrev added : n.NetAuto → ℕ
   added a = addend (edge_weight x) (exclusion_weight x) e a
 
-  same-addend : (a : n.NetAuto) → all_synchronise a ≡ true → sum_by (option_weight x e) (keyed (auto_options x e) a) ≡ added a
-  same-addend a h = options-weighed x e a ∙ by (syncs_on e a)
+  same-addend : (a : n.NetAuto) → sum_by (λ w. w) (own_weights x e a) ≡ added a
+  same-addend a = ap (sum_by (λ w. w)) (own-weighed x e a) ∙ by (syncs_on e a) (list_any (nat_eq e) a.monitors)
     where
-      by : (b : Bool) → (if b then sum_by (edge_weight x) (own_edges e a.edges) + (if b && list_any (nat_eq e) a.monitors then 1 else 0) else 0) ≡ (if b then option_nodes (edge_weight x) e a else 0)
-      by true = ap (λ xs. sum_by (edge_weight x) xs + (if list_any (nat_eq e) a.monitors then 1 else 0)) (own-same e a.edges h)
-      by false = refl
+      xs : List n.NetEdge
+      xs = own_edges syncing e a.edges
+
+      by : (b s : Bool) → sum_by (λ w. w) (if b then map (edge_weight x) xs ++ stays (b && s) else 0 ∷ []) ≡ (if b then sum_by (edge_weight x) xs + (if s then 1 else 0) else 0)
+      by true true = omega (arith, sum_by-append (λ w. w) (map (edge_weight x) xs) (1 ∷ []), sum-mapped (λ w. w) (edge_weight x) xs, sum_by-cons (λ (w : ℕ). w) 1 [])
+      by true false = omega (arith, sum_by-append (λ w. w) (map (edge_weight x) xs) [], sum-mapped (λ w. w) (edge_weight x) xs)
+      by false s = refl
 
   -- ---- all automata
 
-  same-rows : (autos : List n.NetAuto) → list_all all_synchronise autos ≡ true → product_by length (map (auto_options x e) autos) ≡ rows e autos
-  same-rows [] h = refl
-  same-rows (a ∷ autos) h =
-      ap (λ k. k * product_by length (map (auto_options x e) autos)) (same-factor a (and-left _ _ h)) ∙ ap (λ k. factor e a * k) (same-rows autos (and-right _ _ h))
-
-  keyed-rows : (autos : List n.NetAuto) → product_by length (map (keyed (auto_options x e)) autos) ≡ product_by length (map (auto_options x e) autos)
-  keyed-rows [] = refl
-  keyed-rows (a ∷ autos) =
-      ap (λ k. k * product_by length (map (keyed (auto_options x e)) autos)) (map-length (λ o. (a, o)) (auto_options x e a))
-      ∙ ap (λ k. length (auto_options x e a) * k) (keyed-rows autos)
+  same-rows : (autos : List n.NetAuto) → product_by length (map (own_weights x e) autos) ≡ rows e autos
+  same-rows [] = refl
+  same-rows (a ∷ autos) = ap (λ k. k * product_by length (map (own_weights x e) autos)) (same-factor a) ∙ ap (λ k. factor e a * k) (same-rows autos)
 
   abbrev rows_weight : List n.NetAuto → ℕ
   rows_weight autos = rows_nodes (edge_weight x) (exclusion_weight x) e autos
 
-  same-nodes : (autos : List n.NetAuto) → list_all all_synchronise autos ≡ true → weight (option_weight x e) (map (keyed (auto_options x e)) autos) ≡ rows_weight autos
-  same-nodes [] h = refl
-  same-nodes (a ∷ autos) h =
-      let xss : List (List (n.NetAuto × Option ℕ)) = map (keyed (auto_options x e)) autos in
-      ap (λ k. k * product_by length xss + length (keyed (auto_options x e) a) * weight (option_weight x e) xss) (same-addend a (and-left _ _ h))
-      ∙ ap (λ k. added a * k + length (keyed (auto_options x e) a) * weight (option_weight x e) xss) (keyed-rows autos ∙ same-rows autos (and-right _ _ h))
-      ∙ ap (λ k. added a * rows e autos + k * weight (option_weight x e) xss) (map-length (λ o. (a, o)) (auto_options x e a) ∙ same-factor a (and-left _ _ h))
-      ∙ ap (λ k. added a * rows e autos + factor e a * k) (same-nodes autos (and-right _ _ h))
+  same-nodes : (autos : List n.NetAuto) → weight (λ w. w) (map (own_weights x e) autos) ≡ rows_weight autos
+  same-nodes [] = refl
+  same-nodes (a ∷ autos) = λ i. same-addend a i * same-rows autos i + same-factor a i * same-nodes autos i
 
-module _ (x : n.Net) (no-algs : x.algs ≡ []) (no-invariants : x.invariants ≡ []) (no-channel : list_all is_no_channel x.events ≡ true) (stands : is_net x ≡ true) where
+  -- the edges of all automata in a role
+  same-edges : (p : Role) (autos : List n.NetAuto) → all_weights x e p autos ≡ map (edge_weight x) (role_edges p e autos)
+  same-edges p [] = refl
+  same-edges p (a ∷ autos) =
+      ap (λ ws. ws ++ all_weights x e p autos) (role-weighed x e p a)
+      ∙ ap (λ ws. map (edge_weight x) (own_edges p e a.edges) ++ ws) (same-edges p autos)
+      ∙ sym (map-append (edge_weight x) (own_edges p e a.edges) (role_edges p e autos))
+
+  edges-counted : (p : Role) (autos : List n.NetAuto) → length (all_weights x e p autos) ≡ length (role_edges p e autos)
+  edges-counted p autos = ap length (same-edges p autos) ∙ map-length (edge_weight x) (role_edges p e autos)
+
+  edges-weighed : (p : Role) (autos : List n.NetAuto) → sum_by (λ w. w) (all_weights x e p autos) ≡ sum_by (edge_weight x) (role_edges p e autos)
+  edges-weighed p autos = ap (sum_by (λ w. w)) (same-edges p autos) ∙ sum-mapped (λ w. w) (edge_weight x) (role_edges p e autos)
+
+module _ (x : n.Net) (no-algs : x.algs ≡ []) (no-invariants : x.invariants ≡ []) (stands : is_net x ≡ true) where
   abbrev exclusion_sum : ℕ → ℕ
   exclusion_sum e = besides (edge_weight x) (exclusion_weight x) x.exclusions e
 
-  abbrev total : ℕ → ℕ
-  total e = event_total (edge_weight x) (exclusion_weight x) x.autos x.exclusions e
+  abbrev total : Bool → ℕ → ℕ
+  total c e = event_total (edge_weight x) (exclusion_weight x) x.autos x.exclusions c e
 
-  all-sync : list_all all_synchronise x.autos ≡ true
-  all-sync = synchronising x no-channel stands
+  autos-stand : list_all (auto_stands x) x.autos ≡ true
+  autos-stand = and-right _ _ (and-left _ _ (and-left _ _ (and-left _ _ (and-left _ _ stands))))
 
   -- ---- one event
 
@@ -95,32 +103,47 @@ module _ (x : n.Net) (no-algs : x.algs ≡ []) (no-invariants : x.invariants ≡
       let s : size_of x (exclusions_of x e) ≡ exclusion_sum e = sum-mapped (λ g. (measure x g).size) (λ (y : n.NetExclusion). y.pred) (exclusions_for e x.exclusions) in
       omega (arith, i, s)
 
-  event-is : (e : ℕ) → event_nodes x e ≡ total e
-  event-is e =
-      event-nodes x e (no-channels x no-channel e)
-      ∙ ap (λ (b : Bool). let k : ℕ = if b then product_by length (map (auto_options x e) x.autos) * base x e + weight (option_weight x e) (map (keyed (auto_options x e)) x.autos) else 0 in k) (parties x e x.autos all-sync)
+  plain-is : (e : ℕ) → is_channel_there x.events e ≡ false → event_nodes x e ≡ total false e
+  plain-is e h =
+      plain-nodes x e (channel-told x.events e ∙ h)
+      ∙ ap (λ (b : Bool). let k : ℕ = if b then spread (base x e) (map (own_weights x e) x.autos) else 0 in k) (parties x e x.autos autos-stand h)
       ∙ by (list_any (syncs_on e) x.autos)
     where
-      by : (b : Bool) → (if b then product_by length (map (auto_options x e) x.autos) * base x e + weight (option_weight x e) (map (keyed (auto_options x e)) x.autos) else 0)
-          ≡ (if b then rows e x.autos * (1 + exclusion_sum e) + rows_weight x e x.autos else 0)
-      by true =
-          ap (λ k. product_by length (map (auto_options x e) x.autos) * k + weight (option_weight x e) (map (keyed (auto_options x e)) x.autos)) (base-is e)
-          ∙ ap (λ k. k * (1 + exclusion_sum e) + weight (option_weight x e) (map (keyed (auto_options x e)) x.autos)) (same-rows x e x.autos all-sync)
-          ∙ ap (λ k. rows e x.autos * (1 + exclusion_sum e) + k) (same-nodes x e x.autos all-sync)
+      by : (b : Bool) → (if b then spread (base x e) (map (own_weights x e) x.autos) else 0) ≡ (if b then rows e x.autos * (1 + exclusion_sum e) + rows_weight x e x.autos else 0)
+      by true = spread-weighed (map (own_weights x e) x.autos) (base x e) ∙ λ i. same-rows x e x.autos i * base-is e i + same-nodes x e x.autos i
       by false = refl
+
+  channel-is : (e : ℕ) → is_channel_there x.events e ≡ true → event_nodes x e ≡ total true e
+  channel-is e h =
+      channel-nodes x e (channel-told x.events e ∙ h)
+      ∙ pair-total x e x.autos (one-roles x e x.autos autos-stand) 0 (base x e)
+      ∙ spread-weighed (all_weights x e sending x.autos ∷ all_weights x e receiving x.autos ∷ map (own_weights x e) x.autos) (base x e)
+      ∙ λ i. edges-counted x e sending x.autos i * (edges-counted x e receiving x.autos i * same-rows x e x.autos i) * base-is e i
+      + (edges-weighed x e sending x.autos i * (edges-counted x e receiving x.autos i * same-rows x e x.autos i)
+      + edges-counted x e sending x.autos i * (edges-weighed x e receiving x.autos i * same-rows x e x.autos i + edges-counted x e receiving x.autos i * same-nodes x e x.autos i))
+
+  event-is : (e : ℕ) → event_nodes x e ≡ total (is_channel_there x.events e) e
+  event-is e =
+      (elim (is_channel_there x.events e) as (λ b. is_channel_there x.events e ≡ b → event_nodes x e ≡ total b e) [
+        | true ↦ λ h. channel-is e h
+        | false ↦ λ h. plain-is e h
+      ]) refl
 
   -- ---- all events
 
   no-measures : alg_measures x ≡ []
   no-measures = ap (λ ds. unfolded no_form alg_measure ds (length ds)) no-algs
 
-  nodes-are : nodes x ≡ sum_by total (range_with_len 0 (length x.events))
+  abbrev all_total : ℕ → ℕ
+  all_total e = total (is_channel_there x.events e) e
+
+  nodes-are : nodes x ≡ sum_by all_total (range_with_len 0 (length x.events))
   nodes-are =
       let all : List ℕ = range_with_len 0 (length x.events) in
-      let z : sum_by total all + 0 ≡ sum_by total all = omega arith in
+      let z : sum_by all_total all + 0 ≡ sum_by all_total all = omega arith in
       ap (λ ms. sum_by (event_nodes x) (range_with_len 0 (length (map event_in x.events))) + sizes ms) no-measures
       ∙ ap (λ m. sum_by (event_nodes x) (range_with_len 0 m) + 0) (map-length event_in x.events)
-      ∙ ap (λ m. m + 0) (sum-same (event_nodes x) total event-is all)
+      ∙ ap (λ m. m + 0) (sum-same (event_nodes x) all_total event-is all)
       ∙ z
 
   -- ---- sizes
@@ -136,8 +159,5 @@ module _ (x : n.Net) (no-algs : x.algs ≡ []) (no-invariants : x.invariants ≡
   unfolding exclusion_nodes
   exclusion-weighs y = omega (arith, plain-sizes (y.pred ∷ []), sum_by-cons (λ g. (measure x g).size) y.pred [])
 
-  pub told : (events : ℕ) → events ≡ length x.events → counted x.autos x.exclusions events ≡ stopped most_nodes (nodes x)
-  told events h =
-      counted_are (edge_weight x) (exclusion_weight x) edge-weighs exclusion-weighs x.autos x.exclusions events
-      ∙ ap (λ m. cut (sum_by total (range_with_len 0 m))) h
-      ∙ ap cut (sym nodes-are)
+  pub told : counted x.autos x.exclusions x.events ≡ stopped most_nodes (nodes x)
+  told = counted_are (edge_weight x) (exclusion_weight x) edge-weighs exclusion-weighs x.autos x.exclusions x.events ∙ ap cut (sym nodes-are)

@@ -1,9 +1,11 @@
 mod CutLaws
+mod EndLaws
 mod TableLaws
 mod TallyLaws
 mod AutoLaws
-mod ProductLaws
+mod SumLaws
 mod NodeLaws
+mod ChannelLaws
 mod RoleLaws
 mod KeepLaws
 mod InlineLaws

@@ -1,9 +1,8 @@
 -- What follows where a net is within the limits, and where it is not.
-use Rattle.std.proofs.Common.{◌≡◌, ℕ, ◌<◌, ◌^◌, Bool, true, false, not, ◌&&◌, ◌||◌, nat_lt, [], map, length, refl, sym, ◌∙◌, ap, subst, Result, Ok, Err, IfErr, arith}
+use Rattle.std.proofs.Common.{◌≡◌, ℕ, ◌<◌, ◌^◌, Bool, true, false, not, ◌&&◌, ◌||◌, nat_lt, [], map, refl, sym, ◌∙◌, ap, subst, Result, Ok, Err, IfErr, arith}
 use Rattle.std.specs.List.{list_all}
 use Rattle.std.specs.Result.{IsErrAnd}
 use Rattle.std.proofs.lemmas.Bool.Decides.{nat_tests}
-use Rattle.cif_system.proofs.Lists.{map-length}
 use Rattle.cif_model.specs.Net as n
 use Rattle.cif_model.specs.Facts.{is_net}
 use Rattle.cif_model.specs.Counts.{nodes, depth, stopped, most_nodes, most_depth, is_too_large}
@@ -16,7 +15,6 @@ use Rattle.cif_measure.specs.declared.error.IntervalErr.{IntervalErr}
 use Rattle.cif_measure.specs.declared.error.IntervalErr.TheVariants as interval
 use Rattle.cif_measure.specs.Rules as intervals
 use Rattle.cif_alg.specs.declared.error.AlgErr.{AlgErr}
-use Rattle.cif_alg.specs.Channels.{is_no_channel}
 use Rattle.cif_alg.specs.Refusals.{interval_refusal}
 use Rattle.cif_alg.specs.Keeps.{due}
 use Rattle.cif_alg.specs.Tallies.{counted}
@@ -31,10 +29,10 @@ past m v =
     ] refl
 
 -- k nodes were counted, and the depth d
-module _ (net : Net) (no-algs : (net_tree net).algs ≡ []) (no-invariants : (net_tree net).invariants ≡ []) (no-channel : list_all is_no_channel (net_tree net).events ≡ true) (k d : ℕ)
-    (are : k ≡ counted (map auto_tree net.autos) (map exclusion_tree net.exclusions) (length net.events)) (deep : d ≡ stopped most_depth (depth (net_tree net))) where
+module _ (net : Net) (no-algs : (net_tree net).algs ≡ []) (no-invariants : (net_tree net).invariants ≡ []) (k d : ℕ)
+    (are : k ≡ counted (map auto_tree net.autos) (map exclusion_tree net.exclusions) (map event_tree net.events)) (deep : d ≡ stopped most_depth (depth (net_tree net))) where
   nodes-told : k ≡ stopped most_nodes (nodes (net_tree net))
-  nodes-told = are ∙ told (net_tree net) no-algs no-invariants no-channel net.fits (length net.events) (sym (map-length event_tree net.events))
+  nodes-told = are ∙ told (net_tree net) no-algs no-invariants net.fits
 
   pub nodes-fit : k < 2 ^ 32
   nodes-fit = omega (arith, nodes-told)

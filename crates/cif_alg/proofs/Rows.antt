@@ -1,6 +1,5 @@
 -- Worked examples, each by computing: the nodes of a net, and what is counted.
-use Rattle.std.proofs.Common.{◌≡◌, ℕ, ◌+◌, ◌*◌, true, false, List, [], ◌∷◌, length, replicate, refl}
-use Rattle.std.specs.List.{list_all}
+use Rattle.std.proofs.Common.{◌≡◌, ℕ, ◌+◌, ◌*◌, true, List, [], ◌∷◌, ◌++◌, drop, replicate, refl}
 use Rattle.cif_system.specs.System.{plain}
 use Rattle.cif_system.specs.Choices.{all_choices}
 use Rattle.cif_term.specs.Tree.{NetExpr, lt, no_net_updates}
@@ -9,7 +8,6 @@ use Rattle.cif_model.specs.Meaning.{system_of_net}
 use Rattle.cif_model.specs.Counts.{nodes, depth}
 use Rattle.cif_model.specs.Rules.{is_plain}
 use Rattle.cif_model.proofs.Examples.{sure, num, var, compare, event, edge, auto, net_with, counter, channel}
-use Rattle.cif_alg.specs.Channels.{is_no_channel}
 use Rattle.cif_alg.specs.Tallies.{edge_nodes, exclusion_nodes, counted}
 
 -- so many edges for event 0
@@ -23,7 +21,7 @@ abbrev net : List NetAuto → Net
 net autos = net_with (event plain no_net_chan) autos
 
 abbrev nodes_counted : Net → ℕ
-nodes_counted n = counted n.autos n.exclusions (length n.events)
+nodes_counted n = counted n.autos n.exclusions n.events
 
 -- three edges and four: twelve choices, each itself, two parties and two guards
 abbrev two : Net
@@ -160,6 +158,32 @@ unheeded_counted : nodes_counted unheeded ≡ 0
 unfolding edge_nodes exclusion_nodes
 unheeded_counted = refl
 
--- a net with a channel
-channel_has_one : list_all is_no_channel channel.events ≡ false
-channel_has_one = refl
+-- two automata send and one receives: each choice has a guard and a value of the one, and a guard and an update of the other
+channel_nodes : nodes channel ≡ 2 * (1 + 2 + 2 + 2)
+channel_nodes = refl
+
+channel_counted : nodes_counted channel ≡ 14
+unfolding edge_nodes exclusion_nodes
+channel_counted = refl
+
+-- and one more synchronises
+abbrev watched_channel : Net
+watched_channel = record channel { autos = channel.autos ++ with_edges 3 ∷ [] }
+
+watched_channel_nodes : nodes watched_channel ≡ 6 * (1 + 3 + 2 + 2 + 1)
+watched_channel_nodes = refl
+
+watched_channel_counted : nodes_counted watched_channel ≡ 54
+unfolding edge_nodes exclusion_nodes
+watched_channel_counted = refl
+
+-- nobody sends
+abbrev silent_channel : Net
+silent_channel = record channel { autos = drop 2 channel.autos }
+
+silent_channel_nodes : nodes silent_channel ≡ 0
+silent_channel_nodes = refl
+
+silent_channel_counted : nodes_counted silent_channel ≡ 0
+unfolding edge_nodes exclusion_nodes
+silent_channel_counted = refl

@@ -1,25 +1,21 @@
 -- What is counted for one event, by what automata may do for it.
-use Rattle.std.proofs.Common.{◌≡◌, ℕ, suc, ◌+◌, ◌*◌, Bool, true, false, ◌||◌, nat_eq, List, [], ◌∷◌, filter, length, sum_by, Option, Some, None, refl, sym, ◌∙◌, ap, if◌then◌else◌, arith}
+use Rattle.std.proofs.Common.{◌≡◌, ℕ, ◌+◌, ◌*◌, Bool, true, false, ◌&&◌, ◌||◌, nat_eq, List, [], ◌∷◌, ◌++◌, filter, length, sum_by, Option, Some, None, option_map, refl, sym, ◌∙◌, ap, length-append, if◌then◌else◌, arith}
 use Rattle.std.specs.List.{list_any}
 use Rattle.std.proofs.lemmas.Bool.Decides.{nat_tests}
-use Rattle.std.proofs.lemmas.List.Sums.{sum_by-cons}
+use Rattle.std.proofs.lemmas.List.{append-nil, append_assoc}
+use Rattle.std.proofs.lemmas.List.Sums.{sum_by-cons, sum_by-append}
+use Rattle.cif_system.specs.System.{Role, syncing, sending, receiving}
+use Rattle.cif_system.specs.Step.{same_role}
 use Rattle.cif_model.specs.Net.{NetEdge, NetAuto, NetExclusion}
 use Rattle.cif_model.specs.Listing.{syncs_on}
 use Rattle.cif_alg.specs.declared.weighed.Weighed.{Weighed}
 use Rattle.cif_alg.specs.declared.tally.Options.{Options}
 use Rattle.cif_alg.specs.declared.tally.Tally.{Tally}
-use Rattle.cif_alg.specs.Weighed.{cut, weighed, paired}
+use Rattle.cif_alg.specs.Weighed.{cut, weighed, with_one, paired}
 use Rattle.cif_alg.specs.Tallies.{opened, with_edge, with_stay, all_options, closed, with_besides, edge_nodes, exclusion_nodes}
 use Rattle.cif_alg.proofs.CutLaws.{cut-add, one_more, pairs}
 use Rattle.cif_alg.proofs.TableLaws.{each_at}
-
--- between automata: the choices so far, with their nodes, and whether there is a party
-abbrev pub resting : (choices nodes : ℕ) → Bool → Tally
-resting r w p = record { choices = weighed r w; has_party = p; options = None; besides = 0 }
-
--- in an automaton that has the event: its edges so far, with their nodes, and whether it may stay
-abbrev busy : Weighed → Bool → (edges nodes : ℕ) → Bool → Tally
-busy ch p c n s = record { choices = ch; has_party = p; options = Some (record { edges = weighed c n; stays = s }); besides = 0 }
+use Rattle.cif_alg.proofs.NodeLaws.{own_edges}
 
 same-test : (a b : ℕ) → nat_eq a b ≡ nat_eq b a
 same-test a b =
@@ -73,19 +69,16 @@ closed-twice t = again t.options
 
 -- ---- one automaton
 
-abbrev pub edges_for : ℕ → List NetEdge → List NetEdge
-edges_for j xs = filter (λ (x : NetEdge). nat_eq x.event j) xs
-
 -- how many options an automaton has that has the event
 abbrev pub own_stay : ℕ → NetAuto → ℕ
 own_stay j a = if list_any (nat_eq j) a.monitors then 1 else 0
 
 abbrev pub option_count : ℕ → NetAuto → ℕ
-option_count j a = length (edges_for j a.edges) + own_stay j a
+option_count j a = length (own_edges syncing j a.edges) + own_stay j a
 
 -- the changes by its edges, and all that it changes
 abbrev pub edges_at : List NetEdge → (j : ℕ) → Tally → Tally
-edges_at xs j t = each_at (λ (x : NetEdge). x.event) (λ x. with_edge (edge_nodes x)) xs j t
+edges_at xs j t = each_at (λ (x : NetEdge). x.event) (λ x. with_edge x.role (edge_nodes x)) xs j t
 
 abbrev pub auto_at : NetAuto → (j : ℕ) → Tally → Tally
 auto_at a j t = each_at (λ e. e) (λ e. closed) a.alphabet j (each_at (λ e. e) (λ e. with_stay) a.monitors j (edges_at a.edges j (each_at (λ e. e) (λ e. opened) a.alphabet j t)))
@@ -94,51 +87,101 @@ all-options : (c n : ℕ) (s : Bool) → let o : Options = record { edges = weig
 all-options c n true = one_more 1 c n
 all-options c n false = let e : c + 0 ≡ c = omega arith in let f : n + 0 ≡ n = omega arith in sym (ap (λ k. weighed k (n + 0)) e ∙ ap (λ k. weighed c k) f)
 
-closed-busy : (r w c n : ℕ) (p s : Bool) → closed (busy (weighed r w) p c n s) ≡ resting (r * (c + (if s then 1 else 0))) (w * (c + (if s then 1 else 0)) + r * (n + (if s then 1 else 0))) true
-closed-busy r w c n p s =
-    ap (λ (o : Weighed). record { choices = paired (weighed r w) o; has_party = true; options = None; besides = 0 }) (all-options c n s)
-    ∙ ap (λ (o : Weighed). record { choices = o; has_party = true; options = None; besides = 0 }) (pairs r w (c + (if s then 1 else 0)) (n + (if s then 1 else 0)))
-
-stays-noted : (ch : Weighed) (p : Bool) (c n : ℕ) (ms : List ℕ) (j : ℕ) → each_at (λ e. e) (λ e. with_stay) ms j (busy ch p c n false) ≡ busy ch p c n (list_any (nat_eq j) ms)
-stays-noted ch p c n ms j = each-once with_stay stay-twice ms j (busy ch p c n false) ∙ by (list_any (nat_eq j) ms)
-  where
-    by : (b : Bool) → (if b then with_stay (busy ch p c n false) else busy ch p c n false) ≡ busy ch p c n b
-    by true = refl
-    by false = refl
-
 -- where an edge has v nodes
 module _ (v : NetEdge → ℕ) where
   -- the nodes of the options of an automaton that has the event
   abbrev pub option_nodes : ℕ → NetAuto → ℕ
-  option_nodes j a = sum_by v (edges_for j a.edges) + own_stay j a
+  option_nodes j a = sum_by v (own_edges syncing j a.edges) + own_stay j a
+
+  -- so many edges
+  abbrev told : List NetEdge → Weighed
+  told xs = weighed (length xs) (sum_by v xs)
+
+  -- in an automaton that has the event: its edges so far, and whether it may stay
+  abbrev Busy : Type 0
+  Busy = Option (List NetEdge × Bool)
+
+  abbrev options_told : Busy → Option Options
+  options_told o = option_map (λ (q : List NetEdge × Bool). record { edges = told q.0; stays = q.1 }) o
+
+  abbrev with_edges : Busy → List NetEdge → Busy
+  with_edges o xs = option_map (λ (q : List NetEdge × Bool). (q.0 ++ xs, q.1)) o
+
+  -- the choices so far, whether there is a party, the automaton that is gone through, and the edges that send and receive
+  abbrev met : Weighed → Bool → Busy → (sends receives : List NetEdge) → Tally
+  met ch p o ss rs = record { choices = ch; has_party = p; options = options_told o; sends = told ss; receives = told rs; besides = 0 }
+
+  -- between automata
+  abbrev pub resting : (choices nodes : ℕ) → Bool → (sends receives : List NetEdge) → Tally
+  resting r w p ss rs = met (weighed r w) p None ss rs
+
+  closed-met : (r w : ℕ) (p s : Bool) (xs ss rs : List NetEdge)
+      → closed (met (weighed r w) p (Some (xs, s)) ss rs) ≡ resting (r * (length xs + (if s then 1 else 0))) (w * (length xs + (if s then 1 else 0)) + r * (sum_by v xs + (if s then 1 else 0))) true ss rs
+  closed-met r w p s xs ss rs =
+      ap (λ (o : Weighed). met (paired (weighed r w) o) true None ss rs) (all-options (length xs) (sum_by v xs) s)
+      ∙ ap (λ (o : Weighed). met o true None ss rs) (pairs r w (length xs + (if s then 1 else 0)) (sum_by v xs + (if s then 1 else 0)))
+
+  stays-noted : (ch : Weighed) (p : Bool) (xs ss rs : List NetEdge) (ms : List ℕ) (j : ℕ) → each_at (λ e. e) (λ e. with_stay) ms j (met ch p (Some (xs, false)) ss rs) ≡ met ch p (Some (xs, list_any (nat_eq j) ms)) ss rs
+  stays-noted ch p xs ss rs ms j = each-once with_stay stay-twice ms j (met ch p (Some (xs, false)) ss rs) ∙ by (list_any (nat_eq j) ms)
+    where
+      by : (b : Bool) → (if b then with_stay (met ch p (Some (xs, false)) ss rs) else met ch p (Some (xs, false)) ss rs) ≡ met ch p (Some (xs, b)) ss rs
+      by true = refl
+      by false = refl
 
   module _ (weighs : (x : NetEdge) → edge_nodes x ≡ cut (v x)) where
-    edge-counted : (ch : Weighed) (p s : Bool) (c n : ℕ) (x : NetEdge) → with_edge (edge_nodes x) (busy ch p c n s) ≡ busy ch p (c + 1) (n + v x) s
-    edge-counted ch p s c n x =
-        ap (λ k. with_edge k (busy ch p c n s)) (weighs x)
-        ∙ ap (λ (o : Weighed). record { choices = ch; has_party = p; options = Some (record { edges = o; stays = s }); besides = 0 }) (one_more (v x) c n)
+    one-told : (x : NetEdge) (xs : List NetEdge) → with_one (edge_nodes x) (told xs) ≡ told (xs ++ x ∷ [])
+    one-told x xs =
+        let n : length xs + 1 ≡ length (xs ++ x ∷ []) = omega (arith, length-append xs (x ∷ [])) in
+        let m : sum_by v xs + v x ≡ sum_by v (xs ++ x ∷ []) = omega (arith, sum_by-append v xs (x ∷ []), sum_by-cons v x []) in
+        ap (λ k. with_one k (told xs)) (weighs x) ∙ one_more (v x) (length xs) (sum_by v xs) ∙ λ i. weighed (n i) (m i)
 
-    edges-counted : (ch : Weighed) (p s : Bool) (j : ℕ) (xs : List NetEdge) (c n : ℕ) → edges_at xs j (busy ch p c n s) ≡ busy ch p (c + length (edges_for j xs)) (n + sum_by v (edges_for j xs)) s
-    edges-counted ch p s j [] c n = let e : c + 0 ≡ c = omega arith in let f : n + 0 ≡ n = omega arith in sym (ap (λ k. busy ch p k (n + 0) s) e ∙ ap (λ k. busy ch p c k s) f)
-    edges-counted ch p s j (x ∷ xs) c n = by (nat_eq x.event j) (edges-counted ch p s j xs)
+    edge-met : (ch : Weighed) (p : Bool) (x : NetEdge) (o : Busy) (ss rs : List NetEdge) → with_edge syncing (edge_nodes x) (met ch p o ss rs) ≡ met ch p (with_edges o (x ∷ [])) ss rs
+    edge-met ch p x None ss rs = refl
+    edge-met ch p x (Some (xs, s)) ss rs = ap (λ (w : Weighed). record { choices = ch; has_party = p; options = Some (record { edges = w; stays = s }); sends = told ss; receives = told rs; besides = 0 }) (one-told x xs)
+
+    joined : (o : Busy) (x : NetEdge) (xs : List NetEdge) → with_edges (with_edges o (x ∷ [])) xs ≡ with_edges o (x ∷ xs)
+    joined None x xs = refl
+    joined (Some (ys, s)) x xs = ap (λ (zs : List NetEdge). let q : Busy = Some (zs, s) in q) (append_assoc ys (x ∷ []) xs)
+
+    same-busy : (o : Busy) → o ≡ with_edges o []
+    same-busy None = refl
+    same-busy (Some (ys, s)) = ap (λ (zs : List NetEdge). let q : Busy = Some (zs, s) in q) (sym (append-nil ys))
+
+    edges-met : (ch : Weighed) (p : Bool) (j : ℕ) (xs : List NetEdge) (o : Busy) (ss rs : List NetEdge)
+        → edges_at xs j (met ch p o ss rs) ≡ met ch p (with_edges o (own_edges syncing j xs)) (ss ++ own_edges sending j xs) (rs ++ own_edges receiving j xs)
+    edges-met ch p j [] o ss rs = λ i. met ch p (same-busy o i) (sym (append-nil ss) i) (sym (append-nil rs) i)
+    edges-met ch p j (x ∷ xs) o ss rs = by x.role (nat_eq x.event j) (edges-met ch p j xs)
       where
-        by : (b : Bool) → ((d m : ℕ) → edges_at xs j (busy ch p d m s) ≡ busy ch p (d + length (edges_for j xs)) (m + sum_by v (edges_for j xs)) s)
-            → edges_at xs j (if b then with_edge (edge_nodes x) (busy ch p c n s) else busy ch p c n s)
-            ≡ busy ch p (c + length (if b then x ∷ edges_for j xs else edges_for j xs)) (n + sum_by v (if b then x ∷ edges_for j xs else edges_for j xs)) s
-        by true r =
-            let k : ℕ = length (edges_for j xs) in
-            let e : c + 1 + k ≡ c + suc k = omega arith in
-            let f : n + v x + sum_by v (edges_for j xs) ≡ n + sum_by v (x ∷ edges_for j xs) = omega (arith, sum_by-cons v x (edges_for j xs)) in
-            ap (edges_at xs j) (edge-counted ch p s c n x)
-            ∙ r (c + 1) (n + v x) ∙ ap (λ q. busy ch p q (n + v x + sum_by v (edges_for j xs)) s) e ∙ ap (λ q. busy ch p (c + suc k) q s) f
-        by false r = r c n
+        own : List NetEdge
+        own = own_edges syncing j xs
+
+        sent : List NetEdge
+        sent = own_edges sending j xs
+
+        received : List NetEdge
+        received = own_edges receiving j xs
+
+        by : (r : Role) (b : Bool) → ((q : Busy) (ts us : List NetEdge) → edges_at xs j (met ch p q ts us) ≡ met ch p (with_edges q own) (ts ++ sent) (us ++ received))
+            → edges_at xs j (if b then with_edge r (edge_nodes x) (met ch p o ss rs) else met ch p o ss rs)
+            ≡ met ch p (with_edges o (if same_role syncing r && b then x ∷ own else own)) (ss ++ (if same_role sending r && b then x ∷ sent else sent)) (rs ++ (if same_role receiving r && b then x ∷ received else received))
+        by syncing true more = ap (edges_at xs j) (edge-met ch p x o ss rs) ∙ more (with_edges o (x ∷ [])) ss rs ∙ ap (λ (q : Busy). met ch p q (ss ++ sent) (rs ++ received)) (joined o x own)
+        by sending true more =
+            ap (λ (w : Weighed). edges_at xs j (record { choices = ch; has_party = p; options = options_told o; sends = w; receives = told rs; besides = 0 })) (one-told x ss)
+            ∙ more o (ss ++ x ∷ []) rs ∙ ap (λ ts. met ch p (with_edges o own) ts (rs ++ received)) (append_assoc ss (x ∷ []) sent)
+        by receiving true more =
+            ap (λ (w : Weighed). edges_at xs j (record { choices = ch; has_party = p; options = options_told o; sends = told ss; receives = w; besides = 0 })) (one-told x rs)
+            ∙ more o ss (rs ++ x ∷ []) ∙ ap (λ us. met ch p (with_edges o own) (ss ++ sent) us) (append_assoc rs (x ∷ []) received)
+        by syncing false more = more o ss rs
+        by sending false more = more o ss rs
+        by receiving false more = more o ss rs
 
     -- the tally after an automaton
-    pub auto-counted : (a : NetAuto) (j r w : ℕ) (p : Bool)
-        → auto_at a j (resting r w p) ≡ (if syncs_on j a then resting (r * option_count j a) (w * option_count j a + r * option_nodes j a) true else resting r w p)
-    auto-counted a j r w p =
-        ap (λ t. closing (staying (edges_at a.edges j t))) (each-once opened opened-twice a.alphabet j (resting r w p))
-        ∙ each-once closed closed-twice a.alphabet j (staying (edges_at a.edges j (if syncs_on j a then opened (resting r w p) else resting r w p)))
+    pub auto-counted : (a : NetAuto) (j r w : ℕ) (p : Bool) (ss rs : List NetEdge)
+        → auto_at a j (resting r w p ss rs) ≡ (let ts : List NetEdge = ss ++ own_edges sending j a.edges in let us : List NetEdge = rs ++ own_edges receiving j a.edges in
+        if syncs_on j a then resting (r * option_count j a) (w * option_count j a + r * option_nodes j a) true ts us else resting r w p ts us)
+    auto-counted a j r w p ss rs =
+        ap (λ t. closing (staying (edges_at a.edges j t))) (each-once opened opened-twice a.alphabet j (resting r w p ss rs))
+        ∙ each-once closed closed-twice a.alphabet j (staying (edges_at a.edges j (if syncs_on j a then opened (resting r w p ss rs) else resting r w p ss rs)))
         ∙ by (syncs_on j a)
       where
         staying : Tally → Tally
@@ -147,24 +190,22 @@ module _ (v : NetEdge → ℕ) where
         closing : Tally → Tally
         closing t = each_at (λ e. e) (λ e. closed) a.alphabet j t
 
-        s : Bool
-        s = list_any (nat_eq j) a.monitors
+        xs : List NetEdge
+        xs = own_edges syncing j a.edges
 
-        k : ℕ
-        k = length (edges_for j a.edges)
+        ts : List NetEdge
+        ts = ss ++ own_edges sending j a.edges
 
-        m : ℕ
-        m = sum_by v (edges_for j a.edges)
+        us : List NetEdge
+        us = rs ++ own_edges receiving j a.edges
 
-        by : (b : Bool) → (let t : Tally = staying (edges_at a.edges j (if b then opened (resting r w p) else resting r w p)) in if b then closed t else t)
-            ≡ (if b then resting (r * option_count j a) (w * option_count j a + r * option_nodes j a) true else resting r w p)
+        by : (b : Bool) → (let t : Tally = staying (edges_at a.edges j (if b then opened (resting r w p ss rs) else resting r w p ss rs)) in if b then closed t else t)
+            ≡ (if b then resting (r * option_count j a) (w * option_count j a + r * option_nodes j a) true ts us else resting r w p ts us)
         by true =
-            let e : 0 + k ≡ k = omega arith in
-            let f : 0 + m ≡ m = omega arith in
-            ap (λ t. closed (staying t)) (edges-counted (weighed r w) p false j a.edges 0 0 ∙ ap (λ q. busy (weighed r w) p q (0 + m) false) e ∙ ap (λ q. busy (weighed r w) p k q false) f)
-            ∙ ap closed (stays-noted (weighed r w) p k m a.monitors j)
-            ∙ closed-busy r w k m p s
-        by false = ap staying (each-ignored (λ (x : NetEdge). x.event) (λ x. with_edge (edge_nodes x)) a.edges j (resting r w p) (λ x. refl)) ∙ each-ignored (λ e. e) (λ e. with_stay) a.monitors j (resting r w p) (λ e. refl)
+            ap (λ t. closed (staying t)) (edges-met (weighed r w) p j a.edges (Some ([], false)) ss rs)
+            ∙ ap closed (stays-noted (weighed r w) p xs ts us a.monitors j)
+            ∙ closed-met r w p (list_any (nat_eq j) a.monitors) xs ts us
+        by false = ap staying (edges-met (weighed r w) p j a.edges None ss rs) ∙ each-ignored (λ e. e) (λ e. with_stay) a.monitors j (resting r w p ts us) (λ e. refl)
 
 -- ---- exclusions
 

@@ -1,4 +1,3 @@
-pub mod Channels
 pub mod Keeps
 pub mod Refusals
 pub mod Weighed

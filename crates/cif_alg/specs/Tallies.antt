@@ -1,30 +1,33 @@
 -- What is counted for each event, automaton by automaton.
-use Rattle.std.specs.Prelude.{ℕ, ◌+◌, true, false, List, [], ◌∷◌, Some, None, option_map, replicate, slice_get, slice_set, if◌then◌else◌}
+use Rattle.std.specs.Prelude.{ℕ, ◌+◌, Bool, true, false, List, [], ◌∷◌, length, Some, None, option_map, replicate, slice_get, slice_set, if◌then◌else◌}
+use Rattle.cif_system.specs.System.{Role, syncing, sending, receiving}
 use Rattle.cif_term.specs.Tree.{NetExpr}
-use Rattle.cif_model.specs.Net.{NetEdge, NetAuto, NetExclusion}
+use Rattle.cif_model.specs.Net.{no_net_chan, NetEdge, NetAuto, NetEvent, NetExclusion}
 use Rattle.cif_model.specs.Exprs.{edge_exprs}
 use Rattle.cif_measure.specs.Meanings.{table_measure}
 use Rattle.cif_measure.specs.Sizes.{sizes_by}
 use Rattle.cif_alg.specs.declared.weighed.Weighed.{Weighed}
 use Rattle.cif_alg.specs.declared.tally.Options.{Options}
 use Rattle.cif_alg.specs.declared.tally.Tally.{Tally}
-use Rattle.cif_alg.specs.Weighed.{cut, with_one, paired, all_nodes}
+use Rattle.cif_alg.specs.Weighed.{cut, nothing, with_one, paired, all_nodes}
 
 -- ---- one event
 
 abbrev pub nothing_met : Tally
-nothing_met = record { choices = record { count = 1; nodes = 0 }; has_party = false; options = None; besides = 0 }
+nothing_met = record { choices = record { count = 1; nodes = 0 }; has_party = false; options = None; sends = nothing; receives = nothing; besides = 0 }
 
 -- an automaton that has the event begins
 abbrev pub opened : Tally → Tally
-opened t = record t { options = Some (record { edges = record { count = 0; nodes = 0 }; stays = false }) }
+opened t = record t { options = Some (record { edges = nothing; stays = false }) }
 
 abbrev pub one_edge : (nodes : ℕ) → Options → Options
 one_edge nodes o = record o { edges = with_one nodes o.edges }
 
--- it has an edge for the event, with so many nodes
-abbrev pub with_edge : (nodes : ℕ) → Tally → Tally
-with_edge nodes t = record t { options = option_map (one_edge nodes) t.options }
+-- it has an edge for the event in that role, with so many nodes
+abbrev pub with_edge : Role → (nodes : ℕ) → Tally → Tally
+with_edge syncing nodes t = record t { options = option_map (one_edge nodes) t.options }
+with_edge sending nodes t = record t { sends = with_one nodes t.sends }
+with_edge receiving nodes t = record t { receives = with_one nodes t.receives }
 
 abbrev pub one_stay : Options → Options
 one_stay o = record o { stays = true }
@@ -48,9 +51,11 @@ closed t = elim t.options [
 abbrev pub with_besides : (nodes : ℕ) → Tally → Tally
 with_besides nodes t = record t { besides = cut (t.besides + nodes) }
 
--- the nodes of all choices, each with one of its own; there is none without a party
-abbrev pub tally_nodes : Tally → ℕ
-tally_nodes t = if t.has_party then all_nodes (cut (1 + t.besides)) t.choices else 0
+-- the nodes of all choices, each with one of its own: for a channel one edge sends and one receives beside what the others do,
+-- and for another event there is no choice without a party
+abbrev pub tally_nodes : (is_channel : Bool) → Tally → ℕ
+tally_nodes true t = all_nodes (cut (1 + t.besides)) (paired t.sends (paired t.receives t.choices))
+tally_nodes false t = if t.has_party then all_nodes (cut (1 + t.besides)) t.choices else 0
 
 -- ---- sizes
 
@@ -80,7 +85,7 @@ abbrev pub opened_for : (events : List ℕ) → List Tally → List Tally
 opened_for es ts = each_changed (λ e. e) (λ e. opened) es ts
 
 abbrev pub edges_noted : List NetEdge → List Tally → List Tally
-edges_noted xs ts = each_changed (λ (x : NetEdge). x.event) (λ x. with_edge (edge_nodes x)) xs ts
+edges_noted xs ts = each_changed (λ (x : NetEdge). x.event) (λ x. with_edge x.role (edge_nodes x)) xs ts
 
 abbrev pub stays_noted : (events : List ℕ) → List Tally → List Tally
 stays_noted es ts = each_changed (λ e. e) (λ e. with_stay) es ts
@@ -99,9 +104,14 @@ abbrev pub all_tallied : List NetAuto → List Tally → List Tally
 all_tallied [] ts = ts
 all_tallied (a ∷ autos) ts = all_tallied autos (tallied a ts)
 
-abbrev pub tallies_nodes : ℕ → List Tally → ℕ
-tallies_nodes n [] = n
-tallies_nodes n (t ∷ ts) = tallies_nodes (cut (n + tally_nodes t)) ts
+abbrev pub is_channel_event : NetEvent → Bool
+is_channel_event e = elim e.chan [ no_net_chan ↦ false | _ ↦ true ]
 
-abbrev pub counted : List NetAuto → List NetExclusion → (events : ℕ) → ℕ
-counted autos exclusions events = tallies_nodes 0 (exclusions_noted exclusions (all_tallied autos (replicate events nothing_met)))
+-- those of all events, by their tallies
+abbrev pub tallies_nodes : ℕ → List NetEvent → List Tally → ℕ
+tallies_nodes n [] ts = n
+tallies_nodes n (e ∷ es) [] = n
+tallies_nodes n (e ∷ es) (t ∷ ts) = tallies_nodes (cut (n + tally_nodes (is_channel_event e) t)) es ts
+
+abbrev pub counted : List NetAuto → List NetExclusion → List NetEvent → ℕ
+counted autos exclusions events = tallies_nodes 0 events (exclusions_noted exclusions (all_tallied autos (replicate (length events) nothing_met)))

@@ -6,6 +6,9 @@ use Rattle.cif_alg.specs.declared.weighed.Weighed.{Weighed}
 abbrev pub cut : ℕ → ℕ
 cut x = stopped most_nodes x
 
+abbrev pub nothing : Weighed
+nothing = record { count = 0; nodes = 0 }
+
 -- so many, with so many nodes together
 abbrev pub weighed : ℕ → ℕ → Weighed
 weighed count nodes = record { count = cut count; nodes = cut nodes }

@@ -1,37 +1,47 @@
 //! The nodes of the choices of all events, without listing the choices.
 
-ghost use Rattle.std.specs.Prelude.{◌≡◌, length, map, IfOk};
-ghost use Rattle.cif_net.specs.View.{auto_tree, edge_tree, exclusion_tree};
-ghost use Rattle.cif_alg.specs.Tallies.{tallies_nodes, edge_nodes, exclusion_nodes, opened_for, edges_noted, stays_noted, closed_for, tallied, all_tallied, exclusions_noted, counted};
+ghost use Rattle.std.specs.Prelude.{◌≡◌, map, IfOk};
+ghost use Rattle.cif_net.specs.View.{auto_tree, edge_tree, event_tree, exclusion_tree};
+ghost use Rattle.cif_alg.specs.Tallies.{is_channel_event, tallies_nodes, edge_nodes, exclusion_nodes, opened_for, edges_noted, stays_noted, closed_for, tallied, all_tallied, exclusions_noted, counted};
 
 use crate::limit::sum;
 use crate::tally::Tally;
 use cif_base::{Items, Memory};
 use cif_measure::{edge_size, exclusion_size};
-use cif_net::{Auto, Exclusion, Net, NetEdge};
+use cif_net::{Auto, Event, Exclusion, Net, NetChan, NetEdge};
 use std::alloc::Global;
 
-/// The nodes of the choices of all events of a net without algebraic variables, state invariants and channels, where the count
-/// stops one past the limit. The time is linear in what alphabets, monitors, edges, exclusions and events there are, with their
+/// The nodes of the choices of all events of a net without algebraic variables and state invariants, where the count stops one
+/// past the limit. The time is linear in what alphabets, monitors, edges, exclusions and events there are, with their
 /// expressions.
 pub fn choice_nodes(alloc: Global, net: &Net) -> Result<u64, Memory>
     ensures { IfOk result
-        (λ nodes. nodes ≡ counted (map auto_tree net.now.autos) (map exclusion_tree net.now.exclusions) (length net.now.events)) }
+        (λ nodes. nodes ≡ counted (map auto_tree net.now.autos) (map exclusion_tree net.now.exclusions) (map event_tree net.now.events)) }
 {
     let mut tallies = Items::filled(alloc, Tally::new(), net.events.len())?;
     tally_all(&mut tallies, net.autos.as_slice());
     note_exclusions(&mut tallies, net.exclusions.as_slice());
-    Ok(all_nodes(tallies.as_slice()))
+    Ok(all_nodes(net.events.as_slice(), tallies.as_slice()))
 }
 
-fn all_nodes(tallies: &[Tally]) -> u64
-    ensures { result ≡ tallies_nodes 0 tallies.now }
+/// Those of all events, by their tallies.
+fn all_nodes(events: &[Event], tallies: &[Tally]) -> u64
+    ensures { result ≡ tallies_nodes 0 (map event_tree events.now) tallies.now }
 {
     let mut nodes = 0;
-    for tally in tallies {
-        nodes = sum(nodes, tally.nodes());
+    for (event, tally) in events.iter().zip(tallies) {
+        nodes = sum(nodes, tally.nodes(is_channel(event)));
     }
     nodes
+}
+
+fn is_channel(event: &Event) -> bool
+    ensures { result ≡ is_channel_event (event_tree event.now) }
+{
+    match event.chan {
+        NetChan::No => false,
+        NetChan::Void | NetChan::Of(_) => true,
+    }
 }
 
 fn tally_all(tallies: &mut Items<Tally>, autos: &[Auto])
@@ -69,7 +79,7 @@ fn note_edges(tallies: &mut Items<Tally>, edges: &[NetEdge])
     for edge in edges {
         let at = edge.event as usize;
         if let Some(tally) = tallies.get(at).copied() {
-            tallies.set(at, tally.with_edge(edge_nodes(edge)));
+            tallies.set(at, tally.with_edge(edge.role, edge_nodes(edge)));
         }
     }
 }

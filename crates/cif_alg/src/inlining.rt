@@ -5,7 +5,6 @@ ghost use Rattle.std.specs.List.{list_all};
 ghost use Rattle.cif_model.specs.Counts.{most_nodes, most_depth, is_too_large};
 ghost use Rattle.cif_model.specs.Rules.{evaluated, is_plain_expr};
 ghost use Rattle.cif_net.specs.View.{net_tree};
-ghost use Rattle.cif_alg.specs.Channels.{is_no_channel};
 ghost use Rattle.cif_alg.specs.Keeps.{KeepsAlgebraic, due};
 
 use crate::counting::choice_nodes;
@@ -20,7 +19,6 @@ use std::alloc::Global;
 pub fn inline(alloc: Global, net: Net) -> Result<Plain, AlgErr>
     requires algs { (net_tree net).algs ≡ [] }
     requires invariants { (net_tree net).invariants ≡ [] }
-    requires channels { list_all is_no_channel (net_tree net).events ≡ true }
     ensures plain { IfOk result (λ p. p.net ≡ net) }
     ensures keeps { IfOk result (λ p. KeepsAlgebraic (net_tree net)) }
     ensures refused { IfErr result (λ e. due (net_tree net) e) }
@@ -33,7 +31,6 @@ pub fn inline(alloc: Global, net: Net) -> Result<Plain, AlgErr>
 fn check_rules(alloc: Global, net: &Net) -> Result<(), AlgErr>
     requires algs { (net_tree net.now).algs ≡ [] }
     requires invariants { (net_tree net.now).invariants ≡ [] }
-    requires channels { list_all is_no_channel (net_tree net.now).events ≡ true }
     ensures exprs { IfOk result (λ done. list_all (is_plain_expr (net_tree net.now)) (evaluated (net_tree net.now)) ≡ true) }
     ensures small { IfOk result (λ done. is_too_large (net_tree net.now) ≡ false) }
     ensures refused { IfErr result (λ e. due (net_tree net.now) e) }
@@ -46,7 +43,6 @@ fn check_rules(alloc: Global, net: &Net) -> Result<(), AlgErr>
 fn check_size(alloc: Global, net: &Net) -> Result<(), AlgErr>
     requires algs { (net_tree net.now).algs ≡ [] }
     requires invariants { (net_tree net.now).invariants ≡ [] }
-    requires channels { list_all is_no_channel (net_tree net.now).events ≡ true }
     ensures small { IfOk result (λ done. is_too_large (net_tree net.now) ≡ false) }
     ensures refused { IfErr result (λ e. due (net_tree net.now) e) }
 {

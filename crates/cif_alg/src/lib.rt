@@ -1,6 +1,6 @@
 //! The rules on algebraic variables, intervals, state invariants and sizes of a net, and the net in which algebraic variables
 //! are replaced by their definitions (CIF 3 language reference, "Algebraic variables"). So far for nets without algebraic
-//! variables, state invariants and channels.
+//! variables and state invariants.
 #![tactic(auto)]
 
 mod counting;

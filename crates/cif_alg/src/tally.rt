@@ -1,18 +1,24 @@
 //! What is counted for one event, automaton by automaton.
 
 ghost use Rattle.std.specs.Prelude.{◌≡◌};
+ghost use Rattle.cif_system.specs.System.{syncing};
+ghost use Rattle.cif_net.specs.View.{role_of};
 ghost use Rattle.cif_alg.specs.Tallies.{nothing_met, opened, with_edge, with_stay, all_options, closed, with_besides, tally_nodes};
 
 use crate::limit::sum;
 use crate::weighed::Weighed;
+use cif_net::NetRole;
 
-/// The choices of the automata so far, and whether one of them has the event. While an automaton that has it is gone
-/// through, `options` are its options. Each choice has the nodes `besides`, those of the exclusions of the event.
+/// What the automata so far may do that synchronise on the event, and whether there is one. While one is gone through, `options`
+/// are its options. `sends` and `receives` are the edges of all automata that send and that receive. Each choice has the nodes
+/// `besides`, those of the exclusions of the event.
 #[derive(Clone, Copy)]
 pub struct Tally {
     pub choices: Weighed,
     pub has_party: bool,
     pub options: Option<Options>,
+    pub sends: Weighed,
+    pub receives: Weighed,
     pub besides: u64,
 }
 
@@ -45,6 +51,8 @@ impl Tally {
             choices: Weighed { count: 1, nodes: 0 },
             has_party: false,
             options: None,
+            sends: Weighed::none(),
+            receives: Weighed::none(),
             besides: 0,
         }
     }
@@ -54,30 +62,43 @@ impl Tally {
         ensures { result ≡ opened self }
     {
         Tally {
-            choices: self.choices,
-            has_party: self.has_party,
             options: Some(Options {
-                edges: Weighed { count: 0, nodes: 0 },
+                edges: Weighed::none(),
                 stays: false,
             }),
-            besides: self.besides,
+            ..self
         }
     }
 
-    /// The automaton has an edge for the event, with so many nodes.
-    pub fn with_edge(self, nodes: u64) -> Tally
-        ensures { result ≡ with_edge nodes self }
+    /// The automaton has an edge for the event in that role, with so many nodes.
+    pub fn with_edge(self, role: NetRole, nodes: u64) -> Tally
+        ensures { result ≡ with_edge (role_of role) nodes self }
+    {
+        match role {
+            NetRole::Sync => self.with_option(nodes),
+            NetRole::Send => Tally {
+                sends: self.sends.with_one(nodes),
+                ..self
+            },
+            NetRole::Recv => Tally {
+                receives: self.receives.with_one(nodes),
+                ..self
+            },
+        }
+    }
+
+    /// The automaton may take an edge that synchronises, with so many nodes.
+    fn with_option(self, nodes: u64) -> Tally
+        ensures { result ≡ with_edge syncing nodes self }
     {
         match self.options {
             None => self,
             Some(options) => Tally {
-                choices: self.choices,
-                has_party: self.has_party,
                 options: Some(Options {
                     edges: options.edges.with_one(nodes),
                     stays: options.stays,
                 }),
-                besides: self.besides,
+                ..self
             },
         }
     }
@@ -89,13 +110,11 @@ impl Tally {
         match self.options {
             None => self,
             Some(options) => Tally {
-                choices: self.choices,
-                has_party: self.has_party,
                 options: Some(Options {
                     edges: options.edges,
                     stays: true,
                 }),
-                besides: self.besides,
+                ..self
             },
         }
     }
@@ -110,7 +129,7 @@ impl Tally {
                 choices: self.choices.paired(options.all()),
                 has_party: true,
                 options: None,
-                besides: self.besides,
+                ..self
             },
         }
     }
@@ -120,19 +139,22 @@ impl Tally {
         ensures { result ≡ with_besides nodes self }
     {
         Tally {
-            choices: self.choices,
-            has_party: self.has_party,
-            options: self.options,
             besides: sum(self.besides, nodes),
+            ..self
         }
     }
 
-    /// The nodes of the choices for the event, each with one of its own. There is none without a party.
-    pub fn nodes(self) -> u64
-        ensures { result ≡ tally_nodes self }
+    /// The nodes of the choices for the event, each with one of its own. For a channel each edge that sends goes with each that
+    /// receives, and with what the others may do. For another event there is no choice without a party.
+    pub fn nodes(self, is_channel: bool) -> u64
+        ensures { result ≡ tally_nodes is_channel self }
     {
-        if self.has_party {
-            self.choices.all_nodes(sum(1, self.besides))
+        let each = sum(1, self.besides);
+        if is_channel {
+            let others = self.receives.paired(self.choices);
+            self.sends.paired(others).all_nodes(each)
+        } else if self.has_party {
+            self.choices.all_nodes(each)
         } else {
             0
         }

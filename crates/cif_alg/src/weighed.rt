@@ -1,7 +1,7 @@
 //! How many there are of something, and how many nodes they have.
 
 ghost use Rattle.std.specs.Prelude.{◌≡◌};
-ghost use Rattle.cif_alg.specs.Weighed.{with_one, paired, all_nodes};
+ghost use Rattle.cif_alg.specs.Weighed.{nothing, with_one, paired, all_nodes};
 
 use crate::limit::{product, sum};
 
@@ -13,6 +13,13 @@ pub struct Weighed {
 }
 
 impl Weighed {
+    /// None.
+    pub fn none() -> Weighed
+        ensures { result ≡ nothing }
+    {
+        Weighed { count: 0, nodes: 0 }
+    }
+
     /// With one more, which has so many nodes.
     pub fn with_one(self, nodes: u64) -> Weighed
         ensures { result ≡ with_one nodes self }
