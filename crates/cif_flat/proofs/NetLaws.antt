@@ -2,7 +2,6 @@
 use Rattle.std.proofs.Common.{◌≡◌, Bool, true, false, [], map, filter, refl, ◌∙◌, ap}
 use Rattle.cif_ast.specs.declared.names.Ident.{Ident}
 use Rattle.cif_ast.specs.declared.declarations.Class.{Class}
-use Rattle.cif_system.specs.Words.{Member}
 use Rattle.cif_system.proofs.Lists.{false-true, filter-within, filter-passes}
 use Rattle.cif_system.proofs.Distinct.{member-map}
 use Rattle.cif_model.specs.Net.{NetEvent, no_net_chan}

@@ -1,9 +1,8 @@
 -- What each phase keeps of a source of the built forms, and why its refusal is due.
-use Rattle.std.proofs.Common.{◌≡◌, ℕ, ◌≤◌, ◌<◌, true, false, [], refl, ◌∙◌, ap, subst, arith}
-use Rattle.std.specs.List.{list_all}
+use Rattle.std.proofs.Common.{◌≡◌, ℕ, ◌≤◌, ◌<◌, true, [], refl, ◌∙◌, ap, subst, arith}
 use Rattle.cif_system.specs.Words.{Exceeds}
 use Rattle.cif_system.specs.Choices.{all_choices}
-use Rattle.cif_model.specs.Net.{Net, no_net_chan}
+use Rattle.cif_model.specs.Net.{Net}
 use Rattle.cif_model.specs.Counts.{most_choices}
 use Rattle.cif_model.specs.Meaning.{system_of_net}
 use Rattle.cif_model.specs.Rules.{ZeroDivisor, TooWide, TooLarge}
@@ -19,7 +18,6 @@ use Rattle.cif_types.specs.declared.error.TypeErr.TheVariants as type
 use Rattle.cif_inst.specs.Net as insts
 use Rattle.cif_inst.specs.declared.error.InstErr.{InstErr}
 use Rattle.cif_inst.specs.declared.error.InstErr.TheVariants as inst
-use Rattle.cif_alg.specs.Channels.{is_no_channel}
 use Rattle.cif_alg.specs.Keeps as algs
 use Rattle.cif_alg.specs.declared.error.AlgErr.{AlgErr}
 use Rattle.cif_alg.specs.declared.error.AlgErr.TheVariants as alg
@@ -29,7 +27,6 @@ use Rattle.cif_image.specs.Built.{is_built}
 use Rattle.cif_image.specs.Flat.{net_of_source}
 use Rattle.cif_image.specs.Represents.{Represents}
 use Rattle.cif_image.specs.WellFormed.{Refusal, unknown, duplicate, wrong_kind, definition_cycle, mismatch, not_constant, initials, not_own, assigned_twice, equations, alphabet_lacks, role_mixed, too_many_objects, constant_range, alg_cycle, zero_divisor, too_wide, invariant_reads_input, invariant_false, too_large, too_many_choices, Broken, Phase, phase, order, scope as scopes, kinds, instances, algebraic, choices, KeepsBefore}
-use Rattle.cif_image.proofs.RuleLaws.{all-from}
 use Rattle.cif_flat.proofs.NetLaws.{silent}
 use Rattle.cif_front.specs.Kept.{KeepsSource}
 use Rattle.cif_front.specs.Dues.{IsDueOf, scope_refusal, type_refusal, inst_refusal, alg_refusal, lin_refusal}
@@ -124,11 +121,6 @@ module _ (t : Source) where
 
     pub net_invariants : is_built t ≡ true → n.invariants ≡ []
     net_invariants built = ap (λ (m : Net). m.invariants) r.translated ∙ (silent t built).invariants
-
-    pub net_channels : is_built t ≡ true → list_all is_no_channel n.events ≡ true
-    net_channels built =
-        ap (λ (m : Net). list_all is_no_channel m.events) r.translated
-        ∙ all-from is_no_channel (net_of_source t).events (λ e m. ap (λ c. elim c [ no_net_chan ↦ true | _ ↦ false ]) ((silent t built).channels e m))
 
     pub plain_kept : algs.KeepsAlgebraic n → algs.KeepsAlgebraic (net_of_source t)
     plain_kept h = subst algs.KeepsAlgebraic r.translated h

@@ -1,7 +1,6 @@
 -- Without definitions each body is written where it stands. And edges that synchronise.
 use Rattle.std.proofs.Common.{◌≡◌, true, refl}
 use Rattle.std.specs.List.{list_all}
-use Rattle.cif_system.specs.Words.{Member}
 use Rattle.cif_system.proofs.Lists.{false-true}
 use Rattle.cif_source.specs.Source.{syncs, Source}
 use Rattle.cif_source.specs.Components.{Component, whole, part, blank, copy}

@@ -14,7 +14,7 @@ use Rattle.cif_source.specs.Components.{Component, body_of}
 use Rattle.cif_source.specs.Objects.{bodies, locs_of, locs_in, EventEdge, event_edges, edges_of_uses}
 use Rattle.cif_source.specs.Step.{synchronises}
 use Rattle.cif_rules.specs.InstanceRules as rules
-use Rattle.cif_rules.specs.InstanceRules.{synchronised_name, is_lacking, AlphabetLacksDue}
+use Rattle.cif_rules.specs.InstanceRules.{synchronised_name, is_lacking}
 use Rattle.cif_image.specs.Flat.{event_number, net_edge}
 use Rattle.cif_image.proofs.SystemLaws.{map-map, alphabet-same}
 use Rattle.cif_image.proofs.RuleLaws.{member-any}

@@ -1,19 +1,17 @@
 -- The objects that are found for the names of bodies are those of the flat net.
 use Rattle.std.proofs.Common.{◌≡◌, ℕ, ◌+◌, ◌≤◌, ℤ, true, false, ◌⊎◌, inl, inr, List, [], ◌++◌, length, map, take, Option, Some, None, refl, sym, ap, subst, ◌∙◌, arith}
-use Rattle.std.specs.Prelude.{◌&&◌, not, slice_get, unwrap_or}
-use Rattle.std.specs.List.{list_all}
+use Rattle.std.specs.Prelude.{not, slice_get, unwrap_or}
 use Rattle.cif_base.specs.declared.types.Ty.{Ty}
 use Rattle.cif_base.specs.declared.types.Ty.TheVariants as net_ty
 use Rattle.cif_ast.specs.Tree.{Tree}
 use Rattle.cif_ast.specs.declared.names.Ident.{Ident}
 use Rattle.cif_system.specs.Words.{Member, AreDistinct}
 use Rattle.cif_system.proofs.Lists.{false-true}
-use Rattle.cif_system.proofs.Picks.{and-left, and-right, all-at, at-member}
-use Rattle.cif_model.proofs.Passing.{all-member}
+use Rattle.cif_system.proofs.Picks.{all-at, at-member}
 use Rattle.cif_term.specs.Tree.{n_var, n_loc}
 use Rattle.cif_source.specs.Source.{TypeTree, DeclTree, type_decl, enum_decl, event_decl, const_decl, alg_decl, input_decl, disc_decl, equation_decl, invariant_decl, marked_decl, Source}
 use Rattle.cif_source.specs.Components.{Component, whole, part, blank, copy, specification_of, body_of, params_of, path_of, scope_of, param_entries, body_entries, Entry, declared, literal, location, inner, definition, instance, parameter}
-use Rattle.cif_source.specs.Objects.{components_of, most_objects, bodies, decls_in, decls_of, is_automaton, variables, number_in, automaton_number}
+use Rattle.cif_source.specs.Objects.{components_of, most_objects, bodies, decls_of, is_automaton, variables, number_in, automaton_number}
 use Rattle.cif_source.specs.Value.{constant}
 use Rattle.cif_rules.specs.InstanceRules.{FaultyConstant, LeavesRange, LongBound, EmptyRange, ConstantRangeDue}
 use Rattle.cif_scope.specs.declared.scope.What.{What}

@@ -4,14 +4,13 @@ use Rattle.cif_net.specs.View.{net_tree}
 use Rattle.cif_net.specs.declared.net.Net.{Net}
 use Rattle.cif_image.specs.Represents.{Represents}
 use Rattle.cif_front.specs.Dues.{IsDueOf}
-use Rattle.cif_front.proofs.PhaseLaws.{alg_due, net_algs, net_invariants, net_channels, plain_kept}
+use Rattle.cif_front.proofs.PhaseLaws.{alg_due, net_algs, net_invariants, plain_kept}
 use Rattle.cif_front.proofs.building.plain_of.Goals as goal
 
 pub inline-requires : goal.inline-requires
 inline-requires c = record {
   algs = net_algs (source_of c.args._spec.now) (net_tree c.args.net) c.requires.represents c.requires.forms;
   invariants = net_invariants (source_of c.args._spec.now) (net_tree c.args.net) c.requires.represents c.requires.forms;
-  channels = net_channels (source_of c.args._spec.now) (net_tree c.args.net) c.requires.represents c.requires.forms;
 }
 
 pub returns-in-Ok-clause-represents : goal.returns-in-Ok-clause-represents
