@@ -1,0 +1,10 @@
+//! That the components of a CIF source are its bodies as written, and that names, kinds and constants are the same in both, as
+//! laws for the crates above (CIF 3 language reference, "Component definition and instantiation", "Scoping").
+#![tactic(auto)]
+
+mod laws;
+
+pub use laws::{
+    components_are_written, definitions_are_found_the_same, names_find_the_same,
+    names_stay_in_bodies, writing_twice_is_writing_once,
+};
