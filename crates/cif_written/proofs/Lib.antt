@@ -1,3 +1,5 @@
 pub mod Alike
 pub mod Entries
 pub mod Bodies
+pub mod KindLaws
+pub mod Rows

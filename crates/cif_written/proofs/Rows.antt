@@ -1,0 +1,109 @@
+-- Worked examples of the laws, each by computing. Above the tree stands its text.
+use Rattle.std.proofs.Common.{◌≡◌, pos, List, [], ◌∷◌, map, Some, None, refl}
+use Rattle.std.specs.Prelude.{codes, true}
+use Rattle.cif_ast.specs.Tree.{node, number, named, no_updates}
+use Rattle.cif_ast.specs.declared.declarations.Class.TheVariants as class
+use Rattle.cif_source.specs.Source.{int_type, range_type, no_type, syncs, event_decl, const_decl, disc_decl, event_param, DeclTree, decl_item, definition_item, instance_item, InstanceTree, ParamTree, SourceBody, group_body, automaton_body, Source}
+use Rattle.cif_source.specs.Components.{Component, whole, blank, copy, as_written, declared, parameter}
+use Rattle.cif_source.specs.Lookup.{reached, found, denotes, thing}
+use Rattle.cif_source.specs.Objects.{components_of, bodies}
+use Rattle.cif_source.proofs.Terms.{word, single, event_use, edge_by, place, behaviour, instance_named, source_list}
+use Rattle.cif_rules.specs.Kinds.{no_kind, int_kind, kind_of}
+use Rattle.cif_written.specs.Alike.{AreAlike}
+
+-- ---- a definition in a definition, two instances of the outer one, and a name that both and the specification declare
+
+-- controllable e, f; const int k = 1; a: G(e); b: G(f); group def G(controllable c): const int k = 3; x: D(c); automaton def D(controllable d): const int k = 4; disc int[0..k] v = k; location: initial; edge d; end end
+abbrev inner_k : DeclTree
+inner_k = const_decl int_type (word (codes "k") 152) (node (number (pos 4)) 156)
+
+abbrev d_params : List ParamTree
+d_params = event_param class.Con no_type (word (codes "d") 138) ∷ []
+
+abbrev d_body : SourceBody
+d_body = automaton_body (behaviour (inner_k ∷ disc_decl (range_type (node (number (pos 0)) 168) (node (named (single (word (codes "k") 171))) 171)) (word (codes "v") 174) (Some (node (named (single (word (codes "k") 178))) 178)) ∷ []) None None
+    (place None true [] [] (edge_by (event_use (single (word (codes "d") 205)) syncs ∷ []) [] no_updates None
+    ∷ [])
+    ∷ []))
+
+abbrev x_item : InstanceTree
+x_item = instance_named (word (codes "x") 100) (single (word (codes "D") 103)) (node (named (single (word (codes "c") 105))) 105 ∷ [])
+
+abbrev g_params : List ParamTree
+g_params = event_param class.Con no_type (word (codes "c") 79) ∷ []
+
+abbrev g_body : SourceBody
+g_body = group_body (source_list (decl_item (const_decl int_type (word (codes "k") 93) (node (number (pos 3)) 97))
+    ∷ instance_item x_item
+    ∷ definition_item (word (codes "D") 123) d_params d_body
+    ∷ []))
+
+abbrev a_item : InstanceTree
+a_item = instance_named (word (codes "a") 36) (single (word (codes "G") 39)) (node (named (single (word (codes "e") 41))) 41 ∷ [])
+
+abbrev b_item : InstanceTree
+b_item = instance_named (word (codes "b") 45) (single (word (codes "G") 48)) (node (named (single (word (codes "f") 50))) 50 ∷ [])
+
+abbrev pub nested : Source
+nested = source_list (decl_item (event_decl class.Con no_type (word (codes "e") 13))
+    ∷ decl_item (event_decl class.Con no_type (word (codes "f") 16))
+    ∷ decl_item (const_decl int_type (word (codes "k") 29) (node (number (pos 1)) 33))
+    ∷ instance_item a_item
+    ∷ instance_item b_item
+    ∷ definition_item (word (codes "G") 64) g_params g_body
+    ∷ [])
+
+abbrev a : Component
+a = copy (whole nested) (word (codes "G") 64) g_params g_body (whole nested) a_item
+
+abbrev b : Component
+b = copy (whole nested) (word (codes "G") 64) g_params g_body (whole nested) b_item
+
+abbrev ax : Component
+ax = copy a (word (codes "D") 123) d_params d_body a x_item
+
+abbrev bx : Component
+bx = copy b (word (codes "D") 123) d_params d_body b x_item
+
+abbrev g : Component
+g = blank (whole nested) (word (codes "G") 64) g_params g_body
+
+abbrev d : Component
+d = blank g (word (codes "D") 123) d_params d_body
+
+its_components : components_of nested ≡ whole nested ∷ a ∷ ax ∷ b ∷ bx ∷ []
+its_components = refl
+
+its_bodies : bodies nested ≡ whole nested ∷ g ∷ d ∷ []
+its_bodies = refl
+
+components_as_written : map as_written (components_of nested) ≡ whole nested ∷ g ∷ d ∷ g ∷ d ∷ []
+components_as_written = refl
+
+-- the inmost scope decides, in the instances and in the definition
+k_is_found : found ax (single (word (codes "k") 178)) ≡ reached (ax, declared inner_k)
+k_is_found = refl
+
+k_is_found_as_written : found d (single (word (codes "k") 178)) ≡ reached (d, declared inner_k)
+k_is_found_as_written = refl
+
+k_is_alike : AreAlike (found ax (single (word (codes "k") 178))) (found bx (single (word (codes "k") 178)))
+k_is_alike = (refl, refl)
+
+-- a parameter is found in both, though it stands for other events
+c_is_alike : AreAlike (found ax (single (word (codes "c") 105))) (found bx (single (word (codes "c") 105)))
+c_is_alike = (refl, refl)
+
+d_denotes_e : denotes ax (single (word (codes "d") 205)) ≡ Some (thing (whole nested) (declared (event_decl class.Con no_type (word (codes "e") 13))))
+d_denotes_e = refl
+
+d_denotes_f : denotes bx (single (word (codes "d") 205)) ≡ Some (thing (whole nested) (declared (event_decl class.Con no_type (word (codes "f") 16))))
+d_denotes_f = refl
+
+-- ---- kinds
+
+k_is_a_number : kind_of bx no_kind (node (named (single (word (codes "k") 178))) 178) ≡ int_kind
+k_is_a_number = refl
+
+k_is_a_number_as_written : kind_of d no_kind (node (named (single (word (codes "k") 178))) 178) ≡ int_kind
+k_is_a_number_as_written = refl
