@@ -7,6 +7,8 @@ use Rattle.cif_source.specs.Source.{int_type, range_type, no_type, syncs, event_
 use Rattle.cif_source.specs.Components.{Component, whole, blank, copy, as_written, declared, parameter}
 use Rattle.cif_source.specs.Lookup.{reached, found, denotes, thing}
 use Rattle.cif_source.specs.Objects.{components_of, bodies}
+use Rattle.cif_source.specs.Value.{constant}
+use Rattle.cif_source.specs.Types.{from_to, range_of}
 use Rattle.cif_source.proofs.Terms.{word, single, event_use, edge_by, place, behaviour, instance_named, source_list}
 use Rattle.cif_rules.specs.Kinds.{no_kind, int_kind, kind_of}
 use Rattle.cif_written.specs.Alike.{AreAlike}
@@ -107,3 +109,17 @@ k_is_a_number = refl
 
 k_is_a_number_as_written : kind_of d no_kind (node (named (single (word (codes "k") 178))) 178) ≡ int_kind
 k_is_a_number_as_written = refl
+
+-- ---- constants
+
+k_is_four : constant bx (node (named (single (word (codes "k") 178))) 178) ≡ pos 4
+k_is_four = refl
+
+k_is_four_as_written : constant d (node (named (single (word (codes "k") 178))) 178) ≡ pos 4
+k_is_four_as_written = refl
+
+range_of_v : range_of bx (range_type (node (number (pos 0)) 168) (node (named (single (word (codes "k") 171))) 171)) ≡ from_to (pos 0) (pos 4)
+range_of_v = refl
+
+range_of_v_as_written : range_of d (range_type (node (number (pos 0)) 168) (node (named (single (word (codes "k") 171))) 171)) ≡ from_to (pos 0) (pos 4)
+range_of_v_as_written = refl

@@ -1,6 +1,6 @@
 //! The laws, each the contract of a function without a body.
 
-ghost use Rattle.std.specs.Prelude.{◌≡◌};
+ghost use Rattle.std.specs.Prelude.{◌≡◌, ℕ};
 ghost use Rattle.cif_ast.specs.Tree.{Tree};
 ghost use Rattle.cif_ast.specs.declared.names.Name.{Name};
 ghost use Rattle.cif_system.specs.Words.{Member};
@@ -9,7 +9,12 @@ ghost use Rattle.cif_source.specs.Components.{Component, as_written};
 ghost use Rattle.cif_source.specs.Lookup.{ScopeEntry, definition_found, found, reached};
 ghost use Rattle.cif_source.specs.Objects.{bodies, components_of};
 ghost use Rattle.cif_rules.specs.Kinds.{Kind, kind_of, operands, type_kind};
+ghost use Rattle.cif_source.specs.Types.{range_of};
+ghost use Rattle.cif_source.specs.Value.{constant};
+ghost use Rattle.cif_rules.specs.BodyRules.{NotConstantDue};
+ghost use Rattle.cif_rules.specs.Constants.{constants_of, types_of};
 ghost use Rattle.cif_written.specs.Alike.{AreAlike, AreWrittenAlike};
+ghost use Rattle.cif_written.specs.Constancy.{HasConstantNames};
 
 /// Each component of a source, as written, is one of its bodies: so what is said of all bodies is said of what stands in each
 /// component.
@@ -52,4 +57,23 @@ pub fn expressions_have_the_same_kinds()
 /// The operands within an expression are asked for the same in both.
 pub fn operands_are_asked_for_the_same()
     ensures { (c d : Component) → AreWrittenAlike c d → (r : Kind) (e : Tree) → operands c r e ≡ operands d r e }
+{}
+
+/// Where a source keeps the rule on constants, the constant expressions of each of its components, bounds of types, values of
+/// constants and first values, name constants and literals alone.
+pub fn constant_expressions_are_constant()
+    ensures { (t : Source) → ((at : ℕ) → NotConstantDue t at → ⊥) → (c : Component) → Member (as_written c) (bodies t) →
+        (e : Tree) → Member e (constants_of c) → HasConstantNames c e }
+{}
+
+/// There such an expression has the same value in components that are written as one body.
+pub fn constants_are_the_same()
+    ensures { (t : Source) → ((at : ℕ) → NotConstantDue t at → ⊥) → (c d : Component) → AreWrittenAlike c d →
+        Member (as_written c) (bodies t) → (e : Tree) → HasConstantNames c e → constant c e ≡ constant d e }
+{}
+
+/// So has a type of such a component the same range.
+pub fn ranges_are_the_same()
+    ensures { (t : Source) → ((at : ℕ) → NotConstantDue t at → ⊥) → (c d : Component) → AreWrittenAlike c d →
+        Member (as_written c) (bodies t) → (ty : TypeTree) → Member ty (types_of c) → range_of c ty ≡ range_of d ty }
 {}
