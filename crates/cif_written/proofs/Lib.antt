@@ -4,4 +4,6 @@ pub mod Bodies
 pub mod KindLaws
 pub mod Values
 pub mod Constants
+pub mod UseLaws
+pub mod ArgumentLaws
 pub mod Rows

@@ -1,19 +1,23 @@
 //! The laws, each the contract of a function without a body.
 
-ghost use Rattle.std.specs.Prelude.{◌≡◌, ℕ};
+ghost use Rattle.std.specs.Prelude.{◌≡◌, ℕ, List, Some, slice_get};
 ghost use Rattle.cif_ast.specs.Tree.{Tree};
+ghost use Rattle.cif_ast.specs.declared.names.Ident.{Ident};
 ghost use Rattle.cif_ast.specs.declared.names.Name.{Name};
 ghost use Rattle.cif_system.specs.Words.{Member};
-ghost use Rattle.cif_source.specs.Source.{InstanceTree, Source, TypeTree};
-ghost use Rattle.cif_source.specs.Components.{Component, as_written};
+ghost use Rattle.cif_source.specs.Source.{InstanceTree, ParamTree, Source, SourceBody, TypeTree};
+ghost use Rattle.cif_source.specs.Components.{Component, as_written, copy};
 ghost use Rattle.cif_source.specs.Lookup.{ScopeEntry, definition_found, found, reached};
 ghost use Rattle.cif_source.specs.Objects.{bodies, components_of};
 ghost use Rattle.cif_rules.specs.Kinds.{Kind, kind_of, operands, type_kind};
+ghost use Rattle.cif_source.specs.Scoping.{UnknownDue, WrongKindDue};
+ghost use Rattle.cif_source.specs.Uses.{Use, sought, uses};
 ghost use Rattle.cif_source.specs.Types.{range_of};
 ghost use Rattle.cif_source.specs.Value.{constant};
-ghost use Rattle.cif_rules.specs.BodyRules.{NotConstantDue};
+ghost use Rattle.cif_rules.specs.BodyRules.{MismatchDue, NotConstantDue};
 ghost use Rattle.cif_rules.specs.Constants.{constants_of, types_of};
 ghost use Rattle.cif_written.specs.Alike.{AreAlike, AreWrittenAlike};
+ghost use Rattle.cif_written.specs.Arguments.{IsArgumentFor};
 ghost use Rattle.cif_written.specs.Constancy.{HasConstantNames};
 
 /// Each component of a source, as written, is one of its bodies: so what is said of all bodies is said of what stands in each
@@ -76,4 +80,24 @@ pub fn constants_are_the_same()
 pub fn ranges_are_the_same()
     ensures { (t : Source) → ((at : ℕ) → NotConstantDue t at → ⊥) → (c d : Component) → AreWrittenAlike c d →
         Member (as_written c) (bodies t) → (ty : TypeTree) → Member ty (types_of c) → range_of c ty ≡ range_of d ty }
+{}
+
+/// Components that are written as one body use the same names.
+pub fn uses_are_the_same()
+    ensures { (c d : Component) → AreWrittenAlike c d → uses c ≡ uses d }
+{}
+
+/// What is sought under a use is the same in both.
+pub fn uses_seek_the_same()
+    ensures { (c d : Component) → AreWrittenAlike c d → (u : Use) → AreAlike (sought c u) (sought d u) }
+{}
+
+/// Where a source keeps its rules on names and kinds, each parameter of an instance has its argument, and one for an event or a
+/// location is a bare name that leads from where the instance stands to an event or a location, or to a parameter of that sort.
+pub fn parameters_are_arguments()
+    ensures { (t : Source) → ((at : ℕ) → UnknownDue t at → ⊥) → ((at : ℕ) → WrongKindDue t at → ⊥) →
+        ((at : ℕ) → MismatchDue t at → ⊥) →
+        (o g : Component) (n : Ident) (ps : List ParamTree) (b : SourceBody) (i : InstanceTree) →
+        Member (copy o n ps b g i) (components_of t) → (k : ℕ) (p : ParamTree) → slice_get ps k ≡ Some p →
+        (e : Tree) × (slice_get i.args k ≡ Some e) × IsArgumentFor p g e }
 {}

@@ -1,0 +1,31 @@
+-- What an argument is, and what it means that a name denotes an event.
+use Rattle.std.specs.Prelude.{◌≡◌, ℕ, ◌<◌, true, length, Some}
+use Rattle.cif_ast.specs.Tree.{Tree, node, named}
+use Rattle.cif_ast.specs.declared.names.Name.{Name}
+use Rattle.cif_source.specs.Source.{ParamTree, event_param, alg_param, location_param, Source}
+use Rattle.cif_source.specs.Components.{Component}
+use Rattle.cif_source.specs.Lookup.{ScopeEntry, reached, found, denotes}
+use Rattle.cif_source.specs.Objects.{events}
+use Rattle.cif_source.specs.Step.{event_at}
+use Rattle.cif_source.specs.Uses.{Asked, event_asked, location_asked, is_asked}
+
+-- a bare name, which leads to what is asked for, or to a parameter of that sort
+pub record IsNameFor (asks : Asked) (c : Component) (e : Tree) : Type 0 where
+  pub name : Name
+  pub at : ℕ
+  pub is_bare : e ≡ node (named name) at
+  pub place : ScopeEntry
+  pub is_found : found c name ≡ reached place
+  pub is_sort : is_asked asks place.1 ≡ true
+
+-- an argument for an event or a location, where an instance stands
+abbrev pub IsArgumentFor : ParamTree → Component → Tree → Type 0
+IsArgumentFor (event_param k h n) c e = IsNameFor event_asked c e
+IsArgumentFor (alg_param ty n) c e = Unit {0}
+IsArgumentFor (location_param n) c e = IsNameFor location_asked c e
+
+-- the name denotes one of the events of the source, by its number
+pub record DenotesEvent (t : Source) (c : Component) (nm : Name) : Type 0 where
+  pub event : ℕ
+  pub is_event : event_at (denotes c nm) ≡ Some event
+  pub is_below : event < length (events t)
