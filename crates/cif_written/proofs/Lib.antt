@@ -6,4 +6,5 @@ pub mod Values
 pub mod Constants
 pub mod UseLaws
 pub mod ArgumentLaws
+pub mod EventLaws
 pub mod Rows

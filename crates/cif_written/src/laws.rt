@@ -1,6 +1,6 @@
 //! The laws, each the contract of a function without a body.
 
-ghost use Rattle.std.specs.Prelude.{◌≡◌, ℕ, List, Some, slice_get};
+ghost use Rattle.std.specs.Prelude.{◌≡◌, ◌≤◌, ℕ, List, Some, length, slice_get};
 ghost use Rattle.cif_ast.specs.Tree.{Tree};
 ghost use Rattle.cif_ast.specs.declared.names.Ident.{Ident};
 ghost use Rattle.cif_ast.specs.declared.names.Name.{Name};
@@ -8,16 +8,16 @@ ghost use Rattle.cif_system.specs.Words.{Member};
 ghost use Rattle.cif_source.specs.Source.{InstanceTree, ParamTree, Source, SourceBody, TypeTree};
 ghost use Rattle.cif_source.specs.Components.{Component, as_written, copy};
 ghost use Rattle.cif_source.specs.Lookup.{ScopeEntry, definition_found, found, reached};
-ghost use Rattle.cif_source.specs.Objects.{bodies, components_of};
+ghost use Rattle.cif_source.specs.Objects.{bodies, components_of, most_objects};
 ghost use Rattle.cif_rules.specs.Kinds.{Kind, kind_of, operands, type_kind};
 ghost use Rattle.cif_source.specs.Scoping.{UnknownDue, WrongKindDue};
-ghost use Rattle.cif_source.specs.Uses.{Use, sought, uses};
+ghost use Rattle.cif_source.specs.Uses.{Use, event_asked, sought, uses};
 ghost use Rattle.cif_source.specs.Types.{range_of};
 ghost use Rattle.cif_source.specs.Value.{constant};
 ghost use Rattle.cif_rules.specs.BodyRules.{MismatchDue, NotConstantDue};
 ghost use Rattle.cif_rules.specs.Constants.{constants_of, types_of};
 ghost use Rattle.cif_written.specs.Alike.{AreAlike, AreWrittenAlike};
-ghost use Rattle.cif_written.specs.Arguments.{IsArgumentFor};
+ghost use Rattle.cif_written.specs.Arguments.{DenotesEvent, IsArgumentFor};
 ghost use Rattle.cif_written.specs.Constancy.{HasConstantNames};
 
 /// Each component of a source, as written, is one of its bodies: so what is said of all bodies is said of what stands in each
@@ -100,4 +100,13 @@ pub fn parameters_are_arguments()
         (o g : Component) (n : Ident) (ps : List ParamTree) (b : SourceBody) (i : InstanceTree) →
         Member (copy o n ps b g i) (components_of t) → (k : ℕ) (p : ParamTree) → slice_get ps k ≡ Some p →
         (e : Tree) × (slice_get i.args k ≡ Some e) × IsArgumentFor p g e }
+{}
+
+/// There, where components are no more than the limit, a name that a component uses as an event denotes one of the events of the
+/// source, through however many instances its parameters are passed on.
+pub fn event_names_denote_events()
+    ensures { (t : Source) → length (components_of t) ≤ most_objects → ((at : ℕ) → UnknownDue t at → ⊥) →
+        ((at : ℕ) → WrongKindDue t at → ⊥) → ((at : ℕ) → MismatchDue t at → ⊥) →
+        (c : Component) → Member c (components_of t) → (nm : Name) →
+        Member (record { name = nm; asks = event_asked }) (uses c) → DenotesEvent t c nm }
 {}
