@@ -4,6 +4,7 @@ pub mod Bodies
 pub mod KindLaws
 pub mod Values
 pub mod Constants
+pub mod DemandLaws
 pub mod UseLaws
 pub mod ArgumentLaws
 pub mod EventLaws

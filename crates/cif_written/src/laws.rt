@@ -1,6 +1,6 @@
 //! The laws, each the contract of a function without a body.
 
-ghost use Rattle.std.specs.Prelude.{◌≡◌, ◌≤◌, ℕ, List, Some, length, slice_get};
+ghost use Rattle.std.specs.Prelude.{◌≡◌, ◌≤◌, ℕ, List, Some, length, slice_get, true};
 ghost use Rattle.cif_ast.specs.Tree.{Tree};
 ghost use Rattle.cif_ast.specs.declared.names.Ident.{Ident};
 ghost use Rattle.cif_ast.specs.declared.names.Name.{Name};
@@ -9,7 +9,8 @@ ghost use Rattle.cif_source.specs.Source.{InstanceTree, ParamTree, Source, Sourc
 ghost use Rattle.cif_source.specs.Components.{Component, as_written, copy};
 ghost use Rattle.cif_source.specs.Lookup.{ScopeEntry, definition_found, found, reached};
 ghost use Rattle.cif_source.specs.Objects.{bodies, components_of, most_objects};
-ghost use Rattle.cif_rules.specs.Kinds.{Kind, kind_of, operands, type_kind};
+ghost use Rattle.cif_rules.specs.Demands.{demands};
+ghost use Rattle.cif_rules.specs.Kinds.{Demand, Kind, kind_of, operands, same_kind, type_kind};
 ghost use Rattle.cif_source.specs.Scoping.{UnknownDue, WrongKindDue};
 ghost use Rattle.cif_source.specs.Uses.{Use, event_asked, sought, uses};
 ghost use Rattle.cif_source.specs.Types.{range_of};
@@ -61,6 +62,17 @@ pub fn expressions_have_the_same_kinds()
 /// The operands within an expression are asked for the same in both.
 pub fn operands_are_asked_for_the_same()
     ensures { (c d : Component) → AreWrittenAlike c d → (r : Kind) (e : Tree) → operands c r e ≡ operands d r e }
+{}
+
+/// So are all positions of the two asked for the same.
+pub fn positions_ask_for_the_same()
+    ensures { (c d : Component) → AreWrittenAlike c d → demands c ≡ demands d }
+{}
+
+/// Where a source keeps the rule on kinds, each expression of each of its components has the kind that its position asks for.
+pub fn expressions_have_their_kinds()
+    ensures { (t : Source) → ((at : ℕ) → MismatchDue t at → ⊥) → (c : Component) → Member (as_written c) (bodies t) →
+        (x : Demand) → Member x (demands c) → same_kind (kind_of c x.received_kind x.value) x.kind ≡ true }
 {}
 
 /// Where a source keeps the rule on constants, the constant expressions of each of its components, bounds of types, values of
