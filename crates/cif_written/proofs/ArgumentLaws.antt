@@ -15,17 +15,21 @@ use Rattle.cif_system.proofs.Picks.{append-left, append-right, map-member, flat_
 use Rattle.cif_source.specs.Source.{ChannelTree, ParamTree, event_param, alg_param, location_param, InstanceTree, SourceItem, decl_item, component_item, definition_item, instance_item, SourceBody, group_body, automaton_body, Source, list_of_items, tree_at}
 use Rattle.cif_source.specs.Components.{Component, whole, part, blank, copy, stands_in, body_of, params_of, as_written, Entry, declared, literal, location, inner, definition, instance, parameter}
 use Rattle.cif_source.specs.Lookup.{ScopeEntry, Reached, reached, missing, blocked, opened, opened_at, definition_found, found}
-use Rattle.cif_source.specs.Objects.{components_of, children, child_of, items_in, most_objects, bodies}
+use Rattle.cif_source.specs.Objects.{components_of, children, child_of, items_in, most_objects, bodies, decls_of, locs_of}
 use Rattle.cif_source.specs.Uses.{Use, Asked, event_asked, location_asked, definition_asked, asking, arg_uses, args_uses, params_at, item_uses, body_uses, param_uses, uses, is_asked, sought}
 use Rattle.cif_source.specs.Scoping.{is_missing, is_wrong, UnknownDue, UnknownName, UnknownOwn, WrongKindDue, WrongName, WrongOwn, WrongCount, as_instance, instances_of, has_wrong_count}
 use Rattle.cif_source.proofs.ComponentLaws.{children-parent}
-use Rattle.cif_rules.specs.Demands.{Argument, arguments_at, arguments_in, is_unfit_for}
+use Rattle.cif_rules.specs.Kinds.{no_kind, int_kind, same_kind, type_kind, kind_of, demand}
+use Rattle.cif_rules.specs.Constants.{bound_values}
+use Rattle.cif_rules.specs.Demands.{asked_for, decl_demands, argument_demands, location_demands, Argument, arguments_at, arguments_in, is_unfit_for}
 use Rattle.cif_rules.specs.BodyRules.{MismatchDue, BadValue, BadUse, BadArgument}
 use Rattle.cif_image.proofs.DistinctLaws.{below-parent}
 use Rattle.cif_image.proofs.RuleLaws.{member-any}
 use Rattle.cif_written.specs.Arguments.{IsNameFor, IsArgumentFor}
 use Rattle.cif_written.proofs.Alike.{written, twice, body-written, definition-written}
 use Rattle.cif_written.proofs.Bodies.{IsWritten, components-written}
+use Rattle.cif_written.proofs.KindLaws.{type-same}
+use Rattle.cif_written.proofs.DemandLaws.{demands-met, unfit-same}
 use Rattle.cif_written.proofs.UseLaws.{uses-written, sought-same}
 
 -- ---- instances that stand in a component
@@ -272,8 +276,24 @@ module _ (t : Source) (known : (at : ℕ) → UnknownDue t at → ⊥) (sorts : 
         here : Member (argument_of e p) (arguments_in (as_written g))
         here = flat_map-member (λ j. arguments_at j (definition_found (as_written g) j)) i (instances_of (as_written g)) (argument_of e p) stands at_it
 
-    argued : (k : ℕ) (e : Tree) (p : ParamTree) → slice_get i.args k ≡ Some e → slice_get ps k ≡ Some p → IsArgumentFor p g e
-    argued k e (alg_param ty m) he hp = tt
+    -- with the definition as it was found
+    abbrev argument_here : Tree → ParamTree → Argument
+    argument_here e p = record { value = e; param = p; definition = blank o n ps b }
+
+    stands-here : (k : ℕ) (e : Tree) (p : ParamTree) → slice_get i.args k ≡ Some e → slice_get ps k ≡ Some p → Member (argument_here e p) (arguments_in g)
+    stands-here k e p he hp =
+        flat_map-member (λ j. arguments_at j (definition_found g j)) i (instances_of g) (argument_here e p) (instance-in i (items_in (body_of g)) given.item)
+        (subst (λ r. Member (argument_here e p) (arguments_at i r)) (sym given.opens)
+        (map-member (λ (x : Tree × ParamTree). argument_here x.0 x.1) (e, p) (zip i.args ps) (at-member (zip i.args ps) k (e, p) (zip-at i.args ps k e p he hp))))
+
+    argued : (k : ℕ) (e : Tree) (p : ParamTree) → slice_get i.args k ≡ Some e → slice_get ps k ≡ Some p → IsArgumentFor (copy o n ps b g i) p g e
+    argued k e (alg_param ty m) he hp =
+        ap (same_kind (kind_of g no_kind e)) (sym (type-same (blank o n ps b) (copy o n ps b g i) refl ty))
+        ∙ demands-met t matched g home (demand no_kind (type_kind (blank o n ps b) ty) e)
+        (append-left (demand no_kind (type_kind (blank o n ps b) ty) e)
+        (flat_map (asked_for g int_kind) (bound_values g) ++ flat_map (decl_demands g) (decls_of g) ++ flat_map (argument_demands g) (arguments_in g)) (flat_map (location_demands g) (locs_of g))
+        (append-right (demand no_kind (type_kind (blank o n ps b) ty) e) (flat_map (asked_for g int_kind) (bound_values g) ++ flat_map (decl_demands g) (decls_of g)) (flat_map (argument_demands g) (arguments_in g))
+        (flat_map-member (argument_demands g) (argument_here e (alg_param ty m)) (arguments_in g) (demand no_kind (type_kind (blank o n ps b) ty) e) (stands-here k e (alg_param ty m) he hp) (inl refl))))
     argued k e (event_param c h m) he hp =
         let bare = event-bare (as_written g) (blank (as_written o) n ps b) e c h m (fits k e (event_param c h m) he hp) in
         subst (IsNameFor event_asked g) (sym bare.2) (named-for event_asked bare.0 bare.1 (used k (node (named bare.0) bare.1) (event_param c h m) (he ∙ ap Some bare.2) hp (record { name = bare.0; asks = event_asked }) (inl refl)) (λ d. refl))
@@ -282,12 +302,12 @@ module _ (t : Source) (known : (at : ℕ) → UnknownDue t at → ⊥) (sorts : 
         subst (IsNameFor location_asked g) (sym bare.2) (named-for location_asked bare.0 bare.1 (used k (node (named bare.0) bare.1) (location_param m) (he ∙ ap Some bare.2) hp (record { name = bare.0; asks = location_asked }) (inl refl)) (λ d. refl))
 
     -- the argument for a parameter
-    pub argument : (k : ℕ) (p : ParamTree) → slice_get ps k ≡ Some p → (e : Tree) × (slice_get i.args k ≡ Some e) × IsArgumentFor p g e
+    pub argument : (k : ℕ) (p : ParamTree) → slice_get ps k ≡ Some p → (e : Tree) × (slice_get i.args k ≡ Some e) × (is_unfit_for g (copy o n ps b g i) e p ≡ false) × IsArgumentFor (copy o n ps b g i) p g e
     argument k p hp =
         let e = element i.args k (omega (arith, counted, slice_get-below ps k p hp)) in
-        (e.0, e.1, argued k e.0 p e.1 hp)
+        (e.0, e.1, unfit-same g (as_written g) (copy o n ps b g i) (blank (as_written o) n ps b) (sym (twice g)) (ap (λ w. blank w n ps b) (sym (twice o))) e.0 p ∙ fits k e.0 p e.1 hp, argued k e.0 p e.1 hp)
 
 pub parameter-argument : (t : Source) → ((at : ℕ) → UnknownDue t at → ⊥) → ((at : ℕ) → WrongKindDue t at → ⊥) → ((at : ℕ) → MismatchDue t at → ⊥)
     → (o g : Component) (n : Ident) (ps : List ParamTree) (b : SourceBody) (i : InstanceTree) → Member (copy o n ps b g i) (components_of t)
-    → (k : ℕ) (p : ParamTree) → slice_get ps k ≡ Some p → (e : Tree) × (slice_get i.args k ≡ Some e) × IsArgumentFor p g e
+    → (k : ℕ) (p : ParamTree) → slice_get ps k ≡ Some p → (e : Tree) × (slice_get i.args k ≡ Some e) × (is_unfit_for g (copy o n ps b g i) e p ≡ false) × IsArgumentFor (copy o n ps b g i) p g e
 parameter-argument t known sorts matched o g n ps b i m = argument t known sorts o g n ps b i (given-by t o g n ps b i m) matched

@@ -1,10 +1,12 @@
 -- In components that are written as one body, positions ask for the same: so the rule on kinds holds of each component.
 use Rattle.std.proofs.Common.{◌≡◌, Bool, true, false, ◌⊎◌, inl, inr, List, [], ◌∷◌, ◌++◌, map, Option, refl, sym, ◌∙◌, ap, subst}
-use Rattle.std.specs.Prelude.{ℕ, flat_map, zip, IsTrue}
+use Rattle.std.specs.Prelude.{ℕ, flat_map, zip, IsTrue, not, ◌||◌}
 use Rattle.std.specs.Option.{option_to_list}
 use Rattle.std.proofs.lemmas.Grind.{flat_map-append}
 use Rattle.std.proofs.lemmas.List.Folds.{flat_map-map}
-use Rattle.cif_ast.specs.Tree.{Tree, UpdateTree, assignment, selection, UpdateTrees, no_updates, updates, UpdateBranches, no_update_branches, update_branches}
+use Rattle.cif_ast.specs.declared.declarations.Class.{Class}
+use Rattle.cif_ast.specs.declared.declarations.Class.TheVariants as class
+use Rattle.cif_ast.specs.Tree.{Tree, node, named, UpdateTree, assignment, selection, UpdateTrees, no_updates, updates, UpdateBranches, no_update_branches, update_branches}
 use Rattle.cif_ast.specs.declared.names.Ident.{Ident}
 use Rattle.cif_ast.specs.declared.names.Name.{Name}
 use Rattle.cif_system.specs.Words.{Member}
@@ -15,7 +17,7 @@ use Rattle.cif_source.specs.Objects.{bodies, decls_of, decls_in, locs_of, locs_i
 use Rattle.cif_source.specs.Scoping.{instances_of}
 use Rattle.cif_rules.specs.Kinds.{Kind, bool_kind, int_kind, no_kind, same_kind, type_kind, kind_at, kind_of, Demand, demand}
 use Rattle.cif_rules.specs.Constants.{bound_values}
-use Rattle.cif_rules.specs.Demands.{demanded, asked_for, ChannelKind, not_channel, void_channel, channel_for, channel_kind, channel_at, event_channel, sent_demands, use_demands, received_by, carried_kind, one_kind, edge_received, updates_demands, update_demands, branches_demands, edge_demands, equation_demands, location_demands, predicate_of, optional_demands, decl_demands, Argument, arguments_at, arguments_in, argument_demands, demands}
+use Rattle.cif_rules.specs.Demands.{demanded, asked_for, ChannelKind, not_channel, void_channel, channel_for, channel_kind, channel_at, event_channel, sent_demands, use_demands, received_by, carried_kind, one_kind, edge_received, updates_demands, update_demands, branches_demands, edge_demands, equation_demands, location_demands, predicate_of, optional_demands, decl_demands, Argument, arguments_at, arguments_in, argument_demands, demands, same_channel, has_asked_class, is_unfit_for}
 use Rattle.cif_rules.specs.BodyRules.{MismatchDue, BadValue, BadUse, BadArgument}
 use Rattle.cif_image.proofs.RuleLaws.{member-any}
 use Rattle.cif_written.specs.Alike.{AreWrittenAlike}
@@ -190,3 +192,25 @@ demands-met t matched c w x m =
           (subst (Member x) (demands-same c (as_written c) (sym (twice c))) m)
           (refl, ap (λ k. same_kind k x.kind) (sym (kind-same c (as_written c) (sym (twice c)) x.received_kind x.value)) ∙ g)))))
     ]) refl
+
+-- ---- arguments that fit
+
+class-written : (k : Class) (r : Reached) → has_asked_class k r ≡ has_asked_class k (written r)
+class-written class.Plain r = refl
+class-written class.Con (reached x) = refl
+class-written class.Unc (reached x) = refl
+class-written k missing = refl
+class-written k blocked = refl
+
+class-same : (c d : Component) → AreWrittenAlike c d → (k : Class) (nm : Name) → has_asked_class k (found c nm) ≡ has_asked_class k (found d nm)
+class-same c d h k nm = class-written k (found c nm) ∙ ap (has_asked_class k) (found-alike c d nm h) ∙ sym (class-written k (found d nm))
+
+channel_kind-same : (c d : Component) → AreWrittenAlike c d → (h : ChannelTree) → channel_kind c h ≡ channel_kind d h
+channel_kind-same c d a h = channel_kind-written c h ∙ ap (λ w. channel_kind w h) a ∙ sym (channel_kind-written d h)
+
+pub unfit-same : (c c' : Component) (d d' : Component) → AreWrittenAlike c c' → AreWrittenAlike d d' → (e : Tree) (p : ParamTree) → is_unfit_for c d e p ≡ is_unfit_for c' d' e p
+unfit-same c c' d d' h k (node (named nm) at) (event_param x y n) = λ i. not (same_channel (channel-same c c' h nm i) (channel_kind-same d d' k y i)) || not (class-same c c' h x nm i)
+unfit-same c c' d d' h k (node _ at) (event_param x y n) = refl
+unfit-same c c' d d' h k (node (named nm) at) (location_param n) = refl
+unfit-same c c' d d' h k (node _ at) (location_param n) = refl
+unfit-same c c' d d' h k e (alg_param ty n) = refl

@@ -162,7 +162,7 @@ module _ (t : Source) (few : length (components_of t) ≤ most_objects) where
     copy-declares : (o g : Component) (n : Ident) (ps : List ParamTree) (b : SourceBody) (i : InstanceTree) → Listed (copy o n ps b g i) → Listed g → Outward g → Declares (copy o n ps b g i)
     copy-declares o g n ps b i l lg out (parameter k (event_param c h m)) at a =
         let e = parameter-argument t known sorts matched o g n ps b i l k (event_param c h m) at in
-        argument-event o g n ps b i lg out k c h m e.0 e.1 e.2
+        argument-event o g n ps b i lg out k c h m e.0 e.1 e.3
     copy-declares o g n ps b i l lg out (parameter k (alg_param ty m)) at a = cc
     copy-declares o g n ps b i l lg out (parameter k (location_param m)) at a = cc
     copy-declares o g n ps b i l lg out e at a = own-event (copy o n ps b g i) e l at a refl

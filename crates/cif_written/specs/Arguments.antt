@@ -8,6 +8,7 @@ use Rattle.cif_source.specs.Lookup.{ScopeEntry, reached, found, denotes}
 use Rattle.cif_source.specs.Objects.{events}
 use Rattle.cif_source.specs.Step.{event_at}
 use Rattle.cif_source.specs.Uses.{Asked, event_asked, location_asked, is_asked}
+use Rattle.cif_rules.specs.Kinds.{no_kind, same_kind, type_kind, kind_of}
 
 -- a bare name, which leads to what is asked for, or to a parameter of that sort
 pub record IsNameFor (asks : Asked) (c : Component) (e : Tree) : Type 0 where
@@ -18,11 +19,11 @@ pub record IsNameFor (asks : Asked) (c : Component) (e : Tree) : Type 0 where
   pub is_found : found c name ≡ reached place
   pub is_sort : is_asked asks place.1 ≡ true
 
--- an argument for an event or a location, where an instance stands
-abbrev pub IsArgumentFor : ParamTree → Component → Tree → Type 0
-IsArgumentFor (event_param k h n) c e = IsNameFor event_asked c e
-IsArgumentFor (alg_param ty n) c e = Unit {0}
-IsArgumentFor (location_param n) c e = IsNameFor location_asked c e
+-- an argument that stands in c for a parameter of the instance d: one for an `alg` parameter has the kind of its type
+abbrev pub IsArgumentFor : Component → ParamTree → Component → Tree → Type 0
+IsArgumentFor d (event_param k h n) c e = IsNameFor event_asked c e
+IsArgumentFor d (alg_param ty n) c e = same_kind (kind_of c no_kind e) (type_kind d ty) ≡ true
+IsArgumentFor d (location_param n) c e = IsNameFor location_asked c e
 
 -- the name denotes one of the events of the source, by its number
 pub record DenotesEvent (t : Source) (c : Component) (nm : Name) : Type 0 where

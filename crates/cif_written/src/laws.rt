@@ -1,6 +1,6 @@
 //! The laws, each the contract of a function without a body.
 
-ghost use Rattle.std.specs.Prelude.{◌≡◌, ◌≤◌, ℕ, List, Some, length, slice_get, true};
+ghost use Rattle.std.specs.Prelude.{◌≡◌, ◌≤◌, ℕ, List, Some, false, length, slice_get, true};
 ghost use Rattle.cif_ast.specs.Tree.{Tree};
 ghost use Rattle.cif_ast.specs.declared.names.Ident.{Ident};
 ghost use Rattle.cif_ast.specs.declared.names.Name.{Name};
@@ -9,7 +9,7 @@ ghost use Rattle.cif_source.specs.Source.{InstanceTree, ParamTree, Source, Sourc
 ghost use Rattle.cif_source.specs.Components.{Component, as_written, copy};
 ghost use Rattle.cif_source.specs.Lookup.{ScopeEntry, definition_found, found, reached};
 ghost use Rattle.cif_source.specs.Objects.{bodies, components_of, most_objects};
-ghost use Rattle.cif_rules.specs.Demands.{demands};
+ghost use Rattle.cif_rules.specs.Demands.{demands, is_unfit_for};
 ghost use Rattle.cif_rules.specs.Kinds.{Demand, Kind, kind_of, operands, same_kind, type_kind};
 ghost use Rattle.cif_source.specs.Scoping.{UnknownDue, WrongKindDue};
 ghost use Rattle.cif_source.specs.Uses.{Use, event_asked, sought, uses};
@@ -104,14 +104,16 @@ pub fn uses_seek_the_same()
     ensures { (c d : Component) → AreWrittenAlike c d → (u : Use) → AreAlike (sought c u) (sought d u) }
 {}
 
-/// Where a source keeps its rules on names and kinds, each parameter of an instance has its argument, and one for an event or a
-/// location is a bare name that leads from where the instance stands to an event or a location, or to a parameter of that sort.
+/// Where a source keeps its rules on names and kinds, each parameter of an instance has its argument, which fits it where the
+/// instance stands. One for an event or a location is a bare name that leads to an event or a location, or to a parameter of
+/// that sort, and one for an `alg` parameter has the kind of its type.
 pub fn parameters_are_arguments()
     ensures { (t : Source) → ((at : ℕ) → UnknownDue t at → ⊥) → ((at : ℕ) → WrongKindDue t at → ⊥) →
         ((at : ℕ) → MismatchDue t at → ⊥) →
         (o g : Component) (n : Ident) (ps : List ParamTree) (b : SourceBody) (i : InstanceTree) →
         Member (copy o n ps b g i) (components_of t) → (k : ℕ) (p : ParamTree) → slice_get ps k ≡ Some p →
-        (e : Tree) × (slice_get i.args k ≡ Some e) × IsArgumentFor p g e }
+        (e : Tree) × (slice_get i.args k ≡ Some e) × (is_unfit_for g (copy o n ps b g i) e p ≡ false) ×
+        IsArgumentFor (copy o n ps b g i) p g e }
 {}
 
 /// There, where components are no more than the limit, a name that a component uses as an event denotes one of the events of the
