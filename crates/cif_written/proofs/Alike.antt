@@ -123,7 +123,7 @@ opened-same c i s (reached (o, parameter k p)) = refl
 opened-same c i s missing = refl
 opened-same c i s blocked = refl
 
-passed-same : (c : Component) (e : Entry) (s : Text) → written (passed (c, e) s) ≡ written (passed (as_written c, e) s)
+pub passed-same : (c : Component) (e : Entry) (s : Text) → written (passed (c, e) s) ≡ written (passed (as_written c, e) s)
 passed-same c (inner n b) s = in_body-same (part c n b) (part (as_written c) n b) s (ap (λ w. part w n b) (sym (twice c)))
 passed-same c (instance i) s = opened-same c i s (definition_found c i) ∙ ap (λ r. written (in_opened (opened_at (as_written c) i r) s)) (definition-written c i)
 passed-same c (declared d) s = refl

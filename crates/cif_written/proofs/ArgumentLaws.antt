@@ -43,15 +43,15 @@ instance_at j (copy o n ps b g i) = i
 instance_at j _ = j
 
 -- the component is an instance of what was found
-record IsCopy (c : Component) (j : InstanceTree) (r : Reached) (d : Component) : Type 0 where
-  outer : Component
-  name : Ident
-  params : List ParamTree
-  body : SourceBody
-  is_found : r ≡ reached (outer, definition name params body)
-  is_copy : d ≡ copy outer name params body c j
+pub record IsCopy (c : Component) (j : InstanceTree) (r : Reached) (d : Component) : Type 0 where
+  pub outer : Component
+  pub name : Ident
+  pub params : List ParamTree
+  pub body : SourceBody
+  pub is_found : r ≡ reached (outer, definition name params body)
+  pub is_copy : d ≡ copy outer name params body c j
 
-opened_at-is : (c : Component) (j : InstanceTree) (r : Reached) (d : Component) → opened_at c j r ≡ Some d → IsCopy c j r d
+pub opened_at-is : (c : Component) (j : InstanceTree) (r : Reached) (d : Component) → opened_at c j r ≡ Some d → IsCopy c j r d
 opened_at-is c j (reached (o, definition n ps b)) d h = record { outer = o; name = n; params = ps; body = b; is_found = refl; is_copy = sym (some-same (copy o n ps b c j) d h) }
 opened_at-is c j (reached (o, declared x)) d h = absurd (none-some d h)
 opened_at-is c j (reached (o, literal k ls)) d h = absurd (none-some d h)

@@ -8,4 +8,5 @@ pub mod DemandLaws
 pub mod UseLaws
 pub mod ArgumentLaws
 pub mod EventLaws
+pub mod OwnLaws
 pub mod Rows

@@ -1,11 +1,11 @@
 //! The laws, each the contract of a function without a body.
 
 ghost use Rattle.std.specs.Prelude.{◌≡◌, ◌≤◌, ℕ, List, Some, false, length, slice_get, true};
-ghost use Rattle.cif_ast.specs.Tree.{Tree};
+ghost use Rattle.cif_ast.specs.Tree.{Tree, UpdateTrees};
 ghost use Rattle.cif_ast.specs.declared.names.Ident.{Ident};
 ghost use Rattle.cif_ast.specs.declared.names.Name.{Name};
 ghost use Rattle.cif_system.specs.Words.{Member};
-ghost use Rattle.cif_source.specs.Source.{InstanceTree, ParamTree, Source, SourceBody, TypeTree};
+ghost use Rattle.cif_source.specs.Source.{EdgeTree, InstanceTree, ParamTree, Source, SourceBody, TypeTree};
 ghost use Rattle.cif_source.specs.Components.{Component, as_written, copy};
 ghost use Rattle.cif_source.specs.Lookup.{ScopeEntry, definition_found, found, reached};
 ghost use Rattle.cif_source.specs.Objects.{bodies, components_of, most_objects};
@@ -15,7 +15,7 @@ ghost use Rattle.cif_source.specs.Scoping.{UnknownDue, WrongKindDue};
 ghost use Rattle.cif_source.specs.Uses.{Use, event_asked, sought, uses};
 ghost use Rattle.cif_source.specs.Types.{range_of};
 ghost use Rattle.cif_source.specs.Value.{constant};
-ghost use Rattle.cif_rules.specs.BodyRules.{MismatchDue, NotConstantDue};
+ghost use Rattle.cif_rules.specs.BodyRules.{AssignedTwiceDue, AssignsTwice, LeadsElsewhere, MismatchDue, NotConstantDue, NotOwnDue, edges_of, lists_of, targets_of_all};
 ghost use Rattle.cif_rules.specs.Constants.{constants_of, types_of};
 ghost use Rattle.cif_written.specs.Alike.{AreAlike, AreWrittenAlike};
 ghost use Rattle.cif_written.specs.Arguments.{DenotesEvent, IsArgumentFor};
@@ -123,4 +123,20 @@ pub fn event_names_denote_events()
         ((at : ℕ) → WrongKindDue t at → ⊥) → ((at : ℕ) → MismatchDue t at → ⊥) →
         (c : Component) → Member c (components_of t) → (nm : Name) →
         Member (record { name = nm; asks = event_asked }) (uses c) → DenotesEvent t c nm }
+{}
+
+/// Where the variables that a body assigns are its own, a name that an edge of a component assigns leads to that component, and
+/// not to another instance.
+pub fn assigned_variables_are_own()
+    ensures { (t : Source) → ((at : ℕ) → NotOwnDue t at → ⊥) → (c : Component) → Member (as_written c) (bodies t) →
+        (e : EdgeTree) → Member e (edges_of c) → (nm : Name) → Member nm (targets_of_all e.updates) →
+        LeadsElsewhere c (found c nm) → ⊥ }
+{}
+
+/// Where moreover no list of updates of a body assigns a variable twice, none of a component does.
+pub fn variables_are_assigned_once()
+    ensures { (t : Source) → ((at : ℕ) → NotOwnDue t at → ⊥) → (c : Component) → Member (as_written c) (bodies t) →
+        (e : EdgeTree) → Member e (edges_of c) → ((at : ℕ) → AssignedTwiceDue t at → ⊥) →
+        (us : UpdateTrees) → Member us (lists_of e) → (at : ℕ) (a : AssignsTwice c us at) →
+        Member a.earlier_name (targets_of_all e.updates) → Member a.later_name (targets_of_all e.updates) → ⊥ }
 {}
