@@ -1,4 +1,4 @@
--- Where a source keeps its rules on names and kinds, a name that a component uses as an event denotes one of the events.
+-- Where a source keeps its rules on names and kinds, a name that a component uses as an event, or as a variable, denotes one.
 use Rattle.std.proofs.Common.{◌≡◌, ℕ, ◌+◌, ◌<◌, ◌≤◌, Bool, true, false, List, [], ◌∷◌, length, map, Option, Some, None, refl, sym, ◌∙◌, ap, subst}
 use Rattle.std.specs.Prelude.{◌&&◌, slice_get}
 use Rattle.std.specs.Cmp.Lexicographic.{pointwise}
@@ -9,12 +9,12 @@ use Rattle.cif_ast.specs.declared.names.Name.{Name}
 use Rattle.cif_ast.specs.declared.declarations.Class.{Class}
 use Rattle.cif_system.specs.Words.{Member}
 use Rattle.cif_system.proofs.Lists.{false-true, none-some, filter-member}
-use Rattle.cif_source.specs.Source.{Text, ChannelTree, event_decl, ParamTree, event_param, alg_param, location_param, InstanceTree, SourceBody, Source}
+use Rattle.cif_source.specs.Source.{Text, ChannelTree, DeclTree, event_decl, disc_decl, ParamTree, event_param, alg_param, location_param, InstanceTree, SourceBody, Source}
 use Rattle.cif_source.specs.Components.{Component, whole, part, blank, copy, specification_of, path_of, same_text, Entry, declared, literal, location, inner, definition, instance, parameter}
 use Rattle.cif_source.specs.Lookup.{ScopeEntry, Reached, reached, missing, blocked, in_scope, go_on, or_outward, outward, inside, passed, found, definition_found, looked_up, inside_written, Object, thing, given, denotes, by_argument, follow}
-use Rattle.cif_source.specs.Objects.{components_of, most_objects, decls_of, Declared, declarations, events, is_event, is_declared, number_in}
-use Rattle.cif_source.specs.Step.{event_at}
-use Rattle.cif_source.specs.Uses.{Use, uses, event_asked, is_asked}
+use Rattle.cif_source.specs.Objects.{components_of, most_objects, decls_of, Declared, declarations, declares, of_sort, events, variables, is_event, is_variable, is_declared, number_in}
+use Rattle.cif_source.specs.Step.{event_at, variable_at}
+use Rattle.cif_source.specs.Uses.{Use, uses, event_asked, variable_asked, is_asked}
 use Rattle.cif_source.specs.Scoping.{UnknownDue, WrongKindDue}
 use Rattle.cif_source.proofs.NameLaws.{is_parameter, in_body-own, passed-own, met, met_at, met_at-own, follow-met}
 use Rattle.cif_source.proofs.ReachLaws.{frames-listed, found-listed}
@@ -24,19 +24,14 @@ use Rattle.cif_image.proofs.FoundLaws.{declaration-listed, reached-same}
 use Rattle.cif_image.proofs.KeptLaws.{member-passes}
 use Rattle.cif_image.proofs.NamedLaws.{position-below}
 use Rattle.cif_image.proofs.WrittenLaws.{parent-listed, outer-listed}
-use Rattle.cif_written.specs.Arguments.{IsNameFor, IsArgumentFor, DenotesEvent}
+use Rattle.cif_written.specs.Arguments.{IsNameFor, IsArgumentFor}
+use Rattle.cif_written.specs.Denoted.{DenotesEvent, DenotesVariable}
 use Rattle.cif_written.proofs.Entries.{IsOf, In, in_scope-is}
 use Rattle.cif_written.proofs.Bodies.{Good, found-good, components-written}
+use Rattle.cif_written.proofs.NumberLaws.{declared-as}
 use Rattle.cif_written.proofs.ArgumentLaws.{asked, given-by, no-blank, parameter-argument}
 
 -- ---- events
-
-path-self : (p : List Text) → pointwise same_text p p ≡ true
-path-self [] = refl
-path-self (x ∷ p) = ap (λ b. b && pointwise same_text p p) (nat_list_eq_equiv.refl x) ∙ path-self p
-
-named-self : (x : Text) (p : List Text) → (same_text x x && pointwise same_text p p) ≡ true
-named-self x p = ap (λ b. b && pointwise same_text p p) (nat_list_eq_equiv.refl x) ∙ path-self p
 
 abbrev thing_of : ScopeEntry → Option Object
 thing_of x = Some (thing x.0 x.1)
@@ -67,25 +62,24 @@ module _ (t : Source) (few : length (components_of t) ≤ most_objects) where
   abbrev Listed : Component → Type 0
   Listed c = Member c (components_of t)
 
-  -- it is one of the events
-  record IsEvent (o : Option Object) : Type 0 where
-    event : ℕ
-    is_event : event_at o ≡ Some event
-    is_below : event < length (events t)
+  -- a declaration of a listed component has a number below that of all of its sort
+  number-below : (sort : DeclTree → Bool) (c : Component) (d : DeclTree) → Listed c → Member d (decls_of c) → sort d ≡ true → (x : Text) → declares x d ≡ true → number_in (of_sort sort t) c x < length (of_sort sort t)
+  number-below sort c d l m is x h =
+      position-below (is_declared c x) (of_sort sort t)
+      (member-passes (is_declared c x) (of_sort sort t) (c, d) (filter-member (λ (e : Declared). sort e.1) (declarations t) (c, d) (declaration-listed t few c d l m) is) (declared-as c d x h))
 
-  event-below : (c : Component) (k : Class) (h : ChannelTree) (n : Ident) → Listed c → Member (event_decl k h n) (decls_of c) → number_in (events t) c n.text < length (events t)
-  event-below c k h n l m =
-      position-below (is_declared c n.text) (events t)
-      (member-passes (is_declared c n.text) (events t) (c, event_decl k h n)
-      (filter-member (λ (d : Declared). is_event d.1) (declarations t) (c, event_decl k h n) (declaration-listed t few c (event_decl k h n) l m) refl)
-      (named-self n.text (path_of c)))
+  -- it is an event of a listed component
+  record IsEvent (o : Option Object) : Type 0 where
+    place : Component
+    class : Class
+    channel : ChannelTree
+    ident : Ident
+    is_listed : Listed place
+    is_declared : Member (event_decl class channel ident) (decls_of place)
+    is_thing : o ≡ Some (thing place (declared (event_decl class channel ident)))
 
   declared-event : (c : Component) (k : Class) (h : ChannelTree) (n : Ident) → Listed c → Member (event_decl k h n) (decls_of c) → IsEvent (Some (thing c (declared (event_decl k h n))))
-  declared-event c k h n l m = record {
-    event = number_in (events t) c n.text;
-    is_event = ap (λ s. Some (number_in (events s) c n.text)) (frames-listed t few c l).0;
-    is_below = event-below c k h n l m;
-  }
+  declared-event c k h n l m = record { place = c; class = k; channel = h; ident = n; is_listed = l; is_declared = m; is_thing = refl }
 
   thing-event : (c : Component) (e : Entry) → Listed c → IsOf c e → is_asked event_asked e ≡ true → is_parameter e ≡ false → IsEvent (Some (thing c e))
   thing-event c (declared (event_decl k h n)) l m a p = declared-event c k h n l m
@@ -180,8 +174,42 @@ module _ (t : Source) (few : length (components_of t) ≤ most_objects) where
     event-names c l nm m =
         let x = asked t known sorts c (components-written t c l) (record { name = nm; asks = event_asked }) m in
         let is = names-event c l (outward-events c l) nm x.0 x.1 x.2 in
+        let denoted : denotes c nm ≡ Some (thing is.place (declared (event_decl is.class is.channel is.ident))) = follow-met thing_of None given_of c nm ∙ ap (met thing_of None given_of) x.1 ∙ is.is_thing in
         record {
-          event = is.event;
-          is_event = ap event_at (follow-met thing_of None given_of c nm ∙ ap (met thing_of None given_of) x.1) ∙ is.is_event;
-          is_below = is.is_below;
+          place = is.place;
+          class = is.class;
+          channel = is.channel;
+          ident = is.ident;
+          is_listed = is.is_listed;
+          is_declared = is.is_declared;
+          is_denoted = denoted;
+          event = number_in (events t) is.place is.ident.text;
+          is_event = ap event_at denoted ∙ ap (λ s. Some (number_in (events s) is.place is.ident.text)) (frames-listed t few is.place is.is_listed).0;
+          is_below = number-below is_event is.place (event_decl is.class is.channel is.ident) is.is_listed is.is_declared refl is.ident.text (nat_list_eq_equiv.refl is.ident.text);
         }
+
+  -- ---- variables
+
+  variable-at : (c : Component) (nm : Name) → Listed c → (d : Component) (e : Entry) → found c nm ≡ reached (d, e) → Listed d → IsOf d e → is_asked variable_asked e ≡ true → DenotesVariable t c nm
+  variable-at c nm l d (declared (disc_decl ty n v)) h k m a =
+      let denoted : denotes c nm ≡ Some (thing d (declared (disc_decl ty n v))) = follow-met thing_of None given_of c nm ∙ ap (met thing_of None given_of) h ∙ met_at-own thing_of None given_of d (declared (disc_decl ty n v)) refl in
+      record {
+        place = d;
+        type_of = ty;
+        ident = n;
+        first = v;
+        is_listed = k;
+        is_declared = m;
+        is_found = h;
+        is_denoted = denoted;
+        variable = number_in (variables t) d n.text;
+        is_variable = ap variable_at denoted ∙ ap (λ s. Some (number_in (variables s) d n.text)) (frames-listed t few d k).0;
+        is_below = number-below is_variable d (disc_decl ty n v) k m refl n.text (nat_list_eq_equiv.refl n.text);
+      }
+  variable-at c nm l d _ h k m a = cc
+
+  -- a name that is used as a variable denotes one
+  pub variable-names : ((at : ℕ) → UnknownDue t at → ⊥) → ((at : ℕ) → WrongKindDue t at → ⊥) → (c : Component) → Listed c → (nm : Name) → Member (record { name = nm; asks = variable_asked }) (uses c) → DenotesVariable t c nm
+  variable-names known sorts c l nm m =
+      let x = asked t known sorts c (components-written t c l) (record { name = nm; asks = variable_asked }) m in
+      variable-at c nm l x.0.0 x.0.1 x.1 (found-listed t few c l nm x.0 x.1) (found-good t c (components-written t c l) nm x.0 x.1).1 x.2

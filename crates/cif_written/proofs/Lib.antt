@@ -7,6 +7,7 @@ pub mod Constants
 pub mod DemandLaws
 pub mod UseLaws
 pub mod ArgumentLaws
+pub mod NumberLaws
 pub mod EventLaws
 pub mod OwnLaws
 pub mod Rows

@@ -1,12 +1,10 @@
--- What an argument is, and what it means that a name denotes an event.
-use Rattle.std.specs.Prelude.{◌≡◌, ℕ, ◌<◌, true, length, Some}
+-- What an argument of an instance is.
+use Rattle.std.specs.Prelude.{◌≡◌, ℕ, true}
 use Rattle.cif_ast.specs.Tree.{Tree, node, named}
 use Rattle.cif_ast.specs.declared.names.Name.{Name}
-use Rattle.cif_source.specs.Source.{ParamTree, event_param, alg_param, location_param, Source}
+use Rattle.cif_source.specs.Source.{ParamTree, event_param, alg_param, location_param}
 use Rattle.cif_source.specs.Components.{Component}
-use Rattle.cif_source.specs.Lookup.{ScopeEntry, reached, found, denotes}
-use Rattle.cif_source.specs.Objects.{events}
-use Rattle.cif_source.specs.Step.{event_at}
+use Rattle.cif_source.specs.Lookup.{ScopeEntry, reached, found}
 use Rattle.cif_source.specs.Uses.{Asked, event_asked, location_asked, is_asked}
 use Rattle.cif_rules.specs.Kinds.{no_kind, same_kind, type_kind, kind_of}
 
@@ -24,9 +22,3 @@ abbrev pub IsArgumentFor : Component → ParamTree → Component → Tree → Ty
 IsArgumentFor d (event_param k h n) c e = IsNameFor event_asked c e
 IsArgumentFor d (alg_param ty n) c e = same_kind (kind_of c no_kind e) (type_kind d ty) ≡ true
 IsArgumentFor d (location_param n) c e = IsNameFor location_asked c e
-
--- the name denotes one of the events of the source, by its number
-pub record DenotesEvent (t : Source) (c : Component) (nm : Name) : Type 0 where
-  pub event : ℕ
-  pub is_event : event_at (denotes c nm) ≡ Some event
-  pub is_below : event < length (events t)

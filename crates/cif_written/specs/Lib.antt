@@ -1,3 +1,4 @@
 pub mod Alike
 pub mod Arguments
 pub mod Constancy
+pub mod Denoted

@@ -1,25 +1,26 @@
 //! The laws, each the contract of a function without a body.
 
-ghost use Rattle.std.specs.Prelude.{◌≡◌, ◌≤◌, ℕ, List, Some, false, length, slice_get, true};
+ghost use Rattle.std.specs.Prelude.{◌≡◌, ◌≤◌, Bool, ℕ, List, Some, false, length, slice_get, true};
 ghost use Rattle.cif_ast.specs.Tree.{Tree, UpdateTrees};
 ghost use Rattle.cif_ast.specs.declared.names.Ident.{Ident};
 ghost use Rattle.cif_ast.specs.declared.names.Name.{Name};
 ghost use Rattle.cif_system.specs.Words.{Member};
-ghost use Rattle.cif_source.specs.Source.{EdgeTree, InstanceTree, ParamTree, Source, SourceBody, TypeTree};
+ghost use Rattle.cif_source.specs.Source.{DeclTree, EdgeTree, InstanceTree, ParamTree, Source, SourceBody, Text, TypeTree};
 ghost use Rattle.cif_source.specs.Components.{Component, as_written, copy};
 ghost use Rattle.cif_source.specs.Lookup.{ScopeEntry, definition_found, found, reached};
-ghost use Rattle.cif_source.specs.Objects.{bodies, components_of, most_objects};
+ghost use Rattle.cif_source.specs.Objects.{bodies, components_of, declares, decls_of, most_objects, number_in, of_sort};
 ghost use Rattle.cif_rules.specs.Demands.{demands, is_unfit_for};
 ghost use Rattle.cif_rules.specs.Kinds.{Demand, Kind, kind_of, operands, same_kind, type_kind};
-ghost use Rattle.cif_source.specs.Scoping.{UnknownDue, WrongKindDue};
-ghost use Rattle.cif_source.specs.Uses.{Use, event_asked, sought, uses};
+ghost use Rattle.cif_source.specs.Scoping.{DuplicateDue, UnknownDue, WrongKindDue};
+ghost use Rattle.cif_source.specs.Uses.{Use, event_asked, sought, uses, variable_asked};
 ghost use Rattle.cif_source.specs.Types.{range_of};
 ghost use Rattle.cif_source.specs.Value.{constant};
 ghost use Rattle.cif_rules.specs.BodyRules.{AssignedTwiceDue, AssignsTwice, LeadsElsewhere, MismatchDue, NotConstantDue, NotOwnDue, edges_of, lists_of, targets_of_all};
 ghost use Rattle.cif_rules.specs.Constants.{constants_of, types_of};
 ghost use Rattle.cif_written.specs.Alike.{AreAlike, AreWrittenAlike};
-ghost use Rattle.cif_written.specs.Arguments.{DenotesEvent, IsArgumentFor};
+ghost use Rattle.cif_written.specs.Arguments.{IsArgumentFor};
 ghost use Rattle.cif_written.specs.Constancy.{HasConstantNames};
+ghost use Rattle.cif_written.specs.Denoted.{DenotesEvent, DenotesVariable};
 
 /// Each component of a source, as written, is one of its bodies: so what is said of all bodies is said of what stands in each
 /// component.
@@ -123,6 +124,22 @@ pub fn event_names_denote_events()
         ((at : ℕ) → WrongKindDue t at → ⊥) → ((at : ℕ) → MismatchDue t at → ⊥) →
         (c : Component) → Member c (components_of t) → (nm : Name) →
         Member (record { name = nm; asks = event_asked }) (uses c) → DenotesEvent t c nm }
+{}
+
+/// So does a name that a component uses as a variable denote one of the variables.
+pub fn variable_names_denote_variables()
+    ensures { (t : Source) → length (components_of t) ≤ most_objects → ((at : ℕ) → UnknownDue t at → ⊥) →
+        ((at : ℕ) → WrongKindDue t at → ⊥) → (c : Component) → Member c (components_of t) → (nm : Name) →
+        Member (record { name = nm; asks = variable_asked }) (uses c) → DenotesVariable t c nm }
+{}
+
+/// Where no name is declared twice, a declaration of a component stands at its number among those of its sort, as the events or
+/// the variables.
+pub fn declarations_stand_at_their_numbers()
+    ensures { (t : Source) → length (components_of t) ≤ most_objects → ((at first : ℕ) → DuplicateDue t at first → ⊥) →
+        (sort : DeclTree → Bool) (c : Component) (d : DeclTree) → Member c (components_of t) → Member d (decls_of c) →
+        sort d ≡ true → (x : Text) → declares x d ≡ true →
+        slice_get (of_sort sort t) (number_in (of_sort sort t) c x) ≡ Some (c, d) }
 {}
 
 /// Where the variables that a body assigns are its own, a name that an edge of a component assigns leads to that component, and

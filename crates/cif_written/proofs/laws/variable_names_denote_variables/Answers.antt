@@ -1,0 +1,5 @@
+use Rattle.cif_written.proofs.EventLaws.{variable-names}
+use Rattle.cif_written.proofs.laws.variable_names_denote_variables.Goals as goal
+
+pub returns : goal.returns
+returns c = variable-names
