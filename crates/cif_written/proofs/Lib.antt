@@ -10,4 +10,5 @@ pub mod ArgumentLaws
 pub mod NumberLaws
 pub mod EventLaws
 pub mod OwnLaws
+pub mod RuleLaws
 pub mod Rows

@@ -1,17 +1,21 @@
 -- Worked examples of the laws, each by computing. Above the tree stands its text.
 use Rattle.std.proofs.Common.{◌≡◌, pos, List, [], ◌∷◌, map, Some, None, refl}
-use Rattle.std.specs.Prelude.{codes, true}
+use Rattle.std.specs.Prelude.{codes, true, false, slice_get}
 use Rattle.cif_ast.specs.Tree.{node, number, named, no_updates}
 use Rattle.cif_ast.specs.declared.declarations.Class.TheVariants as class
-use Rattle.cif_source.specs.Source.{int_type, range_type, no_type, syncs, event_decl, const_decl, disc_decl, event_param, DeclTree, decl_item, definition_item, instance_item, InstanceTree, ParamTree, SourceBody, group_body, automaton_body, Source}
+use Rattle.cif_source.specs.Source.{int_type, range_type, no_type, syncs, event_decl, const_decl, disc_decl, event_param, alg_param, DeclTree, decl_item, definition_item, instance_item, InstanceTree, ParamTree, SourceBody, group_body, automaton_body, Source}
 use Rattle.cif_source.specs.Components.{Component, whole, blank, copy, as_written, declared, parameter}
 use Rattle.cif_source.specs.Lookup.{reached, found, denotes, thing}
-use Rattle.cif_source.specs.Objects.{components_of, bodies}
+use Rattle.cif_source.specs.Objects.{components_of, bodies, variables, number_in}
+use Rattle.cif_source.specs.Uses.{event_asked, uses}
+use Rattle.cif_source.specs.Step.{event_at}
 use Rattle.cif_source.specs.Value.{constant}
 use Rattle.cif_source.specs.Types.{from_to, range_of}
 use Rattle.cif_source.proofs.Terms.{word, single, event_use, edge_by, place, behaviour, instance_named, source_list}
 use Rattle.cif_rules.specs.Kinds.{no_kind, int_kind, kind_of}
+use Rattle.cif_rules.specs.Demands.{demands, is_unfit_for}
 use Rattle.cif_written.specs.Alike.{AreAlike}
+use Rattle.cif_written.specs.Arguments.{IsNameFor}
 
 -- ---- a definition in a definition, two instances of the outer one, and a name that both and the specification declare
 
@@ -123,3 +127,66 @@ range_of_v = refl
 
 range_of_v_as_written : range_of d (range_type (node (number (pos 0)) 168) (node (named (single (word (codes "k") 171))) 171)) ≡ from_to (pos 0) (pos 4)
 range_of_v_as_written = refl
+
+-- ---- where a constant names a parameter, it has a value in the instance that it has not in the definition: the rule on constants excludes that
+
+-- x: D(5); automaton def D(alg int p): const int k = p; location: initial; end
+abbrev p_params : List ParamTree
+p_params = alg_param int_type (word (codes "p") 33) ∷ []
+
+abbrev p_body : SourceBody
+p_body = automaton_body (behaviour (const_decl int_type (word (codes "k") 47) (node (named (single (word (codes "p") 51))) 51) ∷ []) None None (place None true [] [] [] ∷ []))
+
+abbrev p_item : InstanceTree
+p_item = instance_named (word (codes "x") 0) (single (word (codes "D") 3)) (node (number (pos 5)) 5 ∷ [])
+
+abbrev passed_on : Source
+passed_on = source_list (instance_item p_item ∷ definition_item (word (codes "D") 23) p_params p_body ∷ [])
+
+k_in_the_instance : constant (copy (whole passed_on) (word (codes "D") 23) p_params p_body (whole passed_on) p_item) (node (named (single (word (codes "k") 47))) 47) ≡ pos 5
+k_in_the_instance = refl
+
+k_in_the_definition : constant (blank (whole passed_on) (word (codes "D") 23) p_params p_body) (node (named (single (word (codes "k") 47))) 47) ≡ pos 0
+k_in_the_definition = refl
+
+-- ---- arguments and events
+
+x_has_its_argument : slice_get x_item.args 0 ≡ Some (node (named (single (word (codes "c") 105))) 105)
+x_has_its_argument = refl
+
+c_leads_to_a_parameter : IsNameFor event_asked a (node (named (single (word (codes "c") 105))) 105)
+c_leads_to_a_parameter = record {
+  name = single (word (codes "c") 105);
+  at = 105;
+  is_bare = refl;
+  place = (a, parameter 0 (event_param class.Con no_type (word (codes "c") 79)));
+  is_found = refl;
+  is_sort = refl;
+}
+
+c_fits : is_unfit_for a ax (node (named (single (word (codes "c") 105))) 105) (event_param class.Con no_type (word (codes "d") 138)) ≡ false
+c_fits = refl
+
+d_is_the_first_event : event_at (denotes ax (single (word (codes "d") 205))) ≡ Some 0
+d_is_the_first_event = refl
+
+d_is_the_second_event : event_at (denotes bx (single (word (codes "d") 205))) ≡ Some 1
+d_is_the_second_event = refl
+
+-- in the definition the parameter stands for itself, and denotes no event
+d_is_no_event_as_written : event_at (denotes d (single (word (codes "d") 205))) ≡ None
+d_is_no_event_as_written = refl
+
+v_stands_at_its_number : slice_get (variables nested) (number_in (variables nested) bx (codes "v")) ≡ Some (bx, disc_decl (range_type (node (number (pos 0)) 168) (node (named (single (word (codes "k") 171))) 171)) (word (codes "v") 174) (Some (node (named (single (word (codes "k") 178))) 178)))
+v_stands_at_its_number = refl
+
+v_is_found_in_its_own_instance : found bx (single (word (codes "v") 174)) ≡ reached (bx, declared (disc_decl (range_type (node (number (pos 0)) 168) (node (named (single (word (codes "k") 171))) 171)) (word (codes "v") 174) (Some (node (named (single (word (codes "k") 178))) 178))))
+v_is_found_in_its_own_instance = refl
+
+-- ---- what is asked for
+
+positions_are_asked_for_the_same : demands bx ≡ demands d
+positions_are_asked_for_the_same = refl
+
+uses_are_one : uses bx ≡ uses d
+uses_are_one = refl

@@ -1,21 +1,22 @@
 //! The laws, each the contract of a function without a body.
 
-ghost use Rattle.std.specs.Prelude.{◌≡◌, ◌≤◌, Bool, ℕ, List, Some, false, length, slice_get, true};
+ghost use Rattle.std.specs.Prelude.{◌≡◌, ◌≤◌, Bool, ℕ, List, Option, Some, false, flat_map, length, slice_get, true};
+ghost use Rattle.std.specs.List.{Contains};
 ghost use Rattle.cif_ast.specs.Tree.{Tree, UpdateTrees};
 ghost use Rattle.cif_ast.specs.declared.names.Ident.{Ident};
 ghost use Rattle.cif_ast.specs.declared.names.Name.{Name};
 ghost use Rattle.cif_system.specs.Words.{Member};
-ghost use Rattle.cif_source.specs.Source.{DeclTree, EdgeTree, InstanceTree, ParamTree, Source, SourceBody, Text, TypeTree};
-ghost use Rattle.cif_source.specs.Components.{Component, as_written, copy};
+ghost use Rattle.cif_source.specs.Source.{DeclTree, EdgeTree, InstanceTree, ParamTree, Source, SourceBody, Text, TypeTree, UseTree};
+ghost use Rattle.cif_source.specs.Components.{Component, as_written, body_of, copy, params_of};
 ghost use Rattle.cif_source.specs.Lookup.{ScopeEntry, definition_found, found, reached};
-ghost use Rattle.cif_source.specs.Objects.{bodies, components_of, declares, decls_of, most_objects, number_in, of_sort};
-ghost use Rattle.cif_rules.specs.Demands.{demands, is_unfit_for};
+ghost use Rattle.cif_source.specs.Objects.{bodies, components_of, declares, decls_of, is_automaton, most_objects, number_in, of_sort};
+ghost use Rattle.cif_rules.specs.Demands.{demands, event_channel, is_unfit, is_unfit_for};
 ghost use Rattle.cif_rules.specs.Kinds.{Demand, Kind, kind_of, operands, same_kind, type_kind};
 ghost use Rattle.cif_source.specs.Scoping.{DuplicateDue, UnknownDue, WrongKindDue};
-ghost use Rattle.cif_source.specs.Uses.{Use, event_asked, sought, uses, variable_asked};
+ghost use Rattle.cif_source.specs.Uses.{OwnName, Use, event_asked, own_names, own_sought, sought, uses, variable_asked};
 ghost use Rattle.cif_source.specs.Types.{range_of};
 ghost use Rattle.cif_source.specs.Value.{constant};
-ghost use Rattle.cif_rules.specs.BodyRules.{AssignedTwiceDue, AssignsTwice, LeadsElsewhere, MismatchDue, NotConstantDue, NotOwnDue, edges_of, lists_of, targets_of_all};
+ghost use Rattle.cif_rules.specs.BodyRules.{AssignedTwiceDue, AssignsTwice, EquationsDue, InitialsDue, LeadsElsewhere, MismatchDue, NotConstantDue, NotOwnDue, algs_of, definition_counts, edges_of, initial_count, lists_of, targets_of_all};
 ghost use Rattle.cif_rules.specs.Constants.{constants_of, types_of};
 ghost use Rattle.cif_written.specs.Alike.{AreAlike, AreWrittenAlike};
 ghost use Rattle.cif_written.specs.Arguments.{IsArgumentFor};
@@ -37,6 +38,11 @@ pub fn names_stay_in_bodies()
 /// A component as written is written as itself.
 pub fn writing_twice_is_writing_once()
     ensures { (c : Component) → as_written (as_written c) ≡ as_written c }
+{}
+
+/// Two components that are written as one body have one body and the same parameters.
+pub fn bodies_are_the_same()
+    ensures { (c d : Component) → AreWrittenAlike c d → (body_of c ≡ body_of d) × (params_of c ≡ params_of d) }
 {}
 
 /// In two components that are written as one body a name finds the same.
@@ -76,6 +82,13 @@ pub fn expressions_have_their_kinds()
         (x : Demand) → Member x (demands c) → same_kind (kind_of c x.received_kind x.value) x.kind ≡ true }
 {}
 
+/// There each use of an event on an edge of a component fits what is sent along the event.
+pub fn uses_of_events_fit()
+    ensures { (t : Source) → ((at : ℕ) → MismatchDue t at → ⊥) → (c : Component) → Member (as_written c) (bodies t) →
+        (u : UseTree) → Member u (flat_map (λ (e : EdgeTree). e.uses) (edges_of c)) →
+        is_unfit u.role (event_channel c u.name) ≡ false }
+{}
+
 /// Where a source keeps the rule on constants, the constant expressions of each of its components, bounds of types, values of
 /// constants and first values, name constants and literals alone.
 pub fn constant_expressions_are_constant()
@@ -103,6 +116,16 @@ pub fn uses_are_the_same()
 /// What is sought under a use is the same in both.
 pub fn uses_seek_the_same()
     ensures { (c d : Component) → AreWrittenAlike c d → (u : Use) → AreAlike (sought c u) (sought d u) }
+{}
+
+/// Names that are looked up in the own scope alone are the same in both,
+pub fn own_names_are_the_same()
+    ensures { (c d : Component) → AreWrittenAlike c d → own_names c ≡ own_names d }
+{}
+
+/// and so is what is sought under them.
+pub fn own_names_seek_the_same()
+    ensures { (c d : Component) → AreWrittenAlike c d → (n : OwnName) → AreAlike (own_sought c n) (own_sought d n) }
 {}
 
 /// Where a source keeps its rules on names and kinds, each parameter of an instance has its argument, which fits it where the
@@ -156,4 +179,17 @@ pub fn variables_are_assigned_once()
         (e : EdgeTree) → Member e (edges_of c) → ((at : ℕ) → AssignedTwiceDue t at → ⊥) →
         (us : UpdateTrees) → Member us (lists_of e) → (at : ℕ) (a : AssignsTwice c us at) →
         Member a.earlier_name (targets_of_all e.updates) → Member a.later_name (targets_of_all e.updates) → ⊥ }
+{}
+
+/// Where each automaton that is a body has one initial location, so has each component that is an automaton.
+pub fn automata_have_one_initial_location()
+    ensures { (t : Source) → ((at count : ℕ) → InitialsDue t at count → ⊥) → (c : Component) →
+        Member (as_written c) (bodies t) → is_automaton (body_of c) ≡ true → initial_count c ≡ 1 }
+{}
+
+/// Where each algebraic variable of a body is defined once, or once in each location, so is each of a component.
+pub fn algebraic_variables_are_defined_once()
+    ensures { (t : Source) → ((at count : ℕ) → EquationsDue t at count → ⊥) → (c : Component) →
+        Member (as_written c) (bodies t) → (a : Ident × Option Tree) → Member a (algs_of c) →
+        (n : ℕ) → Contains (definition_counts c a.0.text a.1) n → n ≡ 1 }
 {}

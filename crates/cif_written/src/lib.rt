@@ -5,11 +5,13 @@
 mod laws;
 
 pub use laws::{
-    assigned_variables_are_own, components_are_written, constant_expressions_are_constant,
-    constants_are_the_same, declarations_stand_at_their_numbers, definitions_are_found_the_same,
-    event_names_denote_events, expressions_have_the_same_kinds, expressions_have_their_kinds,
-    names_find_the_same, names_stay_in_bodies, operands_are_asked_for_the_same,
+    algebraic_variables_are_defined_once, assigned_variables_are_own,
+    automata_have_one_initial_location, bodies_are_the_same, components_are_written,
+    constant_expressions_are_constant, constants_are_the_same, declarations_stand_at_their_numbers,
+    definitions_are_found_the_same, event_names_denote_events, expressions_have_the_same_kinds,
+    expressions_have_their_kinds, names_find_the_same, names_stay_in_bodies,
+    operands_are_asked_for_the_same, own_names_are_the_same, own_names_seek_the_same,
     parameters_are_arguments, positions_ask_for_the_same, ranges_are_the_same,
-    types_have_the_same_kinds, uses_are_the_same, uses_seek_the_same,
+    types_have_the_same_kinds, uses_are_the_same, uses_of_events_fit, uses_seek_the_same,
     variable_names_denote_variables, variables_are_assigned_once, writing_twice_is_writing_once,
 };
