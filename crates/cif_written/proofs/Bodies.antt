@@ -15,7 +15,8 @@ use Rattle.cif_system.proofs.Picks.{append-left, append-right}
 use Rattle.cif_image.proofs.FoundLaws.{reached-same}
 use Rattle.cif_image.proofs.WrittenLaws.{BodyOf, bodies-closed}
 use Rattle.cif_written.proofs.Alike.{root-written, body-written}
-use Rattle.cif_written.proofs.Entries.{IsOf, In, in_body-is, in_scope-is}
+use Rattle.cif_written.specs.Entries.{IsOf}
+use Rattle.cif_written.proofs.Entries.{In, in_body-is, in_scope-is}
 
 -- ---- outer bodies
 
@@ -229,5 +230,5 @@ module _ (t : Source) where
   pub components-written : (c : Component) → Member c (components_of t) → Member (as_written c) (bodies t)
   components-written c k = below-written most_objects (whole t) (inl refl) c k
 
-  pub names-stay-written : (c : Component) → Member (as_written c) (bodies t) → (nm : Name) (x : ScopeEntry) → found c nm ≡ reached x → Member (as_written x.0) (bodies t)
-  names-stay-written c m nm x h = (found-good c m nm x h).0
+  pub names-stay-written : (c : Component) → Member (as_written c) (bodies t) → (nm : Name) (x : ScopeEntry) → found c nm ≡ reached x → Member (as_written x.0) (bodies t) × IsOf x.0 x.1
+  names-stay-written c m nm x h = found-good c m nm x h

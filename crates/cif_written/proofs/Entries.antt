@@ -1,6 +1,6 @@
 -- What a name finds is an entry of a scope: a declaration, component, definition or instance of that body, or a parameter at its
 -- place.
-use Rattle.std.proofs.Common.{◌≡◌, ℕ, suc, ◌+◌, inl, inr, List, [], ◌∷◌, ◌++◌, map, Some, None, refl, sym, ◌∙◌, ap, subst, arith}
+use Rattle.std.proofs.Common.{◌≡◌, ℕ, suc, ◌+◌, ◌<◌, length, inl, inr, List, [], ◌∷◌, ◌++◌, map, Some, None, refl, sym, ◌∙◌, ap, subst, arith}
 use Rattle.std.specs.Prelude.{option_map, flat_map, filter_map, slice_get}
 use Rattle.std.specs.List.{cons_option, enumerate_from}
 use Rattle.cif_ast.specs.declared.names.Ident.{Ident}
@@ -10,24 +10,13 @@ use Rattle.cif_system.proofs.Picks.{flat_map-member}
 use Rattle.cif_source.specs.Source.{Text, ParamTree, DeclTree, type_decl, enum_decl, event_decl, const_decl, alg_decl, input_decl, disc_decl, equation_decl, invariant_decl, marked_decl, LocationTree, SourceBody, SourceItem, decl_item, component_item, definition_item, instance_item, group_body, automaton_body, list_of_items}
 use Rattle.cif_source.specs.Components.{Component, whole, part, blank, copy, specification_of, body_of, params_of, scope_of, Entry, Entries, declared, literal, location, inner, definition, instance, parameter, item_entries, body_entries, decl_entries, location_entry, param_name, param_entries, entry_named, same_text}
 use Rattle.cif_source.specs.Lookup.{ScopeEntry, Reached, reached, missing, blocked, at_entry, in_scope, in_body}
-use Rattle.cif_source.specs.Objects.{decls_in, item_decls, items_in}
+use Rattle.cif_source.specs.Objects.{decls_in, item_decls, items_in, locs_in}
 use Rattle.cif_source.proofs.ComponentLaws.{append-cases}
 use Rattle.cif_image.proofs.FoundLaws.{flat-cases, find-entry, reached-same}
+use Rattle.cif_image.proofs.FormLaws.{enumerated}
+use Rattle.cif_written.specs.Entries.{IsIn, IsOf}
 
 -- ---- entries of a scope
-
-abbrev pub IsIn : List ParamTree → SourceBody → Entry → Type 0
-IsIn ps b (declared d) = Member d (decls_in b)
-IsIn ps b (literal k ls) = Unit {0}
-IsIn ps b (location k) = Unit {0}
-IsIn ps b (inner n c) = Member (component_item n c) (items_in b)
-IsIn ps b (definition n qs c) = Member (definition_item n qs c) (items_in b)
-IsIn ps b (instance i) = Member (instance_item i) (items_in b)
-IsIn ps b (parameter k p) = slice_get ps k ≡ Some p
-
--- it is one of what the scope of the component declares
-abbrev pub IsOf : Component → Entry → Type 0
-IsOf c e = IsIn (params_of c) (body_of c) e
 
 module _ (ps : List ParamTree) (b : SourceBody) where
   here : (m n : Ident) (e f : Entry) → ◌≡◌ {A = Ident × Entry} (n, e) (m, f) → IsIn ps b f → IsIn ps b e
@@ -36,13 +25,18 @@ module _ (ps : List ParamTree) (b : SourceBody) where
   one-in : (m n : Ident) (e f : Entry) → IsIn ps b f → Member {A = Ident × Entry} (n, e) ((m, f) ∷ []) → IsIn ps b e
   one-in m n e f h k = elim k [ inl w ↦ here m n e f w h | inr w ↦ absurd w ]
 
-  literals-in : (ls : List Ident) (xs : List (ℕ × Ident)) (n : Ident) (e : Entry) → Member {A = Ident × Entry} (n, e) (map (λ x. (x.1, literal x.0 ls)) xs) → IsIn ps b e
-  literals-in ls [] n e m = absurd m
-  literals-in ls (x ∷ xs) n e m = elim m [ inl w ↦ here x.1 n e (literal x.0 ls) w tt | inr w ↦ literals-in ls xs n e w ]
+  literals-in : (m : Ident) (ls : List Ident) → Member (enum_decl m ls) (decls_in b) → (xs : List (ℕ × Ident)) → ((x : ℕ × Ident) → Member x xs → x.0 < length ls) → (n : Ident) (e : Entry)
+      → Member {A = Ident × Entry} (n, e) (map (λ x. (x.1, literal x.0 ls)) xs) → IsIn ps b e
+  literals-in m ls h [] below n e k = absurd k
+  literals-in m ls h (x ∷ xs) below n e k =
+      elim k [
+        | inl w ↦ here x.1 n e (literal x.0 ls) w (m, h, below x (inl refl))
+        | inr w ↦ literals-in m ls h xs (λ y j. below y (inr j)) n e w
+      ]
 
   decl-in : (d : DeclTree) → Member d (decls_in b) → (n : Ident) (e : Entry) → Member (n, e) (decl_entries d) → IsIn ps b e
   decl-in (type_decl k t) h n e m = one-in k n e (declared (type_decl k t)) h m
-  decl-in (enum_decl k ls) h n e m = elim m [ inl w ↦ here k n e (declared (enum_decl k ls)) w h | inr w ↦ literals-in ls (enumerate_from 0 ls) n e w ]
+  decl-in (enum_decl k ls) h n e m = elim m [ inl w ↦ here k n e (declared (enum_decl k ls)) w h | inr w ↦ literals-in k ls h (enumerate_from 0 ls) (λ x j. let at = enumerated 0 x ls j in omega (arith, at.1)) n e w ]
   decl-in (event_decl c x k) h n e m = one-in k n e (declared (event_decl c x k)) h m
   decl-in (const_decl t k v) h n e m = one-in k n e (declared (const_decl t k v)) h m
   decl-in (alg_decl t k v) h n e m = one-in k n e (declared (alg_decl t k v)) h m
@@ -52,12 +46,12 @@ module _ (ps : List ParamTree) (b : SourceBody) where
   decl-in (invariant_decl i) h n e m = absurd m
   decl-in (marked_decl p) h n e m = absurd m
 
-  locations-in : (ls : List (ℕ × LocationTree)) (n : Ident) (e : Entry) → Member (n, e) (filter_map location_entry ls) → IsIn ps b e
-  locations-in [] n e m = absurd m
-  locations-in ((k, l) ∷ ls) n e m =
+  locations-in : (ls : List (ℕ × LocationTree)) → ((x : ℕ × LocationTree) → Member x ls → x.0 < length (locs_in b)) → (n : Ident) (e : Entry) → Member (n, e) (filter_map location_entry ls) → IsIn ps b e
+  locations-in [] below n e m = absurd m
+  locations-in ((k, l) ∷ ls) below n e m =
       (elim l.name as (λ o. Member (n, e) (cons_option (option_map (λ x. (x, location k)) o) (filter_map location_entry ls)) → IsIn ps b e) [
-        | None ↦ λ w. locations-in ls n e w
-        | Some x ↦ λ w. elim w [ inl v ↦ here x n e (location k) v tt | inr v ↦ locations-in ls n e v ]
+        | None ↦ λ w. locations-in ls (λ y j. below y (inr j)) n e w
+        | Some x ↦ λ w. elim w [ inl v ↦ here x n e (location k) v (below (k, l) (inl refl)) | inr v ↦ locations-in ls (λ y j. below y (inr j)) n e v ]
       ]) m
 
   params-in : (k : ℕ) (qs : List ParamTree) → ((j : ℕ) (q : ParamTree) → slice_get qs j ≡ Some q → slice_get ps (k + j) ≡ Some q)
@@ -83,7 +77,7 @@ entries-in ps (group_body is) n e m =
 entries-in ps (automaton_body a) n e m =
     elim (append-cases (n, e) (flat_map decl_entries a.decls) (filter_map location_entry (enumerate_from 0 a.locs)) m) [
       | inl w ↦ let d = flat-cases decl_entries (n, e) a.decls w in decl-in ps (automaton_body a) d.0 d.1 n e d.2
-      | inr w ↦ locations-in ps (automaton_body a) (enumerate_from 0 a.locs) n e w
+      | inr w ↦ locations-in ps (automaton_body a) (enumerate_from 0 a.locs) (λ x j. let at = enumerated 0 x a.locs j in omega (arith, at.1)) n e w
     ]
 
 -- ---- what is found in a scope

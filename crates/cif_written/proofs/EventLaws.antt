@@ -26,7 +26,8 @@ use Rattle.cif_image.proofs.NamedLaws.{position-below}
 use Rattle.cif_image.proofs.WrittenLaws.{parent-listed, outer-listed}
 use Rattle.cif_written.specs.Arguments.{IsNameFor, IsArgumentFor}
 use Rattle.cif_written.specs.Denoted.{DenotesEvent, DenotesVariable}
-use Rattle.cif_written.proofs.Entries.{IsOf, In, in_scope-is}
+use Rattle.cif_written.specs.Entries.{IsOf}
+use Rattle.cif_written.proofs.Entries.{In, in_scope-is}
 use Rattle.cif_written.proofs.Bodies.{Good, found-good, components-written}
 use Rattle.cif_written.proofs.NumberLaws.{declared-as}
 use Rattle.cif_written.proofs.ArgumentLaws.{asked, given-by, no-blank, parameter-argument}

@@ -22,6 +22,7 @@ ghost use Rattle.cif_written.specs.Alike.{AreAlike, AreWrittenAlike};
 ghost use Rattle.cif_written.specs.Arguments.{IsArgumentFor};
 ghost use Rattle.cif_written.specs.Constancy.{HasConstantNames};
 ghost use Rattle.cif_written.specs.Denoted.{DenotesEvent, DenotesVariable};
+ghost use Rattle.cif_written.specs.Entries.{IsOf};
 
 /// Each component of a source, as written, is one of its bodies: so what is said of all bodies is said of what stands in each
 /// component.
@@ -29,10 +30,10 @@ pub fn components_are_written()
     ensures { (t : Source) (c : Component) → Member c (components_of t) → Member (as_written c) (bodies t) }
 {}
 
-/// From such a component names lead to such components.
+/// From such a component names lead to such components, to what the scopes of these declare.
 pub fn names_stay_in_bodies()
     ensures { (t : Source) (c : Component) → Member (as_written c) (bodies t) → (nm : Name) (x : ScopeEntry) →
-        found c nm ≡ reached x → Member (as_written x.0) (bodies t) }
+        found c nm ≡ reached x → Member (as_written x.0) (bodies t) × IsOf x.0 x.1 }
 {}
 
 /// A component as written is written as itself.
