@@ -2,7 +2,7 @@
 use Rattle.std.proofs.Common.{◌≡◌, Bool, true, false, ℕ, List, [], ◌∷◌, Option, Some, None, refl, sym, ◌∙◌, ap}
 use Rattle.cif_ast.specs.declared.names.Ident.{Ident}
 use Rattle.cif_ast.specs.declared.names.Name.{Name}
-use Rattle.cif_source.specs.Source.{Text, ParamTree, SourceBody, InstanceTree}
+use Rattle.cif_source.specs.Source.{Text, InstanceTree}
 use Rattle.cif_source.specs.Components.{Component, whole, part, blank, copy, specification_of, body_of, params_of, scope_of, body_entries, as_written, Entry, declared, literal, location, inner, definition, instance, parameter, entry_named}
 use Rattle.cif_source.specs.Lookup.{ScopeEntry, Reached, reached, missing, blocked, at_entry, in_scope, in_body, go_on, or_outward, outward, looked_up, inside_written, definition_found, opened_at, in_opened, passed, inside, found}
 use Rattle.cif_written.specs.Alike.{AreWrittenAlike, AreAlike}

@@ -1,8 +1,8 @@
 -- Where a source keeps its rules on names and kinds, each parameter of an instance has its argument, which for an event or a
 -- location is a bare name that leads to one.
-use Rattle.std.proofs.Common.{◌≡◌, ℕ, zero, suc, ◌<◌, Bool, true, false, ◌⊎◌, inl, inr, List, [], ◌∷◌, ◌++◌, length, map, Option, Some, None, refl, sym, ◌∙◌, ap, subst, arith}
-use Rattle.std.specs.Prelude.{slice_get, flat_map, filter_map, zip, not, nat_eq, IsTrue}
-use Rattle.std.specs.List.{Any, cons_option}
+use Rattle.std.proofs.Common.{◌≡◌, ℕ, zero, suc, ◌<◌, Bool, true, false, ◌⊎◌, inl, inr, List, [], ◌∷◌, ◌++◌, length, Some, None, refl, sym, ◌∙◌, ap, subst, arith}
+use Rattle.std.specs.Prelude.{slice_get, flat_map, filter_map, zip, not, nat_eq}
+use Rattle.std.specs.List.{cons_option}
 use Rattle.std.proofs.lemmas.Option.{slice_get_cases}
 use Rattle.std.proofs.lemmas.Bool.Decides.{nat_tests}
 use Rattle.cif_ast.specs.Tree.{Tree, node, named}
@@ -15,10 +15,9 @@ use Rattle.cif_system.proofs.Picks.{append-left, append-right, map-member, flat_
 use Rattle.cif_source.specs.Source.{ChannelTree, ParamTree, event_param, alg_param, location_param, InstanceTree, SourceItem, decl_item, component_item, definition_item, instance_item, SourceBody, group_body, automaton_body, Source, list_of_items, tree_at}
 use Rattle.cif_source.specs.Components.{Component, whole, part, blank, copy, stands_in, body_of, params_of, as_written, Entry, declared, literal, location, inner, definition, instance, parameter}
 use Rattle.cif_source.specs.Lookup.{ScopeEntry, Reached, reached, missing, blocked, opened, opened_at, definition_found, found}
-use Rattle.cif_source.specs.Objects.{components_of, children, child_of, items_in, most_objects, bodies, decls_of, locs_of}
+use Rattle.cif_source.specs.Objects.{components_of, child_of, items_in, most_objects, bodies, decls_of, locs_of}
 use Rattle.cif_source.specs.Uses.{Use, Asked, event_asked, location_asked, definition_asked, asking, arg_uses, args_uses, params_at, item_uses, body_uses, param_uses, uses, is_asked, sought}
 use Rattle.cif_source.specs.Scoping.{is_missing, is_wrong, UnknownDue, UnknownName, UnknownOwn, WrongKindDue, WrongName, WrongOwn, WrongCount, as_instance, instances_of, has_wrong_count}
-use Rattle.cif_source.proofs.ComponentLaws.{children-parent}
 use Rattle.cif_rules.specs.Kinds.{no_kind, int_kind, same_kind, type_kind, kind_of, demand}
 use Rattle.cif_rules.specs.Constants.{bound_values}
 use Rattle.cif_rules.specs.Demands.{asked_for, decl_demands, argument_demands, location_demands, Argument, arguments_at, arguments_in, is_unfit_for}

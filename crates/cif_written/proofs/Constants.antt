@@ -1,5 +1,5 @@
 -- In components that are written as one body, constant expressions have the same values, and types the same ranges.
-use Rattle.std.proofs.Common.{◌≡◌, ℕ, zero, suc, ℤ, pos, Bool, true, false, inl, inr, List, [], ◌∷◌, ◌++◌, length, map, Option, Some, None, refl, sym, ◌∙◌, ap, subst}
+use Rattle.std.proofs.Common.{◌≡◌, ℕ, zero, suc, ℤ, pos, Bool, true, false, inl, inr, [], ◌∷◌, length, map, refl, sym, ◌∙◌, ap, subst}
 use Rattle.std.specs.Prelude.{flat_map, IsTrue}
 use Rattle.std.specs.List.{Any}
 use Rattle.cif_ast.specs.Tree.{Tree}
@@ -8,15 +8,15 @@ use Rattle.cif_ast.specs.declared.names.Name.{Name}
 use Rattle.cif_system.specs.Words.{Member}
 use Rattle.cif_system.specs.System.{Range}
 use Rattle.cif_system.proofs.Picks.{append-left, append-right, map-member, flat_map-member}
-use Rattle.cif_source.specs.Source.{TypeTree, bool_type, int_type, range_type, named_type, DeclTree, type_decl, const_decl, Source}
+use Rattle.cif_source.specs.Source.{TypeTree, bool_type, int_type, range_type, named_type, type_decl, const_decl, Source}
 use Rattle.cif_source.specs.Components.{Component, whole, part, blank, copy, specification_of, as_written, params_of, Entry, declared, literal}
 use Rattle.cif_source.specs.Lookup.{ScopeEntry, Reached, reached, missing, blocked, found, follow}
 use Rattle.cif_source.specs.Objects.{bodies, decls_of, of_sort, is_const, declarations}
 use Rattle.cif_source.specs.Uses.{names_in}
 use Rattle.cif_source.specs.Scoping.{is_wrong}
 use Rattle.cif_source.specs.Value.{value_with, constant_object, constant_by, constant_within, constant}
-use Rattle.cif_source.specs.Types.{from_to, range_at, range_by, range_within, range_of, nearest_zero, first_of_type}
-use Rattle.cif_source.proofs.NameLaws.{met, met_at, met_at-own, follow-met}
+use Rattle.cif_source.specs.Types.{from_to, range_at, range_by, range_within, range_of}
+use Rattle.cif_source.proofs.NameLaws.{met, met_at-own, follow-met}
 use Rattle.cif_rules.specs.BodyRules.{is_constant, NotConstantDue}
 use Rattle.cif_rules.specs.Constants.{param_types, decl_types, types_of, Bounds, bounds_in, bounds_of, bound_values, decl_constants, typed_constants, constants_of}
 use Rattle.cif_image.proofs.RuleLaws.{member-any}

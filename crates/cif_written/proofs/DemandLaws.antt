@@ -1,28 +1,26 @@
 -- In components that are written as one body, positions ask for the same: so the rule on kinds holds of each component.
-use Rattle.std.proofs.Common.{◌≡◌, Bool, true, false, ◌⊎◌, inl, inr, List, [], ◌∷◌, ◌++◌, map, Option, refl, sym, ◌∙◌, ap, subst}
-use Rattle.std.specs.Prelude.{ℕ, flat_map, zip, IsTrue, not, ◌||◌}
+use Rattle.std.proofs.Common.{◌≡◌, true, false, ◌⊎◌, inl, List, [], ◌∷◌, ◌++◌, refl, sym, ◌∙◌, ap, subst}
+use Rattle.std.specs.Prelude.{ℕ, flat_map, zip, not, ◌||◌}
 use Rattle.std.specs.Option.{option_to_list}
 use Rattle.std.proofs.lemmas.Grind.{flat_map-append}
 use Rattle.std.proofs.lemmas.List.Folds.{flat_map-map}
 use Rattle.cif_ast.specs.declared.declarations.Class.{Class}
 use Rattle.cif_ast.specs.declared.declarations.Class.TheVariants as class
 use Rattle.cif_ast.specs.Tree.{Tree, node, named, UpdateTree, assignment, selection, UpdateTrees, no_updates, updates, UpdateBranches, no_update_branches, update_branches}
-use Rattle.cif_ast.specs.declared.names.Ident.{Ident}
 use Rattle.cif_ast.specs.declared.names.Name.{Name}
 use Rattle.cif_system.specs.Words.{Member}
-use Rattle.cif_source.specs.Source.{Text, ChannelTree, no_type, void_type, value_type, RoleTree, syncs, sends, receives, UseTree, EdgeTree, EquationTree, LocationTree, DeclTree, event_decl, const_decl, alg_decl, disc_decl, equation_decl, invariant_decl, marked_decl, ParamTree, event_param, alg_param, location_param, InstanceTree, SourceBody, Source, TypeTree, list_of_trees, tree_at}
+use Rattle.cif_source.specs.Source.{Text, ChannelTree, no_type, void_type, value_type, RoleTree, syncs, sends, receives, UseTree, EdgeTree, EquationTree, LocationTree, DeclTree, event_decl, const_decl, alg_decl, disc_decl, equation_decl, invariant_decl, marked_decl, ParamTree, event_param, alg_param, location_param, InstanceTree, Source, TypeTree, list_of_trees, tree_at}
 use Rattle.cif_source.specs.Components.{Component, whole, part, blank, copy, as_written, body_of, declared, definition, parameter}
 use Rattle.cif_source.specs.Lookup.{Reached, reached, missing, blocked, found, in_scope, definition_found}
-use Rattle.cif_source.specs.Objects.{bodies, decls_of, decls_in, locs_of, locs_in}
+use Rattle.cif_source.specs.Objects.{bodies, decls_in, locs_in}
 use Rattle.cif_source.specs.Scoping.{instances_of}
 use Rattle.cif_rules.specs.Kinds.{Kind, bool_kind, int_kind, no_kind, same_kind, type_kind, kind_at, kind_of, Demand, demand}
 use Rattle.cif_rules.specs.Constants.{bound_values}
-use Rattle.cif_rules.specs.Demands.{demanded, asked_for, ChannelKind, not_channel, void_channel, channel_for, channel_kind, channel_at, event_channel, sent_demands, use_demands, received_by, carried_kind, one_kind, edge_received, updates_demands, update_demands, branches_demands, edge_demands, equation_demands, location_demands, predicate_of, optional_demands, decl_demands, Argument, arguments_at, arguments_in, argument_demands, demands, same_channel, has_asked_class, is_unfit_for}
+use Rattle.cif_rules.specs.Demands.{demanded, asked_for, ChannelKind, not_channel, void_channel, channel_for, channel_kind, channel_at, event_channel, sent_demands, use_demands, received_by, carried_kind, one_kind, edge_received, updates_demands, update_demands, branches_demands, edge_demands, equation_demands, location_demands, predicate_of, decl_demands, Argument, arguments_at, arguments_in, argument_demands, demands, same_channel, has_asked_class, is_unfit_for}
 use Rattle.cif_rules.specs.BodyRules.{MismatchDue, BadValue, BadUse, BadArgument}
 use Rattle.cif_image.proofs.RuleLaws.{member-any}
 use Rattle.cif_written.specs.Alike.{AreWrittenAlike}
 use Rattle.cif_written.proofs.Alike.{written, twice, body-written, in_scope-written, definition-written, found-alike}
-use Rattle.cif_written.proofs.Bodies.{IsWritten}
 use Rattle.cif_written.proofs.KindLaws.{type-written, type-same, kind_at-same, kind-same, operands-same, asked-same}
 
 -- ---- parts of a component

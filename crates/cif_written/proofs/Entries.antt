@@ -1,15 +1,14 @@
 -- What a name finds is an entry of a scope: a declaration, component, definition or instance of that body, or a parameter at its
 -- place.
-use Rattle.std.proofs.Common.{◌≡◌, ℕ, suc, ◌+◌, ◌<◌, length, inl, inr, List, [], ◌∷◌, ◌++◌, map, Some, None, refl, sym, ◌∙◌, ap, subst, arith}
+use Rattle.std.proofs.Common.{◌≡◌, ℕ, suc, ◌+◌, ◌<◌, length, inl, inr, List, [], ◌∷◌, map, Some, None, refl, sym, ◌∙◌, ap, subst, arith}
 use Rattle.std.specs.Prelude.{option_map, flat_map, filter_map, slice_get}
 use Rattle.std.specs.List.{cons_option, enumerate_from}
 use Rattle.cif_ast.specs.declared.names.Ident.{Ident}
-use Rattle.cif_ast.specs.declared.names.Name.{Name}
 use Rattle.cif_system.specs.Words.{Member}
 use Rattle.cif_system.proofs.Picks.{flat_map-member}
 use Rattle.cif_source.specs.Source.{Text, ParamTree, DeclTree, type_decl, enum_decl, event_decl, const_decl, alg_decl, input_decl, disc_decl, equation_decl, invariant_decl, marked_decl, LocationTree, SourceBody, SourceItem, decl_item, component_item, definition_item, instance_item, group_body, automaton_body, list_of_items}
-use Rattle.cif_source.specs.Components.{Component, whole, part, blank, copy, specification_of, body_of, params_of, scope_of, Entry, Entries, declared, literal, location, inner, definition, instance, parameter, item_entries, body_entries, decl_entries, location_entry, param_name, param_entries, entry_named, same_text}
-use Rattle.cif_source.specs.Lookup.{ScopeEntry, Reached, reached, missing, blocked, at_entry, in_scope, in_body}
+use Rattle.cif_source.specs.Components.{Component, body_of, params_of, scope_of, Entry, Entries, declared, literal, location, inner, definition, instance, parameter, item_entries, body_entries, decl_entries, location_entry, param_name, param_entries, entry_named, same_text}
+use Rattle.cif_source.specs.Lookup.{ScopeEntry, reached, at_entry, in_scope, in_body}
 use Rattle.cif_source.specs.Objects.{decls_in, item_decls, items_in, locs_in}
 use Rattle.cif_source.proofs.ComponentLaws.{append-cases}
 use Rattle.cif_image.proofs.FoundLaws.{flat-cases, find-entry, reached-same}

@@ -1,18 +1,17 @@
 -- In components that are written as one body, types and expressions have the same kinds, and operands are asked for the same.
-use Rattle.std.proofs.Common.{◌≡◌, ℕ, zero, suc, List, [], ◌∷◌, ◌++◌, length, refl, sym, ◌∙◌, ap}
+use Rattle.std.proofs.Common.{◌≡◌, ℕ, zero, suc, [], ◌∷◌, ◌++◌, length, refl, sym, ◌∙◌, ap}
 use Rattle.std.specs.Prelude.{flat_map, if◌then◌else◌}
 use Rattle.cif_ast.specs.Tree.{Tree, node, Shape, truth, number, named, received, paren, negative, positive, negation, absolute, least, greatest, sum, product, comparison, all_of, any_of, implication, equivalence, choice, Trees, no_trees, trees, Terms, no_terms, terms, Factors, no_factors, factors, Branches, no_branches, branches}
-use Rattle.cif_ast.specs.declared.names.Name.{Name}
 use Rattle.cif_ast.specs.declared.expressions.CmpOp.{CmpOp}
 use Rattle.cif_ast.specs.declared.expressions.CmpOp.TheVariants as cmp
-use Rattle.cif_source.specs.Source.{TypeTree, bool_type, int_type, range_type, named_type, type_decl, const_decl, alg_decl, input_decl, disc_decl, alg_param}
+use Rattle.cif_source.specs.Source.{TypeTree, named_type, type_decl, const_decl, alg_decl, input_decl, disc_decl, alg_param}
 use Rattle.cif_source.specs.Components.{Component, specification_of, as_written, declared, parameter}
 use Rattle.cif_source.specs.Lookup.{Reached, reached, found}
 use Rattle.cif_source.specs.Objects.{bodies, decls_of}
-use Rattle.cif_rules.specs.Kinds.{Kind, bool_kind, int_kind, no_kind, same_kind, type_kind_at, type_kind_by, type_kind_within, type_kind, kind_at, kind_of, shape_kind, first_kind, Demand, demand, comparison_demands, operands, shape_operands, term_operands, factor_operands, truth_operands, branch_operands, other_demand}
+use Rattle.cif_rules.specs.Kinds.{Kind, bool_kind, int_kind, no_kind, same_kind, type_kind_at, type_kind_by, type_kind_within, type_kind, kind_at, kind_of, shape_kind, first_kind, demand, comparison_demands, operands, shape_operands, term_operands, factor_operands, truth_operands, branch_operands, other_demand}
 use Rattle.cif_rules.specs.Demands.{asked_for}
 use Rattle.cif_written.specs.Alike.{AreWrittenAlike}
-use Rattle.cif_written.proofs.Alike.{written, root-written, twice, found-same, found-alike}
+use Rattle.cif_written.proofs.Alike.{written, root-written, found-same, found-alike}
 
 -- ---- types
 

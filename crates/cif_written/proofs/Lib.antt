@@ -8,7 +8,8 @@ pub mod DemandLaws
 pub mod UseLaws
 pub mod ArgumentLaws
 pub mod NumberLaws
-pub mod EventLaws
+pub mod PassedLaws
+pub mod DenotedLaws
 pub mod OwnLaws
 pub mod RuleLaws
 pub mod Rows

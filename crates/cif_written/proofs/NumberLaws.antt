@@ -1,11 +1,11 @@
 -- A declaration stands at its number among those of its sort.
-use Rattle.std.proofs.Common.{◌≡◌, ℕ, suc, ◌+◌, ◌<◌, ◌≤◌, Bool, true, false, cond, List, [], ◌∷◌, length, Some, refl, sym, ◌∙◌, ap, subst, arith}
+use Rattle.std.proofs.Common.{◌≡◌, ℕ, suc, ◌+◌, ◌≤◌, Bool, true, false, cond, List, [], ◌∷◌, length, Some, refl, sym, ◌∙◌, ap, subst, arith}
 use Rattle.std.specs.Prelude.{◌&&◌, ◌||◌, not, slice_get}
 use Rattle.std.specs.List.{list_any, position_or_len}
 use Rattle.std.specs.Cmp.Lexicographic.{pointwise}
 use Rattle.std.proofs.lemmas.Cmp.{nat_list_eq_equiv}
 use Rattle.cif_system.specs.Words.{Member}
-use Rattle.cif_system.proofs.Lists.{false-true, filter-member, filter-within, slice_get-below}
+use Rattle.cif_system.proofs.Lists.{false-true, filter-member, filter-within}
 use Rattle.cif_system.proofs.Picks.{and-left, and-right, at-member}
 use Rattle.cif_source.specs.Source.{Text, DeclTree, Source}
 use Rattle.cif_source.specs.Components.{Component, body_of, params_of, path_of, same_text, param_entries, body_entries}

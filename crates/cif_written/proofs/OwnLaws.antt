@@ -1,6 +1,6 @@
 -- A name that leads from a body as written to that body leads from the component to that component: no name leads from one
 -- instance to another without passing it. So assigned variables are those of the component, and are assigned once.
-use Rattle.std.proofs.Common.{◌≡◌, ◌≢◌, ℕ, zero, suc, ◌≤◌, Bool, true, false, ◌⊎◌, inl, inr, List, [], ◌∷◌, Option, Some, None, refl, sym, ◌∙◌, ap, subst, arith}
+use Rattle.std.proofs.Common.{◌≡◌, ℕ, suc, ◌≤◌, Bool, true, false, ◌⊎◌, inl, inr, List, [], ◌∷◌, Some, None, refl, sym, ◌∙◌, ap, subst, arith}
 use Rattle.std.specs.Prelude.{flat_map}
 use Rattle.std.specs.List.{Any}
 use Rattle.cif_ast.specs.Tree.{UpdateTrees}
@@ -9,16 +9,16 @@ use Rattle.cif_ast.specs.declared.names.Name.{Name}
 use Rattle.cif_system.specs.Words.{Member}
 use Rattle.cif_system.proofs.Lists.{false-true}
 use Rattle.cif_system.proofs.Picks.{flat_map-member}
-use Rattle.cif_source.specs.Source.{Text, EdgeTree, ParamTree, SourceBody, InstanceTree, Source}
+use Rattle.cif_source.specs.Source.{Text, EdgeTree, SourceBody, InstanceTree, Source}
 use Rattle.cif_source.specs.Components.{Component, whole, part, blank, copy, specification_of, as_written, Entry, declared, literal, location, inner, definition, instance, parameter}
-use Rattle.cif_source.specs.Lookup.{ScopeEntry, Reached, reached, missing, blocked, in_scope, in_body, go_on, or_outward, outward, definition_found, opened, in_opened, passed, inside, found}
+use Rattle.cif_source.specs.Lookup.{ScopeEntry, Reached, reached, missing, blocked, in_scope, go_on, or_outward, outward, definition_found, opened, in_opened, passed, inside, found}
 use Rattle.cif_source.specs.Objects.{bodies}
 use Rattle.cif_rules.specs.BodyRules.{edges_of, targets_of_all, LeadsElsewhere, NotOwnDue, lists_of, AssignsTwice, AssignedTwiceDue}
 use Rattle.cif_image.proofs.FoundLaws.{reached-same}
 use Rattle.cif_image.proofs.RuleLaws.{member-any}
 use Rattle.cif_written.specs.Alike.{AreWrittenAlike, AreAlike}
-use Rattle.cif_written.proofs.Alike.{written, twice, root-written, outward-written, in_scope-written, passed-same, alike-places, names-alike}
-use Rattle.cif_written.proofs.Entries.{In, in_body-is, in_scope-is}
+use Rattle.cif_written.proofs.Alike.{written, twice, root-written, outward-written, passed-same, alike-places, names-alike}
+use Rattle.cif_written.proofs.Entries.{in_body-is, in_scope-is}
 use Rattle.cif_written.proofs.ArgumentLaws.{opened_at-is}
 
 -- ---- frames

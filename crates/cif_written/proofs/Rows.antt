@@ -5,7 +5,7 @@ use Rattle.cif_ast.specs.Tree.{node, number, named, no_updates}
 use Rattle.cif_ast.specs.declared.declarations.Class.TheVariants as class
 use Rattle.cif_source.specs.Source.{int_type, range_type, no_type, syncs, event_decl, const_decl, disc_decl, event_param, alg_param, DeclTree, decl_item, definition_item, instance_item, InstanceTree, ParamTree, SourceBody, group_body, automaton_body, Source}
 use Rattle.cif_source.specs.Components.{Component, whole, blank, copy, as_written, declared, parameter}
-use Rattle.cif_source.specs.Lookup.{reached, found, denotes, thing}
+use Rattle.cif_source.specs.Lookup.{reached, found, denotes, thing, given}
 use Rattle.cif_source.specs.Objects.{components_of, bodies, variables, number_in}
 use Rattle.cif_source.specs.Uses.{event_asked, uses}
 use Rattle.cif_source.specs.Step.{event_at}
@@ -148,6 +148,9 @@ k_in_the_instance = refl
 
 k_in_the_definition : constant (blank (whole passed_on) (word (codes "D") 23) p_params p_body) (node (named (single (word (codes "k") 47))) 47) ≡ pos 0
 k_in_the_definition = refl
+
+p_denotes_its_argument : denotes (copy (whole passed_on) (word (codes "D") 23) p_params p_body (whole passed_on) p_item) (single (word (codes "p") 51)) ≡ Some (given (whole passed_on) (node (number (pos 5)) 5))
+p_denotes_its_argument = refl
 
 -- ---- arguments and events
 

@@ -1,11 +1,11 @@
 -- Components that are written as one body write the same names, and what is sought under them is the same.
-use Rattle.std.proofs.Common.{◌≡◌, List, ◌++◌, refl, sym, ◌∙◌, ap}
+use Rattle.std.proofs.Common.{◌≡◌, ◌++◌, refl, sym, ◌∙◌, ap}
 use Rattle.std.specs.Prelude.{flat_map, [], ◌∷◌}
 use Rattle.cif_ast.specs.declared.names.Name.{Name}
-use Rattle.cif_source.specs.Source.{InstanceTree, SourceItem, instance_item, SourceBody, group_body, automaton_body, list_of_items}
-use Rattle.cif_source.specs.Components.{Component, body_of, params_of, as_written, definition}
+use Rattle.cif_source.specs.Source.{SourceItem, instance_item, SourceBody, group_body, automaton_body, list_of_items}
+use Rattle.cif_source.specs.Components.{Component, body_of, as_written, definition}
 use Rattle.cif_source.specs.Lookup.{Reached, reached, missing, blocked, looked_up, inside_written, definition_found, found}
-use Rattle.cif_source.specs.Uses.{Use, Asked, event_asked, location_asked, type_asked, definition_asked, variable_asked, value_asked, any_asked, asking, args_uses, params_at, item_uses, body_uses, param_uses, uses, definition_sought, sought}
+use Rattle.cif_source.specs.Uses.{Use, Asked, definition_asked, asking, args_uses, params_at, item_uses, body_uses, param_uses, uses, definition_sought, sought}
 use Rattle.cif_written.specs.Alike.{AreWrittenAlike, AreAlike}
 use Rattle.cif_written.proofs.Alike.{written, body-written, params-written, definition-written, looked-written, found-alike, alike-places}
 

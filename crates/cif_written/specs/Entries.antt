@@ -1,5 +1,5 @@
 -- What the entries of a scope are in its body.
-use Rattle.std.specs.Prelude.{◌≡◌, ℕ, ◌<◌, List, length, Some, slice_get}
+use Rattle.std.specs.Prelude.{◌≡◌, ◌<◌, List, length, Some, slice_get}
 use Rattle.cif_ast.specs.declared.names.Ident.{Ident}
 use Rattle.cif_system.specs.Words.{Member}
 use Rattle.cif_source.specs.Source.{ParamTree, enum_decl, SourceBody, component_item, definition_item, instance_item}

@@ -13,7 +13,7 @@ ghost use Rattle.cif_source.specs.Objects.{bodies, components_of, declares, decl
 ghost use Rattle.cif_rules.specs.Demands.{demands, event_channel, is_unfit, is_unfit_for};
 ghost use Rattle.cif_rules.specs.Kinds.{Demand, Kind, kind_of, operands, same_kind, type_kind};
 ghost use Rattle.cif_source.specs.Scoping.{DuplicateDue, UnknownDue, WrongKindDue};
-ghost use Rattle.cif_source.specs.Uses.{OwnName, Use, event_asked, own_names, own_sought, sought, uses, variable_asked};
+ghost use Rattle.cif_source.specs.Uses.{OwnName, Use, event_asked, location_asked, own_names, own_sought, sought, uses, value_asked, variable_asked};
 ghost use Rattle.cif_source.specs.Types.{range_of};
 ghost use Rattle.cif_source.specs.Value.{constant};
 ghost use Rattle.cif_rules.specs.BodyRules.{AssignedTwiceDue, AssignsTwice, EquationsDue, InitialsDue, LeadsElsewhere, MismatchDue, NotConstantDue, NotOwnDue, algs_of, definition_counts, edges_of, initial_count, lists_of, targets_of_all};
@@ -21,7 +21,7 @@ ghost use Rattle.cif_rules.specs.Constants.{constants_of, types_of};
 ghost use Rattle.cif_written.specs.Alike.{AreAlike, AreWrittenAlike};
 ghost use Rattle.cif_written.specs.Arguments.{IsArgumentFor};
 ghost use Rattle.cif_written.specs.Constancy.{HasConstantNames};
-ghost use Rattle.cif_written.specs.Denoted.{DenotesEvent, DenotesVariable};
+ghost use Rattle.cif_written.specs.Denoted.{DenotesEvent, DenotesLocation, DenotesValue, DenotesVariable};
 ghost use Rattle.cif_written.specs.Entries.{IsOf};
 
 /// Each component of a source, as written, is one of its bodies: so what is said of all bodies is said of what stands in each
@@ -155,6 +155,23 @@ pub fn variable_names_denote_variables()
     ensures { (t : Source) → length (components_of t) ≤ most_objects → ((at : ℕ) → UnknownDue t at → ⊥) →
         ((at : ℕ) → WrongKindDue t at → ⊥) → (c : Component) → Member c (components_of t) → (nm : Name) →
         Member (record { name = nm; asks = variable_asked }) (uses c) → DenotesVariable t c nm }
+{}
+
+/// There a name that a component uses as a location denotes a location of a component.
+pub fn location_names_denote_locations()
+    ensures { (t : Source) → length (components_of t) ≤ most_objects → ((at : ℕ) → UnknownDue t at → ⊥) →
+        ((at : ℕ) → WrongKindDue t at → ⊥) → ((at : ℕ) → MismatchDue t at → ⊥) →
+        (c : Component) → Member c (components_of t) → (nm : Name) →
+        Member (record { name = nm; asks = location_asked }) (uses c) → DenotesLocation t c nm }
+{}
+
+/// And a name that a component uses as a value denotes what has a value, of the kind of the name: what a component declares, or
+/// the argument for an `alg` parameter, which stands in a component.
+pub fn value_names_denote_values()
+    ensures { (t : Source) → length (components_of t) ≤ most_objects → ((at : ℕ) → UnknownDue t at → ⊥) →
+        ((at : ℕ) → WrongKindDue t at → ⊥) → ((at : ℕ) → MismatchDue t at → ⊥) →
+        (c : Component) → Member c (components_of t) → (nm : Name) →
+        Member (record { name = nm; asks = value_asked }) (uses c) → DenotesValue t c nm }
 {}
 
 /// Where no name is declared twice, a declaration of a component stands at its number among those of its sort, as the events or
