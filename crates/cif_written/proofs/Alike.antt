@@ -5,6 +5,7 @@ use Rattle.cif_ast.specs.declared.names.Name.{Name}
 use Rattle.cif_source.specs.Source.{Text, InstanceTree}
 use Rattle.cif_source.specs.Components.{Component, whole, part, blank, copy, specification_of, body_of, params_of, scope_of, body_entries, as_written, Entry, declared, literal, location, inner, definition, instance, parameter, entry_named}
 use Rattle.cif_source.specs.Lookup.{ScopeEntry, Reached, reached, missing, blocked, at_entry, in_scope, in_body, go_on, or_outward, outward, looked_up, inside_written, definition_found, opened_at, in_opened, passed, inside, found}
+use Rattle.cif_source.specs.Scoping.{found_written}
 use Rattle.cif_written.specs.Alike.{AreWrittenAlike, AreAlike}
 
 -- ---- components as written
@@ -168,6 +169,10 @@ abbrev entry_at : Entry → Reached → Entry
 entry_at e (reached x) = x.1
 entry_at e _ = e
 
+abbrev place_in : ScopeEntry → Reached → ScopeEntry
+place_in z (reached x) = x
+place_in z _ = z
+
 -- places that are one as written are alike
 pub alike-places : (r s : Reached) → written r ≡ written s → AreAlike r s
 alike-places (reached x) (reached y) h = (ap (component_at (as_written x.0)) h, ap (entry_at x.1) h)
@@ -186,3 +191,19 @@ names-alike c d nm h = alike-places (found c nm) (found d nm) (found-alike c d n
 pub definitions-alike : (c d : Component) (i : InstanceTree) → AreWrittenAlike c d → AreAlike (definition_found c i) (definition_found d i)
 definitions-alike c d i h =
     alike-places (definition_found c i) (definition_found d i) (definition-written c i ∙ ap (λ w. definition_found w i) h ∙ sym (definition-written d i))
+
+pub found_written-same : (c d : Component) (nm : Name) → AreWrittenAlike c d → found_written c nm ≡ found_written d nm
+found_written-same c d nm h = found-alike c d nm h
+
+-- what is found in one of them is found in the other
+both-found : (r s : Reached) → AreAlike r s → (x : ScopeEntry) → r ≡ reached x → (y : Component) × (s ≡ reached (y, x.1)) × AreWrittenAlike x.0 y
+both-found (reached z) (reached y) a x h =
+    let same : z ≡ x = ap (place_in z) h in
+    (y.0, ap (λ e. reached (y.0, e)) (sym a.1 ∙ ap (λ (q : ScopeEntry). q.1) same), ap (λ (q : ScopeEntry). as_written q.0) (sym same) ∙ a.0)
+both-found (reached z) missing a x h = absurd a
+both-found (reached z) blocked a x h = absurd a
+both-found missing s a x h = cc
+both-found blocked s a x h = cc
+
+pub found-both : (c d : Component) → AreWrittenAlike c d → (nm : Name) (x : ScopeEntry) → found c nm ≡ reached x → (y : Component) × (found d nm ≡ reached (y, x.1)) × AreWrittenAlike x.0 y
+found-both c d h nm x e = both-found (found c nm) (found d nm) (names-alike c d nm h) x e

@@ -1,5 +1,5 @@
 -- In components that are written as one body, constant expressions have the same values, and types the same ranges.
-use Rattle.std.proofs.Common.{◌≡◌, ℕ, zero, suc, ℤ, pos, Bool, true, false, inl, inr, [], ◌∷◌, length, map, refl, sym, ◌∙◌, ap, subst}
+use Rattle.std.proofs.Common.{◌≡◌, Option, Some, None, ℕ, zero, suc, ℤ, pos, Bool, true, false, inl, inr, [], ◌∷◌, length, map, refl, sym, ◌∙◌, ap, subst}
 use Rattle.std.specs.Prelude.{flat_map, IsTrue}
 use Rattle.std.specs.List.{Any}
 use Rattle.cif_ast.specs.Tree.{Tree}
@@ -8,17 +8,19 @@ use Rattle.cif_ast.specs.declared.names.Name.{Name}
 use Rattle.cif_system.specs.Words.{Member}
 use Rattle.cif_system.specs.System.{Range}
 use Rattle.cif_system.proofs.Picks.{append-left, append-right, map-member, flat_map-member}
-use Rattle.cif_source.specs.Source.{TypeTree, bool_type, int_type, range_type, named_type, type_decl, const_decl, Source}
+use Rattle.cif_source.specs.Source.{TypeTree, bool_type, int_type, range_type, named_type, type_decl, const_decl, disc_decl, Source}
 use Rattle.cif_source.specs.Components.{Component, whole, part, blank, copy, specification_of, as_written, params_of, Entry, declared, literal}
 use Rattle.cif_source.specs.Lookup.{ScopeEntry, Reached, reached, missing, blocked, found, follow}
 use Rattle.cif_source.specs.Objects.{bodies, decls_of, of_sort, is_const, declarations}
 use Rattle.cif_source.specs.Uses.{names_in}
 use Rattle.cif_source.specs.Scoping.{is_wrong}
 use Rattle.cif_source.specs.Value.{value_with, constant_object, constant_by, constant_within, constant}
-use Rattle.cif_source.specs.Types.{from_to, range_at, range_by, range_within, range_of}
+use Rattle.cif_source.specs.Types.{from_to, range_at, range_by, range_within, range_of, nearest_zero, first_of_type}
 use Rattle.cif_source.proofs.NameLaws.{met, met_at-own, follow-met}
 use Rattle.cif_rules.specs.BodyRules.{is_constant, NotConstantDue}
 use Rattle.cif_rules.specs.Constants.{param_types, decl_types, types_of, Bounds, bounds_in, bounds_of, bound_values, decl_constants, typed_constants, constants_of}
+use Rattle.cif_base.specs.declared.types.Ty.TheVariants as ty
+use Rattle.cif_image.specs.Types.{NetType, plain_type, type_at, type_by, type_within, net_type}
 use Rattle.cif_image.proofs.RuleLaws.{member-any}
 use Rattle.cif_written.specs.Alike.{AreWrittenAlike, AreAlike}
 use Rattle.cif_written.specs.Constancy.{HasConstantNames}
@@ -48,6 +50,15 @@ bound-constant c lower upper e m k =
 -- the type for which a name is declared is one of the types of its component
 named-type : (c : Component) (n : Ident) (ty : TypeTree) → Member (type_decl n ty) (decls_of c) → Member ty (types_of c)
 named-type c n ty m = append-right ty (flat_map param_types (params_of c)) (flat_map decl_types (decls_of c)) (flat_map-member decl_types (type_decl n ty) (decls_of c) ty m (inl refl))
+
+-- the type and the first value of a variable
+variable-type : (c : Component) (ty : TypeTree) (n : Ident) (e : Option Tree) → Member (disc_decl ty n e) (decls_of c) → Member ty (types_of c)
+variable-type c ty n e m = append-right ty (flat_map param_types (params_of c)) (flat_map decl_types (decls_of c)) (flat_map-member decl_types (disc_decl ty n e) (decls_of c) ty m (inl refl))
+
+first-constant : (c : Component) (ty : TypeTree) (n : Ident) (e : Tree) → Member (disc_decl ty n (Some e)) (decls_of c) → Member e (constants_of c)
+first-constant c ty n e m =
+    append-right e (bound_values c) (map (λ (v : TypeTree × Tree). v.1) (typed_constants c))
+    (map-member (λ (v : TypeTree × Tree). v.1) (ty, e) (typed_constants c) (flat_map-member decl_constants (disc_decl ty n (Some e)) (decls_of c) (ty, e) m (inl refl)))
 
 wrong-written : (asked : Entry → Bool) (r : Reached) → is_wrong asked r ≡ is_wrong asked (written r)
 wrong-written asked (reached x) = refl
@@ -153,3 +164,44 @@ module _ (t : Source) (keeps : (at : ℕ) → NotConstantDue t at → ⊥) where
 
   pub range-same : (c d : Component) → AreWrittenAlike c d → Member (as_written c) (bodies t) → (ty : TypeTree) → Member ty (types_of c) → range_of c ty ≡ range_of d ty
   range-same c d a w ty m = ranges-within (length (declarations (specification_of c))) c d a w ty m ∙ ap (λ s. range_within (length (declarations s)) d ty) (roots-same c d a)
+
+  -- the first value of a variable of the component
+  pub first-same : (c d : Component) → AreWrittenAlike c d → Member (as_written c) (bodies t) → (ty : TypeTree) (n : Ident) (e : Option Tree) → Member (disc_decl ty n e) (decls_of c) → first_of_type c ty e ≡ first_of_type d ty e
+  first-same c d a w ty n None m = ap nearest_zero (range-same c d a w ty (variable-type c ty n None m))
+  first-same c d a w ty n (Some e) m = constant-same c d a w e (constants-kept c w e (first-constant c ty n e m))
+
+  -- ---- types of a net
+
+  abbrev NetTypes : (Component → TypeTree → NetType) → Type 0
+  NetTypes more = (c d : Component) → AreWrittenAlike c d → IsWritten t c → (ty : TypeTree) → Member ty (types_of c) → more c ty ≡ more d ty
+
+  module _ (more : Component → TypeTree → NetType) (agrees : NetTypes more) where
+    type_at-same : (r s : Reached) → AreAlike r s → ((x : ScopeEntry) → r ≡ reached x → Good t x) → type_at more r ≡ type_at more s
+    type_at-same (reached (c, declared (type_decl n ty))) (reached (d, f)) a good =
+        let g = good (c, declared (type_decl n ty)) refl in
+        agrees c d a.0 g.0 ty (named-type c n ty g.1) ∙ ap (λ y. type_at more (reached (d, y))) a.1
+    type_at-same (reached (c, e)) (reached (d, f)) a good = ap (λ y. type_at more (reached (d, y))) a.1
+    type_at-same (reached x) missing a good = absurd a
+    type_at-same (reached x) blocked a good = absurd a
+    type_at-same missing (reached y) a good = absurd a
+    type_at-same missing missing a good = refl
+    type_at-same missing blocked a good = absurd a
+    type_at-same blocked (reached y) a good = absurd a
+    type_at-same blocked missing a good = absurd a
+    type_at-same blocked blocked a good = refl
+
+    type_by-same : NetTypes (type_by more)
+    type_by-same c d a w bool_type m = refl
+    type_by-same c d a w int_type m = refl
+    type_by-same c d a w (range_type lower upper) m = λ i.
+        plain_type
+        (ty.Int (constant-same c d a w lower (constants-kept c w lower (bound-constant c lower upper lower m (inl refl))) i)
+        (constant-same c d a w upper (constants-kept c w upper (bound-constant c lower upper upper m (inr (inl refl)))) i))
+    type_by-same c d a w (named_type nm) m = type_at-same (found c nm) (found d nm) (names-alike c d nm a) (found-good t c w nm)
+
+  types-within : (n : ℕ) → NetTypes (type_within n)
+  types-within zero = type_by-same (λ c u. plain_type (ty.Int (pos 0) (pos 0))) (λ c d a w u m. refl)
+  types-within (suc n) = type_by-same (type_within n) (types-within n)
+
+  pub net_type-same : (c d : Component) → AreWrittenAlike c d → Member (as_written c) (bodies t) → (u : TypeTree) → Member u (types_of c) → net_type c u ≡ net_type d u
+  net_type-same c d a w u m = types-within (length (declarations (specification_of c))) c d a w u m ∙ ap (λ s. type_within (length (declarations s)) d u) (roots-same c d a)

@@ -1,19 +1,24 @@
 -- Worked examples of the laws, each by computing. Above the tree stands its text.
 use Rattle.std.proofs.Common.{◌≡◌, pos, List, [], ◌∷◌, map, Some, None, refl}
 use Rattle.std.specs.Prelude.{codes, true, false, slice_get}
-use Rattle.cif_ast.specs.Tree.{node, number, named, no_updates}
+use Rattle.cif_base.specs.declared.types.Ty.TheVariants as ty
+use Rattle.cif_ast.specs.Tree.{node, number, named, sum, assignment, no_updates}
+use Rattle.cif_ast.specs.View.{terms_of, updates_of}
 use Rattle.cif_ast.specs.declared.declarations.Class.TheVariants as class
-use Rattle.cif_source.specs.Source.{int_type, range_type, no_type, syncs, event_decl, const_decl, disc_decl, event_param, alg_param, DeclTree, decl_item, definition_item, instance_item, InstanceTree, ParamTree, SourceBody, group_body, automaton_body, Source}
-use Rattle.cif_source.specs.Components.{Component, whole, blank, copy, as_written, declared, parameter}
-use Rattle.cif_source.specs.Lookup.{reached, found, denotes, thing, given}
+use Rattle.cif_source.specs.Source.{bool_type, int_type, range_type, no_type, syncs, event_decl, const_decl, alg_decl, disc_decl, event_param, alg_param, location_param, DeclTree, EdgeTree, decl_item, component_item, definition_item, instance_item, InstanceTree, ParamTree, SourceBody, group_body, automaton_body, Source}
+use Rattle.cif_source.specs.Components.{Component, whole, part, blank, copy, as_written, body_of, declared, location, definition, parameter}
+use Rattle.cif_source.specs.Lookup.{reached, found, definition_found, denotes, thing, given}
 use Rattle.cif_source.specs.Objects.{components_of, bodies, variables, number_in}
-use Rattle.cif_source.specs.Uses.{event_asked, uses}
-use Rattle.cif_source.specs.Step.{event_at}
+use Rattle.cif_source.specs.Uses.{event_asked, location_asked, uses, own_names, own_sought}
+use Rattle.cif_source.specs.Scoping.{is_wrong}
+use Rattle.cif_source.specs.Step.{event_at, variable_at}
 use Rattle.cif_source.specs.Value.{constant}
-use Rattle.cif_source.specs.Types.{from_to, range_of}
-use Rattle.cif_source.proofs.Terms.{word, single, event_use, edge_by, place, behaviour, instance_named, source_list}
-use Rattle.cif_rules.specs.Kinds.{no_kind, int_kind, kind_of}
-use Rattle.cif_rules.specs.Demands.{demands, is_unfit_for}
+use Rattle.cif_source.specs.Types.{from_to, range_of, first_of_type}
+use Rattle.cif_source.proofs.Terms.{word, single, dotted, event_use, edge_by, place, behaviour, instance_named, source_list}
+use Rattle.cif_rules.specs.Kinds.{no_kind, int_kind, kind_at, kind_of}
+use Rattle.cif_rules.specs.BodyRules.{is_constant, initial_count, definition_counts, targets_of_all}
+use Rattle.cif_rules.specs.Demands.{demands, event_channel, is_unfit, is_unfit_for}
+use Rattle.cif_image.specs.Types.{net_type}
 use Rattle.cif_written.specs.Alike.{AreAlike}
 use Rattle.cif_written.specs.Arguments.{IsNameFor}
 
@@ -193,3 +198,87 @@ positions_are_asked_for_the_same = refl
 
 uses_are_one : uses bx ≡ uses d
 uses_are_one = refl
+
+writing_again : as_written (as_written bx) ≡ d
+writing_again = refl
+
+one_body : body_of ax ≡ body_of d
+one_body = refl
+
+inner_definition_is_found : definition_found a x_item ≡ reached (a, definition (word (codes "D") 123) d_params d_body)
+inner_definition_is_found = refl
+
+inner_definition_is_found_as_written : definition_found g x_item ≡ reached (g, definition (word (codes "D") 123) d_params d_body)
+inner_definition_is_found_as_written = refl
+
+k_is_constant : is_wrong is_constant (found bx (single (word (codes "k") 178))) ≡ false
+k_is_constant = refl
+
+first_value_of_v : first_of_type bx (range_type (node (number (pos 0)) 168) (node (named (single (word (codes "k") 171))) 171)) (Some (node (named (single (word (codes "k") 178))) 178)) ≡ pos 4
+first_value_of_v = refl
+
+type_of_v : (net_type bx (range_type (node (number (pos 0)) 168) (node (named (single (word (codes "k") 171))) 171))).type_of ≡ ty.Int (pos 0) (pos 4)
+type_of_v = refl
+
+d_fits : is_unfit syncs (event_channel bx (single (word (codes "d") 205))) ≡ false
+d_fits = refl
+
+-- ---- a location as an argument, and an assigned variable
+
+-- event e; w: W(m.r); automaton m: location r: initial; edge e goto s; location s; end automaton def W(location l): disc int[0..2] n = 0; alg bool g = l; location: initial; edge e when g do n := n + 1; end
+abbrev n_decl : DeclTree
+n_decl = disc_decl (range_type (node (number (pos 0)) 123) (node (number (pos 2)) 126)) (word (codes "n") 129) (Some (node (number (pos 0)) 133))
+
+abbrev w_params : List ParamTree
+w_params = location_param (word (codes "l") 110) ∷ []
+
+abbrev w_edge : EdgeTree
+w_edge = edge_by (event_use (single (word (codes "e") 176)) syncs ∷ []) (node (named (single (word (codes "g") 183))) 183 ∷ []) (updates_of (assignment (single (word (codes "n") 188)) (node (sum (node (named (single (word (codes "n") 193))) 193) (terms_of ((false, (node (number (pos 1)) 197)) ∷ []))) 193) ∷ [])) None
+
+abbrev w_body : SourceBody
+w_body = automaton_body (behaviour (n_decl ∷ alg_decl bool_type (word (codes "g") 145) (Some (node (named (single (word (codes "l") 149))) 149)) ∷ []) None None (place None true [] [] (w_edge ∷ []) ∷ []))
+
+abbrev m_body : SourceBody
+m_body = automaton_body (behaviour [] None None
+    (place (Some (word (codes "r") 42)) true [] [] (edge_by (event_use (single (word (codes "e") 59)) syncs ∷ []) [] no_updates (Some (word (codes "s") 66)) ∷ [])
+    ∷ place (Some (word (codes "s") 78)) false [] [] []
+    ∷ []))
+
+abbrev w_item : InstanceTree
+w_item = instance_named (word (codes "w") 9) (single (word (codes "W") 12)) (node (named (dotted false (word (codes "m") 14 ∷ word (codes "r") 16 ∷ []) 14)) 14 ∷ [])
+
+abbrev watched : Source
+watched = source_list (decl_item (event_decl class.Plain no_type (word (codes "e") 6)) ∷ instance_item w_item ∷ component_item (word (codes "m") 30) m_body ∷ definition_item (word (codes "W") 99) w_params w_body ∷ [])
+
+abbrev w : Component
+w = copy (whole watched) (word (codes "W") 99) w_params w_body (whole watched) w_item
+
+abbrev m : Component
+m = part (whole watched) (word (codes "m") 30) m_body
+
+l_denotes_r : denotes w (single (word (codes "l") 149)) ≡ Some (thing m (location 0))
+l_denotes_r = refl
+
+l_is_boolean : kind_at (found w (single (word (codes "l") 149))) ≡ kind_at (reached (m, location 0))
+l_is_boolean = refl
+
+r_is_named : IsNameFor location_asked (whole watched) (node (named (dotted false (word (codes "m") 14 ∷ word (codes "r") 16 ∷ []) 14)) 14)
+r_is_named = record { name = dotted false (word (codes "m") 14 ∷ word (codes "r") 16 ∷ []) 14; at = 14; is_bare = refl; place = (m, location 0); is_found = refl; is_sort = refl }
+
+n_is_assigned : targets_of_all w_edge.updates ≡ single (word (codes "n") 188) ∷ []
+n_is_assigned = refl
+
+n_is_its_own : found w (single (word (codes "n") 188)) ≡ reached (w, declared n_decl)
+n_is_its_own = refl
+
+n_is_the_first_variable : variable_at (denotes w (single (word (codes "n") 188))) ≡ Some 0
+n_is_the_first_variable = refl
+
+g_is_defined_once : definition_counts w (codes "g") (Some (node (named (single (word (codes "l") 149))) 149)) ≡ 1 ∷ []
+g_is_defined_once = refl
+
+w_begins_in_one_location : initial_count w ≡ 1
+w_begins_in_one_location = refl
+
+s_is_sought : map (own_sought m) (own_names m) ≡ reached (m, location 1) ∷ []
+s_is_sought = refl

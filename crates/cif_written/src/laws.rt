@@ -6,18 +6,19 @@ ghost use Rattle.cif_ast.specs.Tree.{Tree, UpdateTrees};
 ghost use Rattle.cif_ast.specs.declared.names.Ident.{Ident};
 ghost use Rattle.cif_ast.specs.declared.names.Name.{Name};
 ghost use Rattle.cif_system.specs.Words.{Member};
-ghost use Rattle.cif_source.specs.Source.{DeclTree, EdgeTree, InstanceTree, ParamTree, Source, SourceBody, Text, TypeTree, UseTree};
+ghost use Rattle.cif_source.specs.Source.{DeclTree, EdgeTree, InstanceTree, ParamTree, Source, SourceBody, Text, TypeTree, UseTree, disc_decl};
 ghost use Rattle.cif_source.specs.Components.{Component, as_written, body_of, copy, params_of};
 ghost use Rattle.cif_source.specs.Lookup.{ScopeEntry, definition_found, found, reached};
 ghost use Rattle.cif_source.specs.Objects.{bodies, components_of, declares, decls_of, is_automaton, most_objects, number_in, of_sort};
 ghost use Rattle.cif_rules.specs.Demands.{demands, event_channel, is_unfit, is_unfit_for};
 ghost use Rattle.cif_rules.specs.Kinds.{Demand, Kind, kind_of, operands, same_kind, type_kind};
-ghost use Rattle.cif_source.specs.Scoping.{DuplicateDue, UnknownDue, WrongKindDue};
+ghost use Rattle.cif_source.specs.Scoping.{DuplicateDue, UnknownDue, WrongKindDue, found_written};
 ghost use Rattle.cif_source.specs.Uses.{OwnName, Use, event_asked, location_asked, own_names, own_sought, sought, uses, value_asked, variable_asked};
-ghost use Rattle.cif_source.specs.Types.{range_of};
+ghost use Rattle.cif_source.specs.Types.{first_of_type, range_of};
 ghost use Rattle.cif_source.specs.Value.{constant};
 ghost use Rattle.cif_rules.specs.BodyRules.{AssignedTwiceDue, AssignsTwice, EquationsDue, InitialsDue, LeadsElsewhere, MismatchDue, NotConstantDue, NotOwnDue, algs_of, definition_counts, edges_of, initial_count, lists_of, targets_of_all};
 ghost use Rattle.cif_rules.specs.Constants.{constants_of, types_of};
+ghost use Rattle.cif_image.specs.Types.{net_type};
 ghost use Rattle.cif_written.specs.Alike.{AreAlike, AreWrittenAlike};
 ghost use Rattle.cif_written.specs.Arguments.{IsArgumentFor};
 ghost use Rattle.cif_written.specs.Constancy.{HasConstantNames};
@@ -49,6 +50,17 @@ pub fn bodies_are_the_same()
 /// In two components that are written as one body a name finds the same.
 pub fn names_find_the_same()
     ensures { (c d : Component) (nm : Name) → AreWrittenAlike c d → AreAlike (found c nm) (found d nm) }
+{}
+
+/// What it finds is the same, in bodies as written.
+pub fn names_find_the_same_as_written()
+    ensures { (c d : Component) (nm : Name) → AreWrittenAlike c d → found_written c nm ≡ found_written d nm }
+{}
+
+/// What it finds in one of them it finds in the other too, in a component that is written as the same body.
+pub fn names_are_found_in_both()
+    ensures { (c d : Component) → AreWrittenAlike c d → (nm : Name) (x : ScopeEntry) → found c nm ≡ reached x →
+        (y : Component) × (found d nm ≡ reached (y, x.1)) × AreWrittenAlike x.0 y }
 {}
 
 /// So does an instance, whose definition is not looked up through instances.
@@ -107,6 +119,19 @@ pub fn constants_are_the_same()
 pub fn ranges_are_the_same()
     ensures { (t : Source) → ((at : ℕ) → NotConstantDue t at → ⊥) → (c d : Component) → AreWrittenAlike c d →
         Member (as_written c) (bodies t) → (ty : TypeTree) → Member ty (types_of c) → range_of c ty ≡ range_of d ty }
+{}
+
+/// So has each of its types the same type in the net.
+pub fn net_types_are_the_same()
+    ensures { (t : Source) → ((at : ℕ) → NotConstantDue t at → ⊥) → (c d : Component) → AreWrittenAlike c d →
+        Member (as_written c) (bodies t) → (ty : TypeTree) → Member ty (types_of c) → net_type c ty ≡ net_type d ty }
+{}
+
+/// And its variables have the same first values.
+pub fn first_values_are_the_same()
+    ensures { (t : Source) → ((at : ℕ) → NotConstantDue t at → ⊥) → (c d : Component) → AreWrittenAlike c d →
+        Member (as_written c) (bodies t) → (ty : TypeTree) (n : Ident) (e : Option Tree) →
+        Member (disc_decl ty n e) (decls_of c) → first_of_type c ty e ≡ first_of_type d ty e }
 {}
 
 /// Components that are written as one body use the same names.
