@@ -1,5 +1,5 @@
 -- The other rules on bodies, as facts about components: they have the body of the component as written.
-use Rattle.std.proofs.Common.{◌≡◌, ℕ, true, false, ◌⊎◌, inl, inr, List, Option, Some, refl, sym, ◌∙◌, ap, subst, arith}
+use Rattle.std.proofs.Common.{◌≡◌, Bool, ℕ, true, false, ◌⊎◌, inl, inr, List, Option, Some, refl, sym, ◌∙◌, ap, subst, arith}
 use Rattle.std.specs.Prelude.{flat_map, nat_eq}
 use Rattle.std.specs.List.{Any, Contains}
 use Rattle.std.proofs.lemmas.Bool.Decides.{nat_tests}
@@ -7,15 +7,17 @@ use Rattle.cif_ast.specs.Tree.{Tree}
 use Rattle.cif_ast.specs.declared.names.Ident.{Ident}
 use Rattle.cif_system.specs.Words.{Member}
 use Rattle.cif_system.proofs.Lists.{false-true}
-use Rattle.cif_source.specs.Source.{Text, UseTree, EdgeTree, Source}
+use Rattle.cif_source.specs.Source.{Text, UseTree, EdgeTree, SourceBody, Source}
 use Rattle.cif_source.specs.Components.{Component, whole, part, blank, copy, as_written, body_of, params_of}
 use Rattle.cif_source.specs.Objects.{bodies, is_automaton}
 use Rattle.cif_source.specs.Uses.{OwnName, own_ident, own_names, own_sought}
 use Rattle.cif_rules.specs.Demands.{event_channel, is_unfit}
 use Rattle.cif_rules.specs.BodyRules.{edges_of, MismatchDue, BadValue, BadUse, BadArgument, initial_count, name_at, HasInitials, InitialsDue, algs_of, definition_counts, EquationsDue}
+use Rattle.cif_model.proofs.Passing.{all-member}
+use Rattle.cif_image.specs.Built.{every_body}
 use Rattle.cif_image.proofs.RuleLaws.{member-any}
 use Rattle.cif_written.specs.Alike.{AreWrittenAlike, AreAlike}
-use Rattle.cif_written.proofs.Alike.{twice, params-written, in_scope-written, alike-places}
+use Rattle.cif_written.proofs.Alike.{twice, body-written, params-written, in_scope-written, alike-places}
 use Rattle.cif_written.proofs.DemandLaws.{body-same, channel-same}
 
 pub parts-same : (c d : Component) → AreWrittenAlike c d → (body_of c ≡ body_of d) × (params_of c ≡ params_of d)
@@ -110,3 +112,7 @@ defined-once t balanced c w a m n k =
           (subst (Member a) (sym (algs-written c)) m)
           (refl, subst (λ ns. Contains ns n) (sym (counts-written c a.0.text a.1)) k, not-one n g))))
     ]) refl
+
+-- what the body of each body passes, that of each component does
+pub bodies-pass : (t : Source) (test : SourceBody → Bool) → every_body test t ≡ true → (c : Component) → Member (as_written c) (bodies t) → test (body_of c) ≡ true
+bodies-pass t test all c w = ap test (sym (body-written c)) ∙ all-member (λ d. test (body_of d)) (bodies t) (as_written c) all w
