@@ -1,0 +1,12 @@
+mod ListSteps
+mod ListSizes
+mod ChildLaws
+mod KidLaws
+mod ListLaws
+mod SizeLaws
+mod ListNumbers
+mod FindSingle
+mod FindEntries
+mod FindChildren
+mod FindLaws
+mod OuterLaws
