@@ -1,5 +1,6 @@
 //! The calls that a case may make.
 
+use crate::components::{components_case, from_case};
 use crate::intervals::interval_case;
 use crate::rules::{kinds_case, rules_case, value_case};
 use case_text::{Calls, Fault, Fields};
@@ -10,6 +11,8 @@ pub struct DataCalls;
 impl Calls for DataCalls {
     fn answer(&self, call: &str, fields: &Fields<'_>, page: &mut String) -> Result<(), Fault> {
         match call {
+            "components" => components_case(fields, page),
+            "from" => from_case(fields, page),
             "interval" => interval_case(fields, page),
             "kinds" => kinds_case(fields, page),
             "rules" => rules_case(fields, page),

@@ -1,9 +1,11 @@
-//! Cases of expressions, and of the rules on kinds, constants and updates, as data: asks the public calls of the libraries what
+//! Cases of expressions, of the rules on kinds, constants and updates, and of components, as data: asks the public calls of the libraries what
 //! the standard input says, and prints what they answer. The file `stdout` beside this crate has the expected answers, which are
 //! never taken from a run. `case_text` says how lines and texts are written.
 //!
 //! The calls:
 //!
+//! - `components TEXT`: the components of a source, each with its body, where it stands, and its outer component; `from COMPONENT NAME |
+//!   TEXT`: what the name finds from the component with this number; both as the number of a component and that of a name of its scope;
 //! - `interval NUMBERS | EXPR`: the interval, the size and the depth of an expression, in which `a` is the first variable, `b` the
 //!   second and so on; the numbers are the lower and the upper bound of what is received, and then those of each variable;
 //! - `kinds TEXT`: whether a source of any form keeps the rules on kinds, or one that it breaks;
@@ -13,6 +15,7 @@
 #![tactic(auto)]
 
 mod calls;
+mod components;
 mod expressions;
 mod intervals;
 mod rules;

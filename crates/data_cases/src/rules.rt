@@ -84,7 +84,7 @@ pub fn kinds_case(fields: &Fields<'_>, page: &mut String) -> Result<(), Fault> {
 }
 
 /// The value of the last declaration, a constant.
-fn constant_of(items: &[Item]) -> Option<&Expr> {
+pub fn constant_of(items: &[Item]) -> Option<&Expr> {
     match items.last()? {
         Item::Decl(Decl::Const { value, .. }) => Some(value),
         _ => None,
