@@ -72,7 +72,8 @@ pub fn from_case(fields: &Fields<'_>, page: &mut String) -> Result<(), Fault> {
     let component = number(component)?;
     let asked = format!(in fields.alloc; "const int x = {name};")?;
     let asked = tree_of(fields.alloc, asked.as_bytes())?;
-    let Some(Form::Named(name)) = constant_of(asked.items.as_slice()).map(|value| &value.form) else {
+    let Some(Form::Named(name)) = constant_of(asked.items.as_slice()).map(|value| &value.form)
+    else {
         return Err(Fault::Form("no name"));
     };
     let text = fields.bytes_of(fields.written(1))?;
