@@ -8,7 +8,7 @@ use Rattle.cif_components.specs.declared.components.Place.{Place}
 use Rattle.cif_components.specs.declared.kids.Kid.{Kid}
 use Rattle.cif_components.specs.declared.listing.Waiting.{Waiting}
 use Rattle.cif_components.specs.Kids.{kids_in}
-use Rattle.cif_components.specs.Listing.{place, chain, below, listed, to_list, waiting_in, rest}
+use Rattle.cif_components.specs.Listing.{place, chain, below, listed, kid_waiting, waiting_in, rest}
 
 abbrev pub component : ℕ → Option Place → Component
 component b p = record { body = b; stands = p }
@@ -28,13 +28,13 @@ module _ (kids : List (List Kid)) where
   below-is (suc n) at p b = refl
 
   rest-kids : (d parent at : ℕ) (xs : List Kid) (ws : List Waiting)
-      → rest kids at (map (to_list parent d) xs ++ ws) ≡ chain (below kids d) at parent xs ++ rest kids (at + length (chain (below kids d) at parent xs)) ws
+      → rest kids at (map (kid_waiting parent d) xs ++ ws) ≡ chain (below kids d) at parent xs ++ rest kids (at + length (chain (below kids d) at parent xs)) ws
   rest-kids d parent at [] ws = let e : at ≡ at + 0 = omega arith in ap (λ k. rest kids k ws) e
   rest-kids d parent at (x ∷ xs) ws = go (below kids d at (Some (place parent x.slot)) x.body) (λ k. rest-kids d parent k xs ws)
     where
       go : (here : List Component)
-          → ((k : ℕ) → rest kids k (map (to_list parent d) xs ++ ws) ≡ chain (below kids d) k parent xs ++ rest kids (k + length (chain (below kids d) k parent xs)) ws)
-          → here ++ rest kids (at + length here) (map (to_list parent d) xs ++ ws)
+          → ((k : ℕ) → rest kids k (map (kid_waiting parent d) xs ++ ws) ≡ chain (below kids d) k parent xs ++ rest kids (k + length (chain (below kids d) k parent xs)) ws)
+          → here ++ rest kids (at + length here) (map (kid_waiting parent d) xs ++ ws)
           ≡ (here ++ chain (below kids d) (at + length here) parent xs) ++ rest kids (at + length (here ++ chain (below kids d) (at + length here) parent xs)) ws
       go here ih =
           let more : List Component = chain (below kids d) (at + length here) parent xs in
@@ -45,7 +45,7 @@ module _ (kids : List (List Kid)) where
   rest-inside : (n at b : ℕ) (ws : List Waiting) → rest kids (suc at) (reverse (waiting_in kids at b n) ++ ws) ≡ inside n at b ++ rest kids (suc at + length (inside n at b)) ws
   rest-inside zero at b ws = let e : suc at ≡ suc at + 0 = omega arith in ap (λ k. rest kids k ws) e
   rest-inside (suc n) at b ws =
-      ap (λ l. rest kids (suc at) (l ++ ws)) (reverse-reverse (map (to_list at n) (kids_in kids b))) ∙ rest-kids n at (suc at) (kids_in kids b) ws
+      ap (λ l. rest kids (suc at) (l ++ ws)) (reverse-reverse (map (kid_waiting at n) (kids_in kids b))) ∙ rest-kids n at (suc at) (kids_in kids b) ws
 
   below-rest : (n at : ℕ) (p : Option Place) (b : ℕ) (ws : List Waiting)
       → below kids n at p b ++ rest kids (at + length (below kids n at p b)) ws ≡ component b p ∷ rest kids (suc at) (reverse (waiting_in kids at b n) ++ ws)

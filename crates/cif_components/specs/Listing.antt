@@ -22,17 +22,18 @@ abbrev pub below : List (List Kid) → (n at : ℕ) → Option Place → ℕ →
 below kids zero at p b = record { body = b; stands = p } ∷ []
 below kids (suc n) at p b = record { body = b; stands = p } ∷ chain (below kids n) (suc at) at (kids_in kids b)
 
+-- so deep as there may be objects, so it is opened only where that is asked for
 unfoldable pub listed : List (List Kid) → List Component
 listed kids = below kids most_objects 0 None 0
 
 -- ---- as the code lists them
 
-abbrev pub to_list : ℕ → ℕ → Kid → Waiting
-to_list parent depth x = record { stands = place parent x.slot; body = x.body; depth = depth }
+abbrev pub kid_waiting : ℕ → ℕ → Kid → Waiting
+kid_waiting parent depth x = record { stands = place parent x.slot; body = x.body; depth = depth }
 
 -- the last is listed first
 abbrev pub waiting_for : (parent depth : ℕ) → List Kid → List Waiting
-waiting_for parent depth xs = reverse (map (to_list parent depth) xs)
+waiting_for parent depth xs = reverse (map (kid_waiting parent depth) xs)
 
 -- what stands in a component with the body b, where components nest so deep in it
 abbrev pub waiting_in : List (List Kid) → (parent b depth : ℕ) → List Waiting
