@@ -26,8 +26,8 @@ fn put_component(page: &mut String, components: &Components, number: u32) -> Put
     page.push('\n')
 }
 
-fn put_components(page: &mut String, components: &Components) -> Put {
-    for number in 0..components.len() as u32 {
+fn put_components(page: &mut String, components: &Components) -> Result<(), Fault> {
+    for number in 0..cif_scope::number(components.len())? {
         put_component(page, components, number)?;
     }
     Ok(())
@@ -47,7 +47,7 @@ pub fn components_case(fields: &Fields<'_>, page: &mut String) -> Result<(), Fau
         Err(error) => Ok(writeln!(page, "  {error:?}")?),
         Ok(scopes) => match numbered(fields.alloc, &spec, &scopes) {
             Err(error) => Ok(writeln!(page, "  {error:?}")?),
-            Ok(components) => Ok(put_components(page, &components)?),
+            Ok(components) => put_components(page, &components),
         },
     }
 }
