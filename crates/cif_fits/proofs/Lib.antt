@@ -1,6 +1,7 @@
 pub mod KindLaws
 pub mod ExprLaws
-pub mod Entries
+pub mod Places
+pub mod Chains
 pub mod SoundLaws
 pub mod TypeLaws
 pub mod NameLaws

@@ -1,48 +1,60 @@
--- A name that has a kind becomes an expression of that kind: a constant, a variable, a literal or a location.
-use Rattle.std.proofs.Common.{◌≡◌, ℕ, zero, suc, ◌+◌, ◌<◌, pos, Bool, true, false, cond, inl, List, [], ◌∷◌, ◌++◌, length, map, Option, Some, None, refl, sym, ◌∙◌, ap, subst, arith}
-use Rattle.std.specs.Prelude.{◌&&◌, ◌||◌, not, nat_lt, slice_get, int_le, int_lt}
-use Rattle.std.specs.List.{list_any, position_or_len}
+-- A name that has a kind becomes an expression of that kind: a constant, a variable, a literal, a location or the argument of a
+-- parameter.
+use Rattle.std.proofs.Common.{◌≡◌, ℕ, zero, suc, ◌+◌, ◌<◌, pos, Bool, true, false, cond, inl, inr, List, [], ◌∷◌, ◌++◌, length, map, Option, Some, None, refl, sym, ◌∙◌, ap, subst, arith}
+use Rattle.std.specs.Prelude.{◌&&◌, ◌||◌, not, nat_lt, slice_get, int_le, int_lt, flat_map, filter_map, zip}
+use Rattle.std.specs.List.{list_any, position_or_len, cons_option}
 use Rattle.std.proofs.lemmas.Bool.Decides.{nat_tests}
 use Rattle.std.proofs.lemmas.Cmp.{nat_list_eq_equiv}
 use Rattle.cif_ast.specs.Tree.{Tree}
+use Rattle.cif_ast.specs.Throughout.{HoldsInTree}
+use Rattle.cif_ast.specs.SmallNumbers.{small_parts}
 use Rattle.cif_ast.specs.declared.names.Ident.{Ident}
 use Rattle.cif_ast.specs.declared.names.Name.{Name}
 use Rattle.cif_system.specs.System.{in_range}
 use Rattle.cif_system.specs.Words.{Member}
 use Rattle.cif_system.proofs.Lists.{false-true, filter-member, filter-within, map-length}
-use Rattle.cif_system.proofs.Picks.{and-left, and-right, at-member}
+use Rattle.cif_system.proofs.Picks.{at-member, append-left, append-right, map-member, flat_map-member, zip-at}
 use Rattle.cif_model.proofs.Passing.{all-member}
 use Rattle.cif_term.specs.Tree.{NetExpr, net_expr, n_number}
 use Rattle.cif_model.specs.Net.{Net}
 use Rattle.cif_model.specs.Kinds as net
 use Rattle.cif_model.specs.Kinds.{in_32_bits, places_of, stored_fits, fits, form_fits}
-use Rattle.cif_source.specs.Source.{TypeTree, type_decl, enum_decl, event_decl, const_decl, alg_decl, input_decl, disc_decl, equation_decl, invariant_decl, marked_decl, SourceBody, group_body, automaton_body, Source}
-use Rattle.cif_source.specs.Components.{Component, specification_of, body_of, path_of, same_path, param_entries, body_entries, Entry, declared, literal, location, inner, definition, instance, parameter}
-use Rattle.cif_source.specs.Lookup.{ScopeEntry, reached, missing, blocked, found, stands_for_argument}
-use Rattle.cif_source.specs.Objects.{components_of, bodies, decls_of, locs_of, locs_in, Declared, declarations, variables, is_variable, is_declared, declares, number_in, automata, is_automaton, automaton_number}
+use Rattle.cif_source.specs.Source.{InstanceTree, ParamTree, event_param, alg_param, location_param, instance_item, TypeTree, type_decl, enum_decl, event_decl, const_decl, alg_decl, input_decl, disc_decl, equation_decl, invariant_decl, marked_decl, SourceBody, group_body, automaton_body, Source}
+use Rattle.cif_source.specs.Components.{Component, blank, copy, specification_of, body_of, path_of, same_path, Entry, declared, literal, location, inner, definition, instance, parameter}
+use Rattle.cif_source.specs.Lookup.{ScopeEntry, reached, missing, blocked, definition_found, found, by_argument}
+use Rattle.cif_source.specs.Objects.{components_of, items_in, decls_of, locs_of, locs_in, declarations, variables, is_variable, number_in, automata, is_automaton, automaton_number}
 use Rattle.cif_source.specs.Value.{constant}
-use Rattle.cif_source.proofs.NameLaws.{met, met_at-place, follow-met}
-use Rattle.cif_rules.specs.Kinds.{type_kind, kind_at}
+use Rattle.cif_source.proofs.NameLaws.{is_parameter, met, met_at, met_at-own, follow-met}
+use Rattle.cif_source.specs.Scoping.{as_instance, instances_of}
+use Rattle.cif_source.specs.Uses.{location_asked, is_asked}
+use Rattle.cif_rules.specs.Kinds.{Kind, bool_kind, int_kind, no_kind, same_kind, type_kind, kind_at, kind_of, Demand, operands}
+use Rattle.cif_rules.specs.Constants.{bound_values}
+use Rattle.cif_rules.specs.Demands.{asked_for, decl_demands, argument_demands, location_demands, Argument, arguments_at, arguments_in}
 use Rattle.cif_image.specs.Flat.{net_of_source, net_auto, net_stored, location_name}
 use Rattle.cif_image.specs.Translation.{net_object, net_name, net_with}
-use Rattle.cif_image.proofs.KeptLaws.{has_twice, member-passes}
-use Rattle.cif_image.proofs.PathLaws.{names, path-told}
+use Rattle.cif_image.proofs.KeptLaws.{member-passes}
+use Rattle.cif_image.proofs.PathLaws.{path-told}
 use Rattle.cif_image.proofs.TypeLaws.{range-same}
 use Rattle.cif_image.proofs.ValueLaws.{constant_fits}
 use Rattle.cif_image.proofs.FoundLaws.{declaration-listed}
-use Rattle.cif_image.proofs.RuleLaws.{constants-kept, declaration-cases}
-use Rattle.cif_image.proofs.DistinctLaws.{paths-differ, declared-once}
-use Rattle.cif_image.proofs.FormLaws.{decl-algebra}
-use Rattle.cif_fits.specs.Kinds.{net_kind}
+use Rattle.cif_image.proofs.RuleLaws.{constants-kept}
+use Rattle.cif_image.proofs.DistinctLaws.{paths-differ}
+use Rattle.cif_written.specs.Entries.{IsOf}
+use Rattle.cif_written.proofs.Bodies.{components-written}
+use Rattle.cif_written.proofs.DemandLaws.{demands-met}
+use Rattle.cif_written.proofs.ArgumentLaws.{given-by, parameter-argument}
+use Rattle.cif_written.proofs.NumberLaws.{stands-at-number}
+use Rattle.cif_fits.specs.Kinds.{net_kind, AreMet}
 use Rattle.cif_fits.proofs.KindLaws.{texts-self, kind-self}
-use Rattle.cif_fits.proofs.ExprLaws.{is_valued}
-use Rattle.cif_fits.proofs.SoundLaws.{IsSound, home, bare-params, root, IsFound, found-is}
+use Rattle.cif_fits.proofs.ExprLaws.{is_valued, expr-fits}
+use Rattle.cif_fits.proofs.Places.{HoldsOfNames, HoldsOfThings, HoldsOfParameters, holds-of-names}
+use Rattle.cif_fits.proofs.SoundLaws.{IsSound, scopes, root, decl-algebra}
 use Rattle.cif_fits.proofs.TypeLaws.{literal-fits, written, type-fits}
 
 -- ---- lists
 
 -- the first of a list that passes a test stands at its position
-pub at-position : {A : Type 0} (p : A → Bool) (xs : List A) → list_any p xs ≡ true → (y : A) × (slice_get xs (position_or_len p xs) ≡ Some y) × (p y ≡ true)
+at-position : {A : Type 0} (p : A → Bool) (xs : List A) → list_any p xs ≡ true → (y : A) × (slice_get xs (position_or_len p xs) ≡ Some y) × (p y ≡ true)
 at-position p [] h = absurd (false-true refl h)
 at-position {A} p (x ∷ xs) h =
     (elim (p x) as (λ b. p x ≡ b → (b || list_any p xs) ≡ true → (y : A) × (slice_get (x ∷ xs) (cond (not b) (1 + position_or_len p xs) 0) ≡ Some y) × (p y ≡ true)) [
@@ -58,64 +70,89 @@ get-map f [] k y h = absurd cc
 get-map f (x ∷ xs) zero y h = ap (λ o. elim o [ None ↦ None | Some z ↦ Some (f z) ]) h
 get-map f (x ∷ xs) (suc k) y h = get-map f xs k y h
 
+cons-later : {B : Type 0} (o : Option B) (xs : List B) (y : B) → Member y xs → Member y (cons_option o xs)
+cons-later None xs y k = k
+cons-later (Some b) xs y k = inr k
+
+-- an element for which there is something stands among those things
+pub mapped-member : {A B : Type 0} (f : A → Option B) (x : A) (xs : List A) (y : B) → Member x xs → f x ≡ Some y → Member y (filter_map f xs)
+mapped-member f x [] y m e = absurd m
+mapped-member f x (z ∷ xs) y m e =
+    elim m [
+      | inl w ↦ subst (λ o. Member y (cons_option o (filter_map f xs))) (sym (ap f (sym w) ∙ e)) (inl refl)
+      | inr w ↦ cons-later (f z) (filter_map f xs) y (mapped-member f x xs y w e)
+    ]
+
 -- ---- what a name becomes
 
-pub name-followed : (c : Component) (nm : Name) (at : ℕ) (x : ScopeEntry) → found c nm ≡ reached x → stands_for_argument x ≡ false → net_name c nm at ≡ net_expr (net_object x) at
-name-followed c nm at x h own =
-    ap (λ (f : ℕ → NetExpr). f at) (follow-met things nothing arguments c nm ∙ ap (met things nothing arguments) h ∙ met_at-place things nothing arguments x own)
-  where
-    things : ScopeEntry → ℕ → NetExpr
-    things x at = net_expr (net_object x) at
+abbrev things : ScopeEntry → ℕ → NetExpr
+things x at = net_expr (net_object x) at
 
-    nothing : ℕ → NetExpr
-    nothing at = net_expr (n_number (pos 0)) at
+abbrev nothing : ℕ → NetExpr
+nothing at = net_expr (n_number (pos 0)) at
 
-    arguments : (Name → ℕ → NetExpr) → Component → Tree → ℕ → NetExpr
-    arguments name g a at = net_with name a
+abbrev arguments : (Name → ℕ → NetExpr) → Component → Tree → ℕ → NetExpr
+arguments name g a at = net_with name a
+
+-- what a place becomes
+abbrev became : Component → Entry → ℕ → NetExpr
+became c e = met_at things nothing arguments c e
+
+name-followed : (c : Component) (nm : Name) (at : ℕ) → net_name c nm at ≡ met things nothing arguments (found c nm) at
+name-followed c nm at = ap (λ (f : ℕ → NetExpr). f at) (follow-met things nothing arguments c nm)
 
 -- a body with a location is that of an automaton
 with-locations : (b : SourceBody) (k : ℕ) → k < length (locs_in b) → is_automaton b ≡ true
 with-locations (group_body is) k h = absurd (omega (arith, h))
 with-locations (automaton_body a) k h = refl
 
+-- what is a location has the kind of booleans
+location-kind : (c : Component) (e : Entry) → is_asked location_asked e ≡ true → kind_at (reached (c, e)) ≡ bool_kind
+location-kind c (location k) a = refl
+location-kind c (parameter k (location_param n)) a = refl
+location-kind c (parameter k (alg_param ty n)) a = cc
+location-kind c (parameter k (event_param x h n)) a = cc
+location-kind c _ a = cc
+
+-- ---- arguments
+
+-- an argument that stands in a component is asked for what its parameter is
+argument-met : (t : Source) (s : IsSound t) (o g : Component) (n : Ident) (ps : List ParamTree) (b : SourceBody) (i : InstanceTree) → Member (copy o n ps b g i) (components_of t)
+    → (k : ℕ) (e : Tree) (ty : TypeTree) (m : Ident) → slice_get i.args k ≡ Some e → slice_get ps k ≡ Some (alg_param ty m) → AreMet g (operands g no_kind e)
+argument-met t s o g n ps b i l k e ty m he hp d inside =
+    let given = given-by t o g n ps b i l in
+    let stands : Member i (instances_of g) = mapped-member as_instance (instance_item i) (items_in (body_of g)) i given.item refl in
+    let one : Argument = record { value = e; param = alg_param ty m; definition = blank o n ps b } in
+    let there : Member one (arguments_in g) =
+    flat_map-member (λ j. arguments_at j (definition_found g j)) i (instances_of g) one stands
+    (subst (λ r. Member one (arguments_at i r)) (sym given.opens)
+    (map-member (λ (x : Tree × ParamTree). record { value = x.0; param = x.1; definition = blank o n ps b }) (e, alg_param ty m) (zip i.args ps)
+    (at-member (zip i.args ps) k (e, alg_param ty m) (zip-at i.args ps k e (alg_param ty m) he hp)))) in
+    demands-met t s.matched g (components-written t g given.giver) d
+    (append-left d (flat_map (asked_for g int_kind) (bound_values g) ++ flat_map (decl_demands g) (decls_of g) ++ flat_map (argument_demands g) (arguments_in g)) (flat_map (location_demands g) (locs_of g))
+    (append-right d (flat_map (asked_for g int_kind) (bound_values g) ++ flat_map (decl_demands g) (decls_of g)) (flat_map (argument_demands g) (arguments_in g))
+    (flat_map-member (argument_demands g) one (arguments_in g) d there (inr inside))))
+
+-- and its numbers are small
+argument-small : (t : Source) (s : IsSound t) (o g : Component) (n : Ident) (ps : List ParamTree) (b : SourceBody) (i : InstanceTree) → Member (copy o n ps b g i) (components_of t)
+    → (k : ℕ) (e : Tree) → slice_get i.args k ≡ Some e → HoldsInTree small_parts e
+argument-small t s o g n ps b i l k e he =
+    let given = given-by t o g n ps b i l in
+    s.arguments g given.giver i (mapped-member as_instance (instance_item i) (items_in (body_of g)) i given.item refl) e (at-member i.args k e he)
+
 module _ (t : Source) (s : IsSound t) where
   abbrev whole_net : Net
   whole_net = net_of_source t
 
-  -- a body declares each name once
-  body-single : (c : Component) → Member c (bodies t) → has_twice (names (body_entries (body_of c))) ≡ false
-  body-single c m = subst (λ ps. has_twice (names (param_entries ps ++ body_entries (body_of c))) ≡ false) (bare-params t s c m) (s.single c (home t s c m))
-
   -- ---- variables
 
-  module _ (c : Component) (m : Member c (bodies t)) (x : TypeTree) (n : Ident) (e : Option Tree) (k : Member (disc_decl x n e) (decls_of c)) where
-    abbrev own : Declared
-    own = (c, disc_decl x n e)
-
-    is-listed : Member own (variables t)
-    is-listed = filter-member (λ (d : Declared). is_variable d.1) (declarations t) own (declaration-listed t s.few c (disc_decl x n e) (home t s c m) k) refl
-
-    is-own : is_declared c n.text own ≡ true
-    is-own = ap (λ b. b && same_path (path_of c) (path_of c)) (nat_list_eq_equiv.refl n.text) ∙ texts-self (path_of c)
-
-    -- what has its name and its path is the variable
-    alone : (d : Declared) → Member d (variables t) → is_declared c n.text d ≡ true → d ≡ own
-    alone d l same =
-        let there = declaration-cases t d (filter-within (λ (d : Declared). is_variable d.1) (declarations t) d l) in
-        let same_home : d.0 ≡ c = paths-differ t s.single d.0 c there.0 (home t s c m) (path-told (path_of d.0) (path_of c) (and-right (declares n.text d.1) (same_path (path_of d.0) (path_of c)) same)) in
-        let same_decl : d.1 ≡ disc_decl x n e =
-        declared-once n.text (body_of c) (body-single c m) d.1 (disc_decl x n e) (subst (λ p. Member d.1 (decls_of p)) same_home there.1) k
-        (and-left (declares n.text d.1) (same_path (path_of d.0) (path_of c)) same) (nat_list_eq_equiv.refl n.text) in
-        λ i. (same_home i, same_decl i)
-
+  module _ (c : Component) (m : Member c (components_of t)) (x : TypeTree) (n : Ident) (e : Option Tree) (k : Member (disc_decl x n e) (decls_of c)) where
     -- its number leads to it
-    variable-at : slice_get (whole_net).vars (number_in (variables (specification_of c)) c n.text) ≡ Some (net_stored own)
+    variable-at : slice_get (whole_net).vars (number_in (variables (specification_of c)) c n.text) ≡ Some (net_stored (c, disc_decl x n e))
     variable-at =
-        let at = at-position (is_declared c n.text) (variables t) (member-passes (is_declared c n.text) (variables t) own is-listed is-own) in
-        let is : at.0 ≡ own = alone at.0 (at-member (variables t) (position_or_len (is_declared c n.text) (variables t)) at.0 at.1) at.2 in
         ap (λ r. slice_get (whole_net).vars (number_in (variables r) c n.text)) (root t s c m)
-        ∙ get-map net_stored (variables t) (position_or_len (is_declared c n.text) (variables t)) at.0 at.1
-        ∙ ap (λ d. Some (net_stored d)) is
+        ∙ get-map net_stored (variables t) (number_in (variables t) c n.text) (c, disc_decl x n e)
+        (stands-at-number t s.few s.single is_variable c (disc_decl x n e) m k refl n.text (nat_list_eq_equiv.refl n.text))
 
     pub variable-fits : is_valued (type_kind c x) ≡ true → stored_fits (net_kind (type_kind c x)) (slice_get (whole_net).vars (number_in (variables (specification_of c)) c n.text)) ≡ true
     variable-fits v =
@@ -126,25 +163,25 @@ module _ (t : Source) (s : IsSound t) where
 
   -- ---- constants
 
-  constant-fits : (c : Component) → Member c (bodies t) → (x : TypeTree) (n : Ident) (e : Tree) → Member (const_decl x n e) (decls_of c) → is_valued (type_kind c x) ≡ true
+  constant-fits : (c : Component) → Member c (components_of t) → (x : TypeTree) (n : Ident) (e : Tree) → Member (const_decl x n e) (decls_of c) → is_valued (type_kind c x) ≡ true
       → form_fits whole_net None (net_kind (type_kind c x)) (net_object (c, declared (const_decl x n e))) ≡ true
   constant-fits c m x n e k v =
       let f = type-fits t s whole_net c m x (written c (const_decl x n e) x k (inl refl)) v in
-      let inside = all-member constant_fits (declarations t) (c, const_decl x n e) (constants-kept t s.ranges) (declaration-listed t s.few c (const_decl x n e) (home t s c m) k) in
+      let inside = all-member constant_fits (declarations t) (c, const_decl x n e) (constants-kept t s.ranges) (declaration-listed t s.few c (const_decl x n e) m k) in
       f.constants (constant c e) (subst (λ r. in_range r (constant c e) ≡ true) (sym (range-same c x)) inside)
 
   -- ---- locations
 
-  module _ (c : Component) (m : Member c (bodies t)) (k : ℕ) (below : k < length (locs_of c)) where
+  module _ (c : Component) (m : Member c (components_of t)) (k : ℕ) (below : k < length (locs_of c)) where
     automaton-listed : Member c (automata t)
-    automaton-listed = filter-member (λ a. is_automaton (body_of a)) (components_of t) c (home t s c m) (with-locations (body_of c) k below)
+    automaton-listed = filter-member (λ a. is_automaton (body_of a)) (components_of t) c m (with-locations (body_of c) k below)
 
     -- its number leads to the automaton
     automaton-at : slice_get (whole_net).autos (automaton_number (specification_of c) c) ≡ Some (net_auto c)
     automaton-at =
         let at = at-position (λ a. same_path (path_of a) (path_of c)) (automata t) (member-passes (λ a. same_path (path_of a) (path_of c)) (automata t) c automaton-listed (texts-self (path_of c))) in
         let there = filter-within (λ a. is_automaton (body_of a)) (components_of t) at.0 (at-member (automata t) (automaton_number t c) at.0 at.1) in
-        let is : at.0 ≡ c = paths-differ t s.single at.0 c there (home t s c m) (path-told (path_of at.0) (path_of c) at.2) in
+        let is : at.0 ≡ c = paths-differ t (scopes t s) at.0 c there m (path-told (path_of at.0) (path_of c) at.2) in
         ap (λ r. slice_get (whole_net).autos (automaton_number r c)) (root t s c m)
         ∙ get-map net_auto (automata t) (automaton_number t c) at.0 at.1
         ∙ ap (λ d. Some (net_auto d)) is
@@ -157,34 +194,62 @@ module _ (t : Source) (s : IsSound t) where
 
   -- ---- all
 
-  place-fits : (c : Component) (e : Entry) → IsFound t s (c, e) → is_valued (kind_at (reached (c, e))) ≡ true → form_fits whole_net None (net_kind (kind_at (reached (c, e)))) (net_object (c, e)) ≡ true
-  place-fits c (declared (const_decl x n e)) f v = constant-fits c f.body x n e f.placed v
-  place-fits c (declared (disc_decl x n e)) f v = variable-fits c f.body x n e f.placed v
-  place-fits c (declared (alg_decl x n e)) f v = absurd (false-true refl (decl-algebra t s.built c f.body (alg_decl x n e) f.placed))
-  place-fits c (declared (input_decl x n)) f v = absurd (false-true refl (decl-algebra t s.built c f.body (input_decl x n) f.placed))
-  place-fits c (declared (type_decl n x)) f v = absurd (false-true refl v)
-  place-fits c (declared (enum_decl n ls)) f v = absurd (false-true refl v)
-  place-fits c (declared (event_decl k h n)) f v = absurd (false-true refl v)
-  place-fits c (declared (equation_decl q)) f v = absurd (false-true refl v)
-  place-fits c (declared (invariant_decl i)) f v = absurd (false-true refl v)
-  place-fits c (declared (marked_decl q)) f v = absurd (false-true refl v)
-  place-fits c (literal k ls) f v =
-      let p = f.placed in
-      subst (λ j. (in_32_bits (pos k) && int_le (pos 0) (pos k) && int_lt (pos k) (pos j)) ≡ true) (sym (map-length (λ (i : Ident). i.text) ls))
-      (literal-fits (length ls) k (s.literals c f.body p.0 ls p.1).1 p.2)
-  place-fits c (location k) f v = location-fits c f.body k f.placed
-  place-fits c (inner n b) f v = absurd (false-true refl v)
-  place-fits c (definition n ps b) f v = absurd (false-true refl v)
-  place-fits c (instance i) f v = absurd (false-true refl v)
-  place-fits c (parameter k q) f v = absurd f.placed
+  abbrev Keeps : Component → Entry → Type 0
+  Keeps c e = is_valued (kind_at (reached (c, e))) ≡ true → (at : ℕ) → fits whole_net None (net_kind (kind_at (reached (c, e)))) (became c e at) ≡ true
 
-  -- a name that has a kind becomes an expression of that kind
-  pub name-fits : (c : Component) → Member c (bodies t) → (nm : Name) (at : ℕ) → is_valued (kind_at (found c nm)) ≡ true → fits whole_net None (net_kind (kind_at (found c nm))) (net_name c nm at) ≡ true
-  name-fits c m nm at v =
+  thing-fits : (c : Component) (e : Entry) → Member c (components_of t) → IsOf c e → is_parameter e ≡ false → is_valued (kind_at (reached (c, e))) ≡ true → form_fits whole_net None (net_kind (kind_at (reached (c, e)))) (net_object (c, e)) ≡ true
+  thing-fits c (declared (const_decl x n e)) l m p v = constant-fits c l x n e m v
+  thing-fits c (declared (disc_decl x n e)) l m p v = variable-fits c l x n e m v
+  thing-fits c (declared (alg_decl x n e)) l m p v = absurd (false-true refl (decl-algebra t s c l (alg_decl x n e) m))
+  thing-fits c (declared (input_decl x n)) l m p v = absurd (false-true refl (decl-algebra t s c l (input_decl x n) m))
+  thing-fits c (declared (type_decl n x)) l m p v = absurd (false-true refl v)
+  thing-fits c (declared (enum_decl n ls)) l m p v = absurd (false-true refl v)
+  thing-fits c (declared (event_decl k h n)) l m p v = absurd (false-true refl v)
+  thing-fits c (declared (equation_decl q)) l m p v = absurd (false-true refl v)
+  thing-fits c (declared (invariant_decl i)) l m p v = absurd (false-true refl v)
+  thing-fits c (declared (marked_decl q)) l m p v = absurd (false-true refl v)
+  thing-fits c (literal k ls) l m p v =
+      subst (λ j. (in_32_bits (pos k) && int_le (pos 0) (pos k) && int_lt (pos k) (pos j)) ≡ true) (sym (map-length (λ (i : Ident). i.text) ls))
+      (literal-fits (length ls) k (s.literals c l m.0 ls m.1).1 m.2)
+  thing-fits c (location k) l m p v = location-fits c l k m
+  thing-fits c (inner n b) l m p v = absurd (false-true refl v)
+  thing-fits c (definition n ps b) l m p v = absurd (false-true refl v)
+  thing-fits c (instance i) l m p v = absurd (false-true refl v)
+  thing-fits c (parameter k q) l m p v = absurd (false-true p refl)
+
+  things-keep : HoldsOfThings t s.few Keeps
+  things-keep c e l m p v at =
+      ap (λ (f : ℕ → NetExpr). fits whole_net None (net_kind (kind_at (reached (c, e)))) (f at)) (met_at-own things nothing arguments c e p) ∙ thing-fits c e l m p v
+
+  -- names keep their kinds, where what they find does
+  names-keep : (c : Component) → HoldsOfNames t s.few Keeps c → (nm : Name) (at : ℕ) → is_valued (kind_at (found c nm)) ≡ true → fits whole_net None (net_kind (kind_at (found c nm))) (net_name c nm at) ≡ true
+  names-keep c all nm at v =
       (elim (found c nm) as (λ r. found c nm ≡ r → is_valued (kind_at r) ≡ true → fits whole_net None (net_kind (kind_at r)) (net_name c nm at) ≡ true) [
         | missing ↦ λ h w. absurd (false-true refl w)
         | blocked ↦ λ h w. absurd (false-true refl w)
         | reached x ↦ λ h w.
-            let f = found-is t s c m nm x h in
-            ap (fits whole_net None (net_kind (kind_at (reached x)))) (name-followed c nm at x h f.own) ∙ place-fits x.0 x.1 f w
+            ap (fits whole_net None (net_kind (kind_at (reached x)))) (name-followed c nm at ∙ ap (λ r. met things nothing arguments r at) h) ∙ all nm x h w at
       ]) refl v
+
+  parameters-keep : HoldsOfParameters t s.few Keeps
+  parameters-keep o g n ps b i l giver all k (event_param x h m) hp v at = absurd (false-true refl v)
+  parameters-keep o g n ps b i l giver all k (alg_param ty m) hp v at =
+      let e = parameter-argument t s.known s.sorts s.matched o g n ps b i l k (alg_param ty m) hp in
+      let kind : Kind = type_kind (copy o n ps b g i) ty in
+      let met : AreMet g (asked_for g kind e.0) = λ d inside. elim inside [
+        | inl w ↦ subst (λ (x : Demand). same_kind (kind_of g x.received_kind x.value) x.kind ≡ true) (sym w) e.3
+        | inr w ↦ argument-met t s o g n ps b i l k e.0 ty m e.1 hp d w
+      ] in
+      ap (λ a. fits whole_net None (net_kind kind) (by_argument nothing (arguments (net_name g) g) (net_name g) (alg_param ty m) a at)) e.1
+      ∙ expr-fits whole_net g (net_name g) (names-keep g all) kind e.0 met (argument-small t s o g n ps b i l k e.0 e.1)
+  parameters-keep o g n ps b i l giver all k (location_param m) hp v at =
+      let e = parameter-argument t s.known s.sorts s.matched o g n ps b i l k (location_param m) hp in
+      let is = e.3 in
+      let kind : kind_at (found g is.name) ≡ bool_kind = ap kind_at is.is_found ∙ location-kind is.place.0 is.place.1 is.is_sort in
+      ap (λ a. fits whole_net None net.bool_kind (by_argument nothing (arguments (net_name g) g) (net_name g) (location_param m) a at)) (e.1 ∙ ap Some is.is_bare)
+      ∙ ap (λ j. fits whole_net None (net_kind j) (net_name g is.name at)) (sym kind)
+      ∙ names-keep g all is.name at (ap is_valued kind)
+
+  -- a name that has a kind becomes an expression of that kind
+  pub name-fits : (c : Component) → Member c (components_of t) → (nm : Name) (at : ℕ) → is_valued (kind_at (found c nm)) ≡ true → fits whole_net None (net_kind (kind_at (found c nm))) (net_name c nm at) ≡ true
+  name-fits c m = names-keep c (holds-of-names t s.few Keeps things-keep parameters-keep c m)

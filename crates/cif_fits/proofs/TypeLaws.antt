@@ -1,8 +1,7 @@
 -- A type of a source that has a kind has that kind in the net, and a constant of it fits the kind.
-use Rattle.std.proofs.Common.{◌≡◌, ℕ, zero, suc, ◌≤◌, ◌<◌, ℤ, pos, ◌-ℤ◌, true, false, ◌⊎◌, inl, inr, List, [], ◌∷◌, length, map, None, refl, sym, ◌∙◌, ap, subst, arith}
+use Rattle.std.proofs.Common.{◌≡◌, ℕ, zero, suc, ◌≤◌, ◌<◌, ℤ, pos, ◌-ℤ◌, true, false, ◌⊎◌, inl, inr, List, [], ◌∷◌, length, None, refl, sym, ◌∙◌, ap, subst, arith}
 use Rattle.std.specs.Prelude.{◌&&◌, flat_map, int_le, int_lt}
 use Rattle.std.proofs.lemmas.Int.{ints}
-use Rattle.std.proofs.lemmas.List.{length-append}
 use Rattle.cif_base.specs.declared.types.Ty.TheVariants as ty
 use Rattle.cif_ast.specs.Tree.{Tree}
 use Rattle.cif_ast.specs.declared.names.Ident.{Ident}
@@ -15,9 +14,9 @@ use Rattle.cif_model.specs.Meaning.{type_range}
 use Rattle.cif_model.specs.Kinds as net
 use Rattle.cif_model.specs.Kinds.{in_32_bits, number_fits, form_fits}
 use Rattle.cif_source.specs.Source.{TypeTree, bool_type, int_type, range_type, named_type, DeclTree, type_decl, enum_decl, event_decl, const_decl, alg_decl, input_decl, disc_decl, equation_decl, invariant_decl, marked_decl, Source, tree_at}
-use Rattle.cif_source.specs.Components.{Component, specification_of, body_of, params_of, Entry, declared, literal, location, inner, definition, instance, parameter}
+use Rattle.cif_source.specs.Components.{Component, specification_of, params_of, Entry, declared, literal, location, inner, definition, instance, parameter}
 use Rattle.cif_source.specs.Lookup.{ScopeEntry, Reached, reached, missing, blocked, found}
-use Rattle.cif_source.specs.Objects.{components_of, bodies, decls_of, Declared, declarations}
+use Rattle.cif_source.specs.Objects.{components_of, bodies, decls_of, declarations}
 use Rattle.cif_source.specs.Value.{constant}
 use Rattle.cif_source.specs.Types.{signed_range}
 use Rattle.cif_rules.specs.Constants.{decl_types, param_types, types_of, Bounds, bounds_in, bounds_of, bound_values}
@@ -28,8 +27,9 @@ use Rattle.cif_image.specs.Translation.{net_constant}
 use Rattle.cif_image.proofs.RuleLaws.{member-any}
 use Rattle.cif_fits.specs.Kinds.{net_kind}
 use Rattle.cif_fits.proofs.ExprLaws.{is_valued}
-use Rattle.cif_fits.proofs.Entries.{IsPlaced}
-use Rattle.cif_fits.proofs.SoundLaws.{IsSound, home, root, IsFound, found-is}
+use Rattle.cif_written.specs.Entries.{IsOf}
+use Rattle.cif_fits.proofs.Chains.{kind-within}
+use Rattle.cif_fits.proofs.SoundLaws.{IsSound, root, IsFound, found-is}
 
 -- ---- numbers
 
@@ -62,44 +62,34 @@ range-fits n lo hi h g = record { same = refl; constants = λ z k. within-bits l
 bool-fits : (n : Net) → TypeFits n bool_kind (plain_type ty.Bool)
 bool-fits n = record { same = refl; constants = λ z k. refl }
 
--- a type that a declaration of a body writes is one of the body's
+-- a type that a declaration of a component writes is one of the component's
 pub written : (c : Component) (d : DeclTree) (x : TypeTree) → Member d (decls_of c) → Member x (decl_types d) → Member x (types_of c)
 written c d x m k = append-right x (flat_map param_types (params_of c)) (flat_map decl_types (decls_of c)) (flat_map-member decl_types d (decls_of c) x m k)
 
-abbrev own_decls : Component → List Declared
-own_decls c = map (λ d. (c, d)) (decls_of c)
-
-own-count : (c : Component) → length (own_decls c) ≡ length (decls_of c)
-own-count c = map-length {B = Declared} (λ d. (c, d)) (decls_of c)
-
-as-many : (cs : List Component) → length (flat_map own_decls cs) ≡ length (flat_map decls_of cs)
-as-many [] = refl
-as-many (c ∷ cs) = omega (arith, as-many cs, own-count c, length-append (own_decls c) (flat_map own_decls cs), length-append (decls_of c) (flat_map decls_of cs))
-
 module _ (t : Source) (s : IsSound t) (n : Net) where
   -- no bound leaves 32 bits
-  bound-kept : (c : Component) → Member c (bodies t) → (e : Tree) → Member e (bound_values c) → in_32_bits (constant c e) ≡ true
+  bound-kept : (c : Component) → Member c (components_of t) → (e : Tree) → Member e (bound_values c) → in_32_bits (constant c e) ≡ true
   bound-kept c m e k =
       (elim (in_range (signed_range 32) (constant c e)) as (λ b. in_range (signed_range 32) (constant c e) ≡ b → b ≡ true) [
         | true ↦ λ i. refl
         | false ↦ λ i.
             let long : LongBound c (tree_at e) = member-any _ e (bound_values c) k (refl, i) in
-            absurd (s.ranges (tree_at e) (member-any (λ c. FaultyConstant c (tree_at e) ⊎ LeavesRange c (tree_at e) ⊎ LongBound c (tree_at e) ⊎ EmptyRange c (tree_at e)) c (components_of t) (home t s c m) (inr (inr (inl long)))))
+            absurd (s.ranges (tree_at e) (member-any (λ c. FaultyConstant c (tree_at e) ⊎ LeavesRange c (tree_at e) ⊎ LongBound c (tree_at e) ⊎ EmptyRange c (tree_at e)) c (components_of t) m (inr (inr (inl long)))))
       ]) refl
 
-  bounds-kept : (c : Component) → Member c (bodies t) → (lower upper : Tree) → Member (range_type lower upper) (types_of c) → (in_32_bits (constant c lower) ≡ true) × (in_32_bits (constant c upper) ≡ true)
+  bounds-kept : (c : Component) → Member c (components_of t) → (lower upper : Tree) → Member (range_type lower upper) (types_of c) → (in_32_bits (constant c lower) ≡ true) × (in_32_bits (constant c upper) ≡ true)
   bounds-kept c m lower upper k =
       let two : Member {A = Bounds} (lower, upper) (bounds_of c) = flat_map-member bounds_in (range_type lower upper) (types_of c) (lower, upper) k (inl refl) in (
         bound-kept c m lower (flat_map-member (λ (b : Bounds). b.0 ∷ b.1 ∷ []) (lower, upper) (bounds_of c) lower two (inl refl)),
         bound-kept c m upper (flat_map-member (λ (b : Bounds). b.0 ∷ b.1 ∷ []) (lower, upper) (bounds_of c) upper two (inr (inl refl))),
       )
 
-  -- for the types that the bodies write
+  -- for the types that the components write
   abbrev Follow : (Component → TypeTree → Kind) → (Component → TypeTree → NetType) → Type 0
-  Follow kinds types = (c : Component) → Member c (bodies t) → (x : TypeTree) → Member x (types_of c) → is_valued (kinds c x) ≡ true → TypeFits n (kinds c x) (types c x)
+  Follow kinds types = (c : Component) → Member c (components_of t) → (x : TypeTree) → Member x (types_of c) → is_valued (kinds c x) ≡ true → TypeFits n (kinds c x) (types c x)
 
   module _ (kinds : Component → TypeTree → Kind) (types : Component → TypeTree → NetType) (more : Follow kinds types) where
-    place-follows : (c : Component) (e : Entry) → Member c (bodies t) → IsPlaced (body_of c) e → is_valued (type_kind_at kinds (reached (c, e))) ≡ true → TypeFits n (type_kind_at kinds (reached (c, e))) (type_at types (reached (c, e)))
+    place-follows : (c : Component) (e : Entry) → Member c (components_of t) → IsOf c e → is_valued (type_kind_at kinds (reached (c, e))) ≡ true → TypeFits n (type_kind_at kinds (reached (c, e))) (type_at types (reached (c, e)))
     place-follows c (declared (type_decl i x)) m p v = more c m x (written c (type_decl i x) x p (inl refl)) v
     place-follows c (declared (enum_decl i ls)) m p v = enum-fits n ls (s.literals c m i ls p).1
     place-follows c (declared (event_decl k h i)) m p v = absurd (false-true refl v)
@@ -120,7 +110,7 @@ module _ (t : Source) (s : IsSound t) (n : Net) where
     reached-follows : (r : Reached) → ((y : ScopeEntry) → r ≡ reached y → IsFound t s y) → is_valued (type_kind_at kinds r) ≡ true → TypeFits n (type_kind_at kinds r) (type_at types r)
     reached-follows missing f v = absurd (false-true refl v)
     reached-follows blocked f v = absurd (false-true refl v)
-    reached-follows (reached (c, e)) f v = let is = f (c, e) refl in place-follows c e is.body is.placed v
+    reached-follows (reached (c, e)) f v = let is = f (c, e) refl in place-follows c e is.home is.own v
 
     by-follows : Follow (type_kind_by kinds) (type_by types)
     by-follows c m bool_type k v = bool-fits n
@@ -132,13 +122,11 @@ module _ (t : Source) (s : IsSound t) (n : Net) where
   within-follows zero = by-follows (λ c x. no_kind) (λ c x. plain_type (ty.Int (pos 0) (pos 0))) (λ c m x k v. absurd (false-true refl v))
   within-follows (suc m) = by-follows (type_kind_within m) (type_within m) (within-follows m)
 
-  counted : (r : Source) → r ≡ t → length (declarations r) ≡ length (flat_map decls_of (bodies r))
-  counted r is =
-      subst (λ r. length (declarations r) ≡ length (flat_map decls_of (bodies r))) (sym is)
-      (ap (λ cs. length (flat_map own_decls cs)) s.listed ∙ as-many (bodies t))
-
-  -- a type that a body writes has the kind in the net, where it has one
-  pub type-fits : (c : Component) → Member c (bodies t) → (x : TypeTree) → Member x (types_of c) → is_valued (type_kind c x) ≡ true → TypeFits n (type_kind c x) (net_type c x)
+  -- a type that a component writes has the kind in the net, where it has one
+  pub type-fits : (c : Component) → Member c (components_of t) → (x : TypeTree) → Member x (types_of c) → is_valued (type_kind c x) ≡ true → TypeFits n (type_kind c x) (net_type c x)
   type-fits c m x k v =
-      subst (λ j. TypeFits n (type_kind c x) (type_within j c x)) (sym (counted (specification_of c) (root t s c m)))
-      (within-follows (length (flat_map decls_of (bodies (specification_of c)))) c m x k v)
+      let same : type_kind_within (length (declarations t)) c x ≡ type_kind c x = kind-within t s.few (length (flat_map decls_of (bodies (specification_of c)))) c m x v in
+      let all : length (declarations (specification_of c)) ≡ length (declarations t) = ap (λ r. length (declarations r)) (root t s c m) in
+      subst (λ j. TypeFits n j (net_type c x)) same
+      (subst (λ j. TypeFits n (type_kind_within (length (declarations t)) c x) (type_within j c x)) (sym all)
+      (within-follows (length (declarations t)) c m x k (ap is_valued same ∙ v)))

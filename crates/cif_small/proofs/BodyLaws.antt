@@ -1,6 +1,7 @@
--- What holds in the body of a component holds in its declarations and its edges, and bounds what its edges assign.
+-- What holds in the body of a component holds in its declarations, its edges and the arguments of its instances, and bounds what
+-- its edges assign.
 use Rattle.std.proofs.Common.{◌≡◌, ℕ, ◌<◌, inl, inr, List, [], ◌∷◌, map, length, sym, subst, arith}
-use Rattle.std.specs.Prelude.{flat_map}
+use Rattle.std.specs.Prelude.{flat_map, filter_map}
 use Rattle.std.specs.List.{AllByRecursion, sum_by}
 use Rattle.std.proofs.lemmas.List.Sums.{sum_by-cons}
 use Rattle.cif_ast.specs.Tree.{Tree, declaration, component, definition, instance, ItemTrees, no_items, items, BodyTree, group, automaton}
@@ -16,8 +17,9 @@ use Rattle.cif_ast.specs.declared.edges.Edge.{Edge}
 use Rattle.cif_ast.specs.declared.edges.Loc.{Loc}
 use Rattle.cif_system.specs.Words.{Member}
 use Rattle.cif_system.proofs.Distinct.{member-append}
-use Rattle.cif_source.specs.Source.{EdgeTree, edge_tree, LocationTree, location_tree, enum_decl, decl_tree, source_items, source_body, list_of_items}
-use Rattle.cif_source.specs.Objects.{item_decls, decls_in, locs_in}
+use Rattle.cif_source.specs.Source.{EdgeTree, edge_tree, LocationTree, location_tree, InstanceTree, enum_decl, decl_tree, source_items, source_body, list_of_items}
+use Rattle.cif_source.specs.Objects.{item_decls, items_in, decls_in, locs_in}
+use Rattle.cif_source.specs.Scoping.{as_instance}
 use Rattle.cif_rules.specs.BodyRules.{targets_of_all}
 use Rattle.cif_small.proofs.UpdateLaws.{holds-view_updates, assigned-counted}
 
@@ -104,3 +106,21 @@ module _ (limit : ℕ) (x : EdgeTree) (small : IsSmallEdge limit x) where
   edge-few =
       let P : EdgeTree → Type 0 = λ y. length (targets_of_all y.updates) < limit in
       subst P (sym small.is) (omega (arith, assigned-counted small.written.updates, small.few))
+
+-- ---- instances
+
+-- the arguments of the instances of a body
+items-arguments : (is : ItemTrees) → HoldsInItemTrees small_parts is → (i : InstanceTree) → Member i (filter_map as_instance (list_of_items (source_items is))) → (e : Tree) → Member e i.args → HoldsInTree small_parts e
+items-arguments no_items h i m e k = absurd m
+items-arguments (items (declaration d) is) h i m e k = items-arguments is h.1 i m e k
+items-arguments (items (component x b) is) h i m e k = items-arguments is h.1 i m e k
+items-arguments (items (definition x ps b) is) h i m e k = items-arguments is h.1 i m e k
+items-arguments (items (instance j) is) h i m e k =
+    elim m [
+      | inl same ↦ exprs-hold j.args h.0.1 e (subst (λ (x : InstanceTree). Member e x.args) same k)
+      | inr r ↦ items-arguments is h.1 i r e k
+    ]
+
+pub body-arguments : (b : BodyTree) → HoldsInBodyTree small_parts b → (i : InstanceTree) → Member i (filter_map as_instance (items_in (source_body b))) → (e : Tree) → Member e i.args → HoldsInTree small_parts e
+body-arguments (group is) h i m e k = items-arguments is h i m e k
+body-arguments (automaton a) h i m e k = absurd m

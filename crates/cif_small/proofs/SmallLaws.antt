@@ -1,7 +1,7 @@
 -- Each body of a source stands for the tree of a body in the specification, so that it has small parts where the specification
 -- is counted and has small numbers.
-use Rattle.std.proofs.Common.{◌≡◌, ℕ, ◌<◌, ◌^◌, inl, inr, map, sym, subst, refl, arith}
-use Rattle.std.specs.Prelude.{flat_map}
+use Rattle.std.proofs.Common.{◌≡◌, ℕ, suc, ◌<◌, ◌^◌, inl, inr, map, sym, subst, refl, arith}
+use Rattle.std.specs.Prelude.{flat_map, filter_map}
 use Rattle.cif_ast.specs.Tree.{ItemTree, declaration, component, definition, instance, ItemTrees, no_items, items, BodyTree, group, automaton}
 use Rattle.cif_ast.specs.View.{view_items}
 use Rattle.cif_ast.specs.Throughout.{HoldsInItemTree, HoldsInItemTrees, HoldsInBodyTree}
@@ -12,10 +12,12 @@ use Rattle.cif_system.specs.Words.{Member}
 use Rattle.cif_system.proofs.Distinct.{member-append}
 use Rattle.cif_source.specs.Source.{EdgeTree, LocationTree, enum_decl, param_tree, SourceBody, source_item, source_items, source_body, source_of}
 use Rattle.cif_source.specs.Components.{Component, whole, part, blank, body_of}
-use Rattle.cif_source.specs.Objects.{bodies, bodies_in, bodies_at, bodies_under, decls_in, locs_in}
+use Rattle.cif_source.specs.Objects.{bodies, bodies_in, bodies_at, bodies_under, items_in, decls_in, locs_in}
+use Rattle.cif_source.specs.Scoping.{as_instance}
 use Rattle.cif_rules.specs.BodyRules.{edges_of}
 use Rattle.cif_image.specs.Small.{HasSmallParts}
-use Rattle.cif_small.proofs.BodyLaws.{body-literals, body-edges, edge-guards, edge-updates, edge-few}
+use Rattle.cif_fits.specs.Forms.{HasSmallArguments}
+use Rattle.cif_small.proofs.BodyLaws.{body-literals, body-edges, edge-guards, edge-updates, edge-few, body-arguments}
 
 -- a body that is written, in which small parts stand, and that is counted below the limit
 pub record IsSmallBody (limit : ℕ) (b : SourceBody) : Type 0 where
@@ -75,3 +77,8 @@ small-parts spec counted small =
       updates = λ c m x k. edge-updates (2 ^ 31) x (edge c m x k);
       few = λ c m x k. edge-few (2 ^ 31) x (edge c m x k);
     }
+
+pub small-arguments : (spec : Spec) → HasSmallNumbers spec → HasSmallArguments (source_of spec)
+small-arguments spec small c m i k =
+    let body = in-source (suc (count_of_item_trees (view_items spec.items))) (view_items spec.items) small (omega arith) c m in
+    body-arguments body.written body.holds i (subst (λ b. Member i (filter_map as_instance (items_in b))) body.is k)
