@@ -48,7 +48,8 @@ use Rattle.cif_fits.specs.Kinds.{net_kind, AreMet}
 use Rattle.cif_fits.proofs.KindLaws.{texts-self, kind-self}
 use Rattle.cif_fits.proofs.ExprLaws.{is_valued, expr-fits}
 use Rattle.cif_fits.proofs.Places.{HoldsOfNames, HoldsOfThings, HoldsOfParameters, holds-of-names}
-use Rattle.cif_fits.proofs.SoundLaws.{IsSound, scopes, root, decl-algebra}
+use Rattle.cif_fits.proofs.SoundLaws.{IsSound, scopes, root}
+use Rattle.cif_fits.proofs.FormLaws.{decl-algebra}
 use Rattle.cif_fits.proofs.TypeLaws.{literal-fits, written, type-fits}
 
 -- ---- lists
@@ -200,8 +201,8 @@ module _ (t : Source) (s : IsSound t) where
   thing-fits : (c : Component) (e : Entry) → Member c (components_of t) → IsOf c e → is_parameter e ≡ false → is_valued (kind_at (reached (c, e))) ≡ true → form_fits whole_net None (net_kind (kind_at (reached (c, e)))) (net_object (c, e)) ≡ true
   thing-fits c (declared (const_decl x n e)) l m p v = constant-fits c l x n e m v
   thing-fits c (declared (disc_decl x n e)) l m p v = variable-fits c l x n e m v
-  thing-fits c (declared (alg_decl x n e)) l m p v = absurd (false-true refl (decl-algebra t s c l (alg_decl x n e) m))
-  thing-fits c (declared (input_decl x n)) l m p v = absurd (false-true refl (decl-algebra t s c l (input_decl x n) m))
+  thing-fits c (declared (alg_decl x n e)) l m p v = absurd (false-true refl (decl-algebra t s.forms c l (alg_decl x n e) m))
+  thing-fits c (declared (input_decl x n)) l m p v = absurd (false-true refl (decl-algebra t s.forms c l (input_decl x n) m))
   thing-fits c (declared (type_decl n x)) l m p v = absurd (false-true refl v)
   thing-fits c (declared (enum_decl n ls)) l m p v = absurd (false-true refl v)
   thing-fits c (declared (event_decl k h n)) l m p v = absurd (false-true refl v)

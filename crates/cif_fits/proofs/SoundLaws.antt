@@ -1,15 +1,14 @@
 -- What a source of these forms that keeps its rules and has small parts gives: few components, declared once, with constants in
 -- their ranges and small numbers, and names that find entries of components.
-use Rattle.std.proofs.Common.{◌≡◌, ℕ, ◌≤◌, true, List, length, sym, subst, arith}
+use Rattle.std.proofs.Common.{◌≡◌, ℕ, ◌≤◌, List, length, sym, subst, arith}
 use Rattle.std.specs.Prelude.{filter_map}
-use Rattle.std.specs.List.{list_all}
 use Rattle.cif_ast.specs.Tree.{Tree}
 use Rattle.cif_ast.specs.Throughout.{HoldsInTree}
 use Rattle.cif_ast.specs.SmallNumbers.{AreFewLiterals, small_parts}
 use Rattle.cif_ast.specs.declared.names.Ident.{Ident}
 use Rattle.cif_ast.specs.declared.names.Name.{Name}
 use Rattle.cif_system.specs.Words.{Member}
-use Rattle.cif_source.specs.Source.{DeclTree, enum_decl, InstanceTree, Source}
+use Rattle.cif_source.specs.Source.{enum_decl, InstanceTree, Source}
 use Rattle.cif_source.specs.Components.{Component, specification_of, as_written}
 use Rattle.cif_source.specs.Lookup.{ScopeEntry, reached, found}
 use Rattle.cif_source.specs.Objects.{components_of, most_objects, items_in, decls_in, decls_of}
@@ -17,18 +16,14 @@ use Rattle.cif_source.specs.Scoping.{UnknownDue, DuplicateDue, WrongKindDue, as_
 use Rattle.cif_source.proofs.ReachLaws.{frames-listed, found-listed}
 use Rattle.cif_rules.specs.BodyRules.{MismatchDue}
 use Rattle.cif_rules.specs.InstanceRules.{ConstantRangeDue}
-use Rattle.cif_image.specs.Built.{every_decl, is_no_algebra, every_location, has_no_equations}
 use Rattle.cif_image.specs.Small.{HasSmallParts}
 use Rattle.cif_image.specs.WellFormed.{unknown, duplicate, wrong_kind, mismatch, too_many_objects, constant_range, KeepsBefore, algebraic}
 use Rattle.cif_image.proofs.RuleLaws.{few-kept}
 use Rattle.cif_image.proofs.SingleLaws.{scopes-single}
 use Rattle.cif_image.proofs.DistinctLaws.{ScopesAreSingle}
-use Rattle.cif_model.proofs.Passing.{all-member}
-use Rattle.cif_system.proofs.Picks.{and-left}
 use Rattle.cif_written.specs.Entries.{IsOf}
 use Rattle.cif_written.proofs.Alike.{body-written}
 use Rattle.cif_written.proofs.Bodies.{found-good, components-written}
-use Rattle.cif_written.proofs.RuleLaws.{bodies-pass}
 use Rattle.cif_fits.specs.Forms.{HasForms, HasSmallArguments}
 
 -- ---- what the premises give
@@ -63,12 +58,6 @@ module _ (t : Source) (s : IsSound t) where
 
   pub root : (c : Component) → Member c (components_of t) → specification_of c ≡ t
   root c m = (frames-listed t s.few c m).0
-
-  -- no component declares an input or an algebraic variable
-  pub decl-algebra : (c : Component) → Member c (components_of t) → (d : DeclTree) → Member d (decls_of c) → is_no_algebra d ≡ true
-  decl-algebra c m d k =
-      all-member is_no_algebra (decls_of c) d
-      (bodies-pass t (λ b. list_all is_no_algebra (decls_in b)) (and-left (every_decl is_no_algebra t) (every_location has_no_equations t) s.forms.no_algebra) c (components-written t c m)) k
 
   -- ---- what names find
 

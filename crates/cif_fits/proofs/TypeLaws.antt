@@ -68,7 +68,7 @@ written c d x m k = append-right x (flat_map param_types (params_of c)) (flat_ma
 
 module _ (t : Source) (s : IsSound t) (n : Net) where
   -- no bound leaves 32 bits
-  bound-kept : (c : Component) → Member c (components_of t) → (e : Tree) → Member e (bound_values c) → in_32_bits (constant c e) ≡ true
+  pub bound-kept : (c : Component) → Member c (components_of t) → (e : Tree) → Member e (bound_values c) → in_32_bits (constant c e) ≡ true
   bound-kept c m e k =
       (elim (in_range (signed_range 32) (constant c e)) as (λ b. in_range (signed_range 32) (constant c e) ≡ b → b ≡ true) [
         | true ↦ λ i. refl

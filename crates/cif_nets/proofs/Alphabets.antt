@@ -12,7 +12,7 @@ use Rattle.cif_model.specs.Facts.{has}
 use Rattle.cif_source.specs.Source.{syncs, AutomatonTree, automaton_body, Source}
 use Rattle.cif_source.specs.Components.{Component, body_of}
 use Rattle.cif_source.specs.Lookup.{denotes}
-use Rattle.cif_source.specs.Objects.{automata, bodies, EventEdge, event_edges, events}
+use Rattle.cif_source.specs.Objects.{components_of, automata, EventEdge, event_edges, events}
 use Rattle.cif_source.specs.Uses.{uses}
 use Rattle.cif_source.specs.Step.{event_at, role_of, synchronises}
 use Rattle.cif_rules.specs.InstanceRules as rules
@@ -21,12 +21,11 @@ use Rattle.cif_image.specs.Flat.{event_number, named_events, alphabet_in, alphab
 use Rattle.cif_image.proofs.SystemLaws.{alphabet-same}
 use Rattle.cif_image.proofs.KeptLaws.{member-passes}
 use Rattle.cif_image.proofs.RuleLaws.{member-any, all-from}
-use Rattle.cif_image.proofs.FormLaws.{way-syncs}
+use Rattle.cif_fits.proofs.FormLaws.{way-syncs}
 use Rattle.cif_nets.proofs.Sound.{IsSound, alphabets}
-use Rattle.cif_nets.proofs.Forms.{automaton-body, edge-of, use-of}
-use Rattle.cif_nets.proofs.Finding.{event-use, leads-event}
+use Rattle.cif_nets.proofs.Forms.{automaton-home, edge-of, use-of}
+use Rattle.cif_nets.proofs.Finding.{event-use, Numbered, numbered}
 use Rattle.cif_nets.proofs.Uses.{event-used, alphabet-used, monitor-used}
-use Rattle.cif_nets.proofs.Numbers.{Numbered, numbered}
 use Rattle.cif_nets.proofs.Tests.{eq-true, true-else}
 
 named-are : (c : Component) (nms : List Name) → ((nm : Name) → Member nm nms → event_at (denotes c nm) ≡ Some (event_number c nm)) → named_events c nms ≡ map (event_number c) nms
@@ -48,10 +47,10 @@ abbrev asked_names : Component → List Name
 asked_names c = flat_map synchronised_name (event_edges c) ++ rules.monitored_in (body_of c)
 
 module _ (t : Source) (h : IsSound t) where
-  used-numbered : (c : Component) → Member c (bodies t) → (nm : Name) → Member (event-use nm) (uses c) → Numbered t h c nm
-  used-numbered c m nm k = numbered t h c nm (leads-event t h c m nm k)
+  used-numbered : (c : Component) → Member c (components_of t) → (nm : Name) → Member (event-use nm) (uses c) → Numbered t h c nm
+  used-numbered c m nm k = numbered t h c m nm k
 
-  pub edge-numbered : (c : Component) → Member c (bodies t) → (w : EventEdge) → Member w (event_edges c) → Numbered t h c w.event_use.name
+  pub edge-numbered : (c : Component) → Member c (components_of t) → (w : EventEdge) → Member w (event_edges c) → Numbered t h c w.event_use.name
   edge-numbered c m w k = used-numbered c m w.event_use.name (event-used c w.edge (edge-of c w k) w.event_use (use-of c w k))
 
   -- an event that is asked for stands in the alphabet
@@ -65,15 +64,15 @@ module _ (t : Source) (h : IsSound t) where
   -- the event of an edge stands in the alphabet
   pub edge-inside : (c : Component) → Member c (automata t) → (w : EventEdge) → Member w (event_edges c) → has (alphabet_of c) (event_number c w.event_use.name) ≡ true
   edge-inside c a w k =
-      let m = automaton-body t h c a in
+      let m = automaton-home t c a in
       inside-alphabet c a w.event_use.name
       (append-left w.event_use.name (flat_map synchronised_name (event_edges c)) (rules.monitored_in (body_of c))
-      (subst (Member w.event_use.name) (sym (synchronised-all (event_edges c) (way-syncs t h.built c m))) (map-member use_name w (event_edges c) k)))
+      (subst (Member w.event_use.name) (sym (synchronised-all (event_edges c) (way-syncs t h.forms c m))) (map-member use_name w (event_edges c) k)))
       (edge-numbered c m w k).number
 
   module _ (c : Component) (m : Member c (automata t)) (a : AutomatonTree) (e : body_of c ≡ automaton_body a) where
-    home : Member c (bodies t)
-    home = automaton-body t h c m
+    home : Member c (components_of t)
+    home = automaton-home t c m
 
     alphabet-numbered : (nm : Name) → Member nm (unwrap_or a.alphabet []) → Numbered t h c nm
     alphabet-numbered nm k = used-numbered c home nm (alphabet-used c a e nm k)
@@ -90,7 +89,7 @@ module _ (t : Source) (h : IsSound t) where
 
     synchronised-numbered : (nm : Name) → Member nm (flat_map synchronised_name (event_edges c)) → Numbered t h c nm
     synchronised-numbered nm k =
-        let w = member-map use_name nm (event_edges c) (subst (Member nm) (synchronised-all (event_edges c) (way-syncs t h.built c home)) k) in
+        let w = member-map use_name nm (event_edges c) (subst (Member nm) (synchronised-all (event_edges c) (way-syncs t h.forms c home)) k) in
         subst (Numbered t h c) (sym w.2) (edge-numbered c home w.0 w.1)
 
     pub alphabet-below : (x : ℕ) → Member x (alphabet_of c) → x < length (events t)

@@ -1,25 +1,23 @@
 -- No two automata of a net assign one variable: each assigns those that it declares.
 use Rattle.std.proofs.Common.{◌≡◌, ℕ, true, inl, inr, List, [], ◌∷◌, map, refl, sym, ◌∙◌, ap, subst}
-use Rattle.std.specs.Prelude.{not, flat_map, filter}
-use Rattle.std.specs.List.{list_all, Any}
+use Rattle.std.specs.List.{list_all}
 use Rattle.cif_ast.specs.declared.names.Name.{Name}
 use Rattle.cif_system.specs.Words.{Member, AreDistinct}
-use Rattle.cif_system.proofs.Picks.{flat_map-member, map-member}
 use Rattle.cif_system.proofs.Distinct.{member-map, member-flat_map, filter-distinct}
 use Rattle.cif_model.specs.Net.{NetEdge}
 use Rattle.cif_model.specs.Exprs.{targets}
 use Rattle.cif_model.specs.Facts.{are_apart, auto_targets, are_all_apart}
 use Rattle.cif_source.specs.Source.{EdgeTree, Source}
-use Rattle.cif_source.specs.Components.{Component, body_of, path_of}
-use Rattle.cif_source.specs.Lookup.{found}
-use Rattle.cif_source.specs.Objects.{bodies, Declared, automata, is_automaton, event_edges}
+use Rattle.cif_source.specs.Components.{Component, body_of}
+use Rattle.cif_source.specs.Objects.{components_of, Declared, automata, is_automaton, event_edges}
 use Rattle.cif_rules.specs.BodyRules.{edges_of, targets_of_all, LeadsElsewhere}
 use Rattle.cif_image.specs.Flat.{net_auto, net_edge, variable_number}
-use Rattle.cif_image.proofs.RuleLaws.{member-any, all-from}
-use Rattle.cif_image.proofs.BodyLaws.{is_single, paths-distinct}
-use Rattle.cif_nets.proofs.Sound.{IsSound, own, listed, body-single}
-use Rattle.cif_nets.proofs.Forms.{automaton-body, edge-of}
-use Rattle.cif_nets.proofs.Finding.{LeadsToVariable}
+use Rattle.cif_image.proofs.RuleLaws.{all-from}
+use Rattle.cif_written.specs.Denoted.{DenotesVariable}
+use Rattle.cif_written.proofs.OwnLaws.{assigned-own}
+use Rattle.cif_nets.proofs.Sound.{IsSound, own, scopes, as-body}
+use Rattle.cif_nets.proofs.Forms.{automaton-home, edge-of}
+use Rattle.cif_nets.proofs.Distinct.{components-distinct}
 use Rattle.cif_nets.proofs.Assigning.{targets-are, one-variable, leads}
 use Rattle.cif_nets.proofs.Tests.{both, apart-none}
 
@@ -38,20 +36,13 @@ auto-target c v m =
     let nm = member-map (variable_number c) v (targets_of_all w.0.edge.updates) (subst (Member v) (targets-are c w.0.edge.updates) (subst (λ (y : NetEdge). Member v (targets y.updates)) w.2 x.2)) in
     record { name = nm.0; edge = w.0.edge; is_edge = edge-of c w.0 w.1; is_target = nm.1; number = nm.2 }
 
-distinct-from : {A B : Type 0} (f : A → B) (xs : List A) → AreDistinct (map f xs) → AreDistinct xs
-distinct-from f [] h = tt
-distinct-from f (x ∷ xs) h = (λ m. h.0 (map-member f x xs m), distinct-from f xs h.1)
-
 module _ (t : Source) (h : IsSound t) where
-  -- a variable that a body assigns is its own
-  its-own : (c : Component) → Member c (bodies t) → (v : ℕ) (a : Assigned c v) → (l : LeadsToVariable t c a.name) → (l.place ≡ c → ⊥) → ⊥
+  -- a variable that a component assigns is its own
+  its-own : (c : Component) → Member c (components_of t) → (v : ℕ) (a : Assigned c v) → (l : DenotesVariable t c a.name) → (l.place ≡ c → ⊥) → ⊥
   its-own c m v a l other =
-      own t h a.name.at (member-any (λ c. Any (λ (nm : Name). (nm.at ≡ a.name.at) × LeadsElsewhere c (found c nm)) (flat_map (λ (e : EdgeTree). targets_of_all e.updates) (edges_of c))) c (bodies t) m
-      (member-any (λ (nm : Name). (nm.at ≡ a.name.at) × LeadsElsewhere c (found c nm)) a.name (flat_map (λ (e : EdgeTree). targets_of_all e.updates) (edges_of c))
-      (flat_map-member (λ (e : EdgeTree). targets_of_all e.updates) a.edge (edges_of c) a.name a.is_edge a.is_target)
-      (refl, subst (LeadsElsewhere c) (sym l.is_found) other)))
+      assigned-own t (own t h) c (as-body t h c m) a.edge a.is_edge a.name a.is_target (subst (LeadsElsewhere c) (sym l.is_found) other)
 
-  two-apart : (c d : Component) → Member c (bodies t) → Member d (bodies t) → (c ≡ d → ⊥) → are_apart (auto_targets (net_auto c)) (auto_targets (net_auto d)) ≡ true
+  two-apart : (c d : Component) → Member c (components_of t) → Member d (components_of t) → (c ≡ d → ⊥) → are_apart (auto_targets (net_auto c)) (auto_targets (net_auto d)) ≡ true
   two-apart c d m k other =
       apart-none (auto_targets (net_auto c)) (auto_targets (net_auto d)) (λ v i j.
       let x = auto-target c v i in
@@ -62,7 +53,7 @@ module _ (t : Source) (h : IsSound t) where
       let place : first.place ≡ second.place = ap (λ (e : Declared). e.0) one in
       its-own c m v x first (λ p. its-own d k v y second (λ q. other (sym p ∙ place ∙ q))))
 
-  listed-apart : (cs : List Component) → AreDistinct cs → ((c : Component) → Member c cs → Member c (bodies t)) → are_all_apart (map auto_targets (map net_auto cs)) ≡ true
+  listed-apart : (cs : List Component) → AreDistinct cs → ((c : Component) → Member c cs → Member c (components_of t)) → are_all_apart (map auto_targets (map net_auto cs)) ≡ true
   listed-apart [] distinct home = refl
   listed-apart (c ∷ cs) distinct home =
       both (list_all (are_apart (auto_targets (net_auto c))) (map auto_targets (map net_auto cs))) (are_all_apart (map auto_targets (map net_auto cs)))
@@ -73,10 +64,7 @@ module _ (t : Source) (h : IsSound t) where
       ∙ two-apart c d.0 (home c (inl refl)) (home d.0 (inr d.1)) (λ same. distinct.0 (subst (λ x. Member x cs) (sym same) d.1))))
       (listed-apart cs distinct.1 (λ d i. home d (inr i)))
 
-  automata-distinct : AreDistinct (automata t)
-  automata-distinct =
-      subst (λ cs. AreDistinct (filter (λ c. is_automaton (body_of c)) cs)) (sym (listed t h))
-      (filter-distinct (λ c. is_automaton (body_of c)) (bodies t) (distinct-from path_of (bodies t) (paths-distinct t (all-from is_single (bodies t) (λ c m. ap not (body-single t h c m))))))
-
   pub autos-apart : are_all_apart (map auto_targets (map net_auto (automata t))) ≡ true
-  autos-apart = listed-apart (automata t) automata-distinct (automaton-body t h)
+  autos-apart =
+      listed-apart (automata t) (filter-distinct (λ c. is_automaton (body_of c)) (components_of t) (components-distinct t (scopes t h)))
+      (automaton-home t)

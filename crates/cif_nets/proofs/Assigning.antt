@@ -1,27 +1,26 @@
 -- The variables that the updates of a net assign are those that the source's updates name, and no two updates of one list
 -- assign one variable.
 use Rattle.std.proofs.Common.{◌≡◌, ℕ, inl, inr, List, [], ◌∷◌, ◌++◌, map, refl, sym, ◌∙◌, ap, subst}
-use Rattle.std.specs.Prelude.{flat_map, slice_get}
-use Rattle.std.specs.List.{Any}
+use Rattle.std.specs.Prelude.{slice_get}
 use Rattle.std.proofs.lemmas.List.{map-append}
 use Rattle.cif_ast.specs.Tree.{UpdateTree, assignment, selection, UpdateTrees, no_updates, updates, UpdateBranches, no_update_branches, update_branches}
 use Rattle.cif_ast.specs.declared.names.Name.{Name}
 use Rattle.cif_system.specs.Words.{Member, Before}
 use Rattle.cif_system.proofs.Lists.{some-same}
-use Rattle.cif_system.proofs.Picks.{append-left, append-right, flat_map-member}
+use Rattle.cif_system.proofs.Picks.{append-left, append-right}
 use Rattle.cif_system.proofs.Distinct.{member-append}
 use Rattle.cif_model.specs.Exprs.{Written, writes_all, writes_by, writes_in, targets}
 use Rattle.cif_source.specs.Source.{EdgeTree, disc_decl, Source, list_of_updates}
 use Rattle.cif_source.specs.Components.{Component, declared}
 use Rattle.cif_source.specs.Lookup.{reached}
-use Rattle.cif_source.specs.Objects.{bodies, Declared, variables}
-use Rattle.cif_rules.specs.BodyRules.{edges_of, targets_of_all, targets_of, targets_of_branches, lists_in_all, lists_in, lists_in_branches, lists_of, AssignsTwice}
+use Rattle.cif_source.specs.Objects.{components_of, Declared, variables}
+use Rattle.cif_rules.specs.BodyRules.{edges_of, targets_of_all, targets_of, targets_of_branches, lists_in_all, lists_in, lists_in_branches, lists_of}
 use Rattle.cif_image.specs.Flat.{variable_number, net_updates_of, net_update_of, net_update_branches_of}
-use Rattle.cif_image.proofs.RuleLaws.{member-any}
-use Rattle.cif_nets.proofs.Sound.{IsSound, once}
-use Rattle.cif_nets.proofs.Finding.{LeadsToVariable, leads-variable}
+use Rattle.cif_written.specs.Denoted.{DenotesVariable}
+use Rattle.cif_written.proofs.OwnLaws.{assigned-once}
+use Rattle.cif_nets.proofs.Sound.{IsSound, own, once, as-body}
+use Rattle.cif_nets.proofs.Finding.{variable-denoted, variable-there}
 use Rattle.cif_nets.proofs.Uses.{variable-used}
-use Rattle.cif_nets.proofs.Numbers.{variable-there}
 use Rattle.cif_nets.proofs.Tests.{contained}
 
 -- ---- numbers of names
@@ -125,16 +124,16 @@ abbrev pub SameDeclared : Declared → Declared → Type 0
 SameDeclared d e = d ≡ e
 
 module _ (t : Source) (h : IsSound t) where
-  -- names of one number lead to one variable
-  pub one-variable : (c d : Component) (x y : Name) (k : LeadsToVariable t c x) (l : LeadsToVariable t d y) → variable_number c x ≡ variable_number d y
+  -- names of one number denote one variable
+  pub one-variable : (c d : Component) (x y : Name) (k : DenotesVariable t c x) (l : DenotesVariable t d y) → variable_number c x ≡ variable_number d y
       → SameDeclared (k.place, disc_decl k.type_of k.ident k.first) (l.place, disc_decl l.type_of l.ident l.first)
   one-variable c d x y k l same =
       some-same (k.place, disc_decl k.type_of k.ident k.first) (l.place, disc_decl l.type_of l.ident l.first)
       (sym (variable-there t h c x k) ∙ ap (slice_get (variables t)) same ∙ variable-there t h d y l)
 
-  module _ (c : Component) (m : Member c (bodies t)) (e : EdgeTree) (k : Member e (edges_of c)) where
-    pub leads : (nm : Name) → Member nm (targets_of_all e.updates) → LeadsToVariable t c nm
-    leads nm i = leads-variable t h c m nm (variable-used c e k nm i)
+  module _ (c : Component) (m : Member c (components_of t)) (e : EdgeTree) (k : Member e (edges_of c)) where
+    pub leads : (nm : Name) → Member nm (targets_of_all e.updates) → DenotesVariable t c nm
+    leads nm i = variable-denoted t h c m nm (variable-used c e k nm i)
 
     assigned-by : (vs : UpdateTrees) → Member vs (lists_of e) → (nm : Name) → Member nm (targets_of_all vs) → Member nm (targets_of_all e.updates)
     assigned-by vs i nm j =
@@ -149,8 +148,7 @@ module _ (t : Source) (h : IsSound t) where
         let first = leads x (assigned-by vs i x (update-assigns vs earlier x two.0 p)) in
         let second = leads y (assigned-by vs i y (update-assigns vs later y two.1 q)) in
         let one = one-variable c c x y first second same in
-        once t h y.at (member-any (λ c. Any (λ us. AssignsTwice c us y.at) (flat_map lists_of (edges_of c))) c (bodies t) m
-        (member-any (λ us. AssignsTwice c us y.at) vs (flat_map lists_of (edges_of c)) (flat_map-member lists_of e (edges_of c) vs k i)
+        assigned-once t (own t h) c (as-body t h c m) e k (once t h) vs i y.at
         (record {
           earlier = earlier;
           later = later;
@@ -163,4 +161,5 @@ module _ (t : Source) (h : IsSound t) where
           variable = (first.place, declared (disc_decl first.type_of first.ident first.first));
           earlier_found = first.is_found;
           later_found = second.is_found ∙ ap (λ (d : Declared). reached (d.0, declared d.1)) (sym one);
-        })))
+        })
+        (assigned-by vs i x (update-assigns vs earlier x two.0 p)) (assigned-by vs i y (update-assigns vs later y two.1 q))

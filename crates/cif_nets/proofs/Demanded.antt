@@ -1,23 +1,22 @@
--- Each expression of a body has the kind that its position asks for, and so have the guards and the updates of an edge, where
+-- Each expression of a component has the kind that its position asks for, and so have the guards and the updates of an edge, where
 -- nothing is received.
-use Rattle.std.proofs.Common.{◌≡◌, ◌⊎◌, false, inl, List, [], ◌∷◌, ◌++◌, refl, ◌∙◌, ap, subst}
+use Rattle.std.proofs.Common.{◌≡◌, inl, List, [], ◌∷◌, ◌++◌, refl, ◌∙◌, ap, subst}
 use Rattle.std.specs.Prelude.{flat_map}
 use Rattle.cif_ast.specs.Tree.{Tree}
 use Rattle.cif_system.specs.Words.{Member}
 use Rattle.cif_system.proofs.Picks.{append-left, append-right, flat_map-member}
 use Rattle.cif_system.proofs.Distinct.{member-flat_map}
-use Rattle.cif_source.specs.Source.{syncs, sends, receives, UseTree, EdgeTree, LocationTree, Source, tree_at}
+use Rattle.cif_source.specs.Source.{syncs, sends, receives, UseTree, EdgeTree, LocationTree, Source}
 use Rattle.cif_source.specs.Components.{Component}
-use Rattle.cif_source.specs.Objects.{bodies, decls_of, locs_of}
-use Rattle.cif_rules.specs.Kinds.{Kind, bool_kind, int_kind, no_kind, enum_kind, kind_of, same_kind, Demand}
+use Rattle.cif_source.specs.Objects.{components_of, decls_of, locs_of}
+use Rattle.cif_rules.specs.Kinds.{Kind, bool_kind, int_kind, no_kind, enum_kind, Demand}
 use Rattle.cif_rules.specs.Constants.{bound_values}
 use Rattle.cif_rules.specs.Demands.{asked_for, use_demands, edge_received, received_by, carried_kind, event_channel, one_kind, updates_demands, edge_demands, equation_demands, location_demands, decl_demands, argument_demands, arguments_in, demands}
-use Rattle.cif_rules.specs.BodyRules.{edges_of, BadValue, BadUse, BadArgument}
-use Rattle.cif_image.proofs.RuleLaws.{member-any}
+use Rattle.cif_rules.specs.BodyRules.{edges_of}
+use Rattle.cif_written.proofs.DemandLaws.{demands-met}
 use Rattle.cif_fits.specs.Kinds.{AreMet}
-use Rattle.cif_nets.proofs.Sound.{IsSound, matched}
+use Rattle.cif_nets.proofs.Sound.{IsSound, matched, as-body}
 use Rattle.cif_nets.proofs.Forms.{edge-syncs}
-use Rattle.cif_nets.proofs.Tests.{true-else}
 
 -- ---- parts of what is met
 
@@ -46,12 +45,9 @@ all-nothing c [] h = refl
 all-nothing c (u ∷ []) h = received-nothing c u (h u (inl refl))
 all-nothing c (u ∷ v ∷ us) h = ap (λ k. one_kind k (edge_received c (v ∷ us))) (received-nothing c u (h u (inl refl))) ∙ none-one (edge_received c (v ∷ us))
 
-module _ (t : Source) (h : IsSound t) (c : Component) (m : Member c (bodies t)) where
+module _ (t : Source) (h : IsSound t) (c : Component) (m : Member c (components_of t)) where
   all-met : AreMet c (demands c)
-  all-met d k =
-      true-else (same_kind (kind_of c d.received_kind d.value) d.kind) (λ g.
-      matched t h (tree_at d.value) (member-any (λ c. BadValue c (tree_at d.value) ⊎ BadUse c (tree_at d.value) ⊎ BadArgument c (tree_at d.value)) c (bodies t) m
-      (inl (member-any (λ (x : Demand). (tree_at x.value ≡ tree_at d.value) × (same_kind (kind_of c x.received_kind x.value) x.kind ≡ false)) d (demands c) k (refl, g)))))
+  all-met = demands-met t (matched t h) c (as-body t h c m)
 
   edge-met : (e : EdgeTree) → Member e (edges_of c) → AreMet c (edge_demands c e)
   edge-met e k =

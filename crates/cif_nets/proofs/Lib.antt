@@ -2,7 +2,6 @@ pub mod Sound
 pub mod Forms
 pub mod Finding
 pub mod Uses
-pub mod Numbers
 pub mod Represented
 pub mod Tests
 pub mod Things
@@ -12,5 +11,6 @@ pub mod Alphabets
 pub mod Demanded
 pub mod Assigning
 pub mod Updates
+pub mod Distinct
 pub mod Apart
 pub mod Net

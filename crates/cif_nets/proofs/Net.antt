@@ -12,26 +12,28 @@ use Rattle.cif_model.specs.Net.{NetEdge, Net}
 use Rattle.cif_model.specs.Exprs.{Written, writes_all, edge_values}
 use Rattle.cif_model.specs.Facts.{is_net, things, event_stands, stored_stands, auto_stands, alg_stands, exclusion_stands, invariant_stands, edge_stands, updates_stand, are_below, has, auto_targets, are_all_apart}
 use Rattle.cif_source.specs.Source.{tree_at, syncs, DeclTree, type_decl, enum_decl, event_decl, const_decl, alg_decl, input_decl, disc_decl, equation_decl, invariant_decl, marked_decl, SourceBody, group_body, automaton_body, AutomatonTree, Source}
-use Rattle.cif_source.specs.Components.{Component, body_of}
-use Rattle.cif_source.specs.Objects.{components_of, bodies, automata, is_automaton, locs_of, EventEdge, event_edges, events, variables, is_variable, Declared, declarations, decls_of}
+use Rattle.cif_source.specs.Components.{Component, as_written, body_of}
+use Rattle.cif_source.specs.Objects.{components_of, automata, is_automaton, locs_of, EventEdge, event_edges, events, variables, is_variable, Declared, declarations, decls_of}
 use Rattle.cif_source.specs.Step.{end_of, first_place, role_of}
 use Rattle.cif_rules.specs.BodyRules.{targets_of_all}
-use Rattle.cif_image.specs.Built.{is_built}
+use Rattle.cif_fits.specs.Forms.{HasForms, HasSmallArguments}
+use Rattle.cif_fits.proofs.SoundLaws as fits
+use Rattle.cif_fits.proofs.TypeLaws.{type-fits}
 use Rattle.cif_image.specs.Flat.{net_of_source, net_auto, net_edge, net_event, net_stored, event_number, location_name, alphabet_of, monitored_in, sent_tree, net_updates_of, variable_number}
 use Rattle.cif_image.specs.Translation.{net_of, net_guard}
 use Rattle.cif_image.specs.Small.{HasSmallParts}
 use Rattle.cif_image.specs.WellFormed.{algebraic, KeepsBefore}
 use Rattle.cif_image.proofs.RuleLaws.{all-from}
-use Rattle.cif_image.proofs.FormLaws.{way-syncs}
-use Rattle.cif_nets.proofs.Sound.{IsSound}
-use Rattle.cif_nets.proofs.Forms.{automaton-body, edge-of}
+use Rattle.cif_fits.proofs.FormLaws.{way-syncs}
+use Rattle.cif_nets.proofs.Sound.{edge-written, IsSound, as-body}
+use Rattle.cif_nets.proofs.Forms.{automaton-home, edge-of}
 use Rattle.cif_nets.proofs.Things.{net-is, things-few, events-stand, declared-home}
 use Rattle.cif_nets.proofs.Types.{variable-stands}
 use Rattle.cif_nets.proofs.Targets.{from-small, end-small, first-small}
 use Rattle.cif_nets.proofs.Alphabets.{edge-numbered, edge-inside, alphabet-below, monitors-inside}
 use Rattle.cif_nets.proofs.Demanded.{guards-met, updates-met}
 use Rattle.cif_nets.proofs.Assigning.{targets-are, leads, lists-apart}
-use Rattle.cif_nets.proofs.Updates.{KeepKinds, updates-stand}
+use Rattle.cif_nets.proofs.Updates.{KeepExpressions, KeepKinds, updates-stand}
 use Rattle.cif_nets.proofs.Apart.{autos-apart}
 use Rattle.cif_nets.proofs.Tests.{both, le-true, lt-true, eq-true}
 
@@ -84,7 +86,7 @@ automaton-tree : (b : SourceBody) → is_automaton b ≡ true → (a : Automaton
 automaton-tree (group_body is) g = absurd (false-true refl g)
 automaton-tree (automaton_body a) g = (a, refl)
 
-module _ (t : Source) (h : IsSound t) (small : HasSmallParts t) (kept : KeepKinds t) where
+module _ (t : Source) (h : IsSound t) (s : fits.IsSound t) (small : HasSmallParts t) (kept : KeepKinds t) where
   -- ---- edges
 
   -- a place for each value
@@ -96,31 +98,31 @@ module _ (t : Source) (h : IsSound t) (small : HasSmallParts t) (kept : KeepKind
       ∙ map-length (λ (x : Written). x.var) (writes_all (net_updates_of c w.edge.updates))
       ∙ sym (map-length (λ (x : Written). x.value) (writes_all (net_updates_of c w.edge.updates)))
 
-  few-places : (c : Component) → Member c (bodies t) → (w : EventEdge) → Member w (event_edges c) → length (sync_edge c w).places < 4294967296
+  few-places : (c : Component) → Member c (components_of t) → (w : EventEdge) → Member w (event_edges c) → length (sync_edge c w).places < 4294967296
   few-places c m w k =
-      let few : length (targets_of_all w.edge.updates) < 2147483648 = small.few c m w.edge (edge-of c w k) in
+      let few : length (targets_of_all w.edge.updates) < 2147483648 = small.few (as_written c) (as-body t h c m) w.edge (edge-written c w.edge (edge-of c w k)) in
       omega (arith, few, map-length (λ (nm : Name). nm.at) (targets_of_all w.edge.updates))
 
   module _ (c : Component) (auto : Member c (automata t)) (a : AutomatonTree) (body : body_of c ≡ automaton_body a) where
-    home : Member c (bodies t)
-    home = automaton-body t h c auto
+    home : Member c (components_of t)
+    home = automaton-home t c auto
 
     edge-updates : (w : EventEdge) → Member w (event_edges c) → updates_stand (net_of_source t) None (net_updates_of c w.edge.updates) ≡ true
     edge-updates w k =
         let e = edge-of c w k in
-        updates-stand t h kept c home w.edge.updates (updates-met t h c home w.edge e) (small.updates c home w.edge e) (leads t h c home w.edge e) (lists-apart t h c home w.edge e)
+        updates-stand t h kept c home w.edge.updates (updates-met t h c home w.edge e) (small.updates (as_written c) (as-body t h c home) w.edge (edge-written c w.edge e)) (leads t h c home w.edge e) (lists-apart t h c home w.edge e)
 
     one-edge : (w : EventEdge) → Member w (event_edges c) → edge_stands (net_of_source t) (net_auto c) (net_edge c w) ≡ true
     one-edge w k =
         let number = edge-numbered t h c home w k in
-        ap (edge_stands (net_of_source t) (net_auto c)) (edge-syncs c w (way-syncs t h.built c home w k))
+        ap (edge_stands (net_of_source t) (net_auto c)) (edge-syncs c w (way-syncs t h.forms c home w k))
         ∙ edge-tests (nat_lt (event_number c w.event_use.name) (length (map net_event (events t)))) (nat_lt w.from (length (map location_name (locs_of c)))) (nat_lt (end_of c w) (length (map location_name (locs_of c))))
         (fits (net_of_source t) None bool_kind (net_guard c w.event_use.name.at w.edge.guards)) (updates_stand (net_of_source t) None (net_updates_of c w.edge.updates))
         (nat_eq (length (sync_edge c w).places) (length (edge_values (sync_edge c w)))) (nat_lt (length (sync_edge c w).places) 4294967296) (has (alphabet_of c) (event_number c w.event_use.name))
         (lt-true (event_number c w.event_use.name) (length (map net_event (events t))) (omega (arith, number.below, map-length net_event (events t))))
         (lt-true w.from (length (map location_name (locs_of c))) (omega (arith, from-small c w k, map-length location_name (locs_of c))))
         (lt-true (end_of c w) (length (map location_name (locs_of c))) (omega (arith, end-small t h c home a body w k, map-length location_name (locs_of c))))
-        (kept.guards c w.event_use.name.at w.edge.guards home (guards-met t h c home w.edge (edge-of c w k)) (small.guards c home w.edge (edge-of c w k)))
+        (kept.expressions.guards c w.event_use.name.at w.edge.guards home (guards-met t h c home w.edge (edge-of c w k)) (small.guards (as_written c) (as-body t h c home) w.edge (edge-written c w.edge (edge-of c w k))))
         (edge-updates w k)
         (eq-true (length (sync_edge c w).places) (length (edge_values (sync_edge c w))) (placed c w))
         (lt-true (length (sync_edge c w).places) 4294967296 (few-places c home w k))
@@ -151,8 +153,8 @@ module _ (t : Source) (h : IsSound t) (small : HasSmallParts t) (kept : KeepKind
 
   -- ---- variables
 
-  one-stored : (c : Component) → Member c (bodies t) → (d : DeclTree) → Member d (decls_of c) → is_variable d ≡ true → stored_stands (net_stored (c, d)) ≡ true
-  one-stored c m (disc_decl ty n e) k v = variable-stands t h small c m ty n e k
+  one-stored : (c : Component) → Member c (components_of t) → (d : DeclTree) → Member d (decls_of c) → is_variable d ≡ true → stored_stands (net_stored (c, d)) ≡ true
+  one-stored c m (disc_decl ty n e) k v = variable-stands t s c m ty n e k
   one-stored c m (type_decl n ty) k v = absurd (false-true refl v)
   one-stored c m (enum_decl n ls) k v = absurd (false-true refl v)
   one-stored c m (event_decl x y n) k v = absurd (false-true refl v)
@@ -187,5 +189,8 @@ module _ (t : Source) (h : IsSound t) (small : HasSmallParts t) (kept : KeepKind
       (autos-apart t h)
 
 -- the net of a source is a net, where its expressions keep their kinds
-pub net-stands : (t : Source) → is_built t ≡ true → KeepsBefore t algebraic → HasSmallParts t → KeepKinds t → is_net (net_of_source t) ≡ true
-net-stands t built keeps small kept = sound-net t (record { built = built; keeps = keeps }) small kept
+pub net-stands : (t : Source) → HasForms t → KeepsBefore t algebraic → HasSmallParts t → HasSmallArguments t → KeepExpressions t → is_net (net_of_source t) ≡ true
+net-stands t forms keeps small few kept =
+    let s : fits.IsSound t = fits.sound t forms keeps small few in
+    sound-net t (record { forms = forms; keeps = keeps }) s small
+    (record { types = λ c m x k v. (type-fits t s (net_of_source t) c m x k v).same; expressions = kept })

@@ -5,9 +5,9 @@ use Rattle.std.specs.List.{list_all}
 use Rattle.cif_system.specs.Words.{Member}
 use Rattle.cif_source.specs.Source.{Source}
 use Rattle.cif_source.specs.Components.{Component}
-use Rattle.cif_source.specs.Objects.{bodies, automata, EventEdge, event_edges}
+use Rattle.cif_source.specs.Objects.{components_of, automata, EventEdge, event_edges}
 use Rattle.cif_rules.specs.BodyRules.{targets_of_all}
-use Rattle.cif_image.specs.Built.{is_built}
+use Rattle.cif_fits.specs.Forms.{HasForms}
 use Rattle.cif_image.specs.Flat.{net_of_source}
 use Rattle.cif_image.specs.Represents.{Represents}
 use Rattle.cif_image.specs.WellFormed.{algebraic, KeepsBefore}
@@ -16,23 +16,22 @@ use Rattle.cif_image.proofs.SystemLaws.{names_all}
 use Rattle.cif_image.proofs.RuleLaws.{all-from}
 use Rattle.cif_image.proofs.SingleLaws.{source-represented}
 use Rattle.cif_nets.proofs.Sound.{IsSound, sizes, ranges, single}
-use Rattle.cif_nets.proofs.Forms.{automaton-body, edge-of, use-of}
-use Rattle.cif_nets.proofs.Finding.{leads-event, leads-variable}
+use Rattle.cif_nets.proofs.Forms.{automaton-home, edge-of, use-of}
+use Rattle.cif_nets.proofs.Finding.{numbered, variable-denoted, variable-named}
 use Rattle.cif_nets.proofs.Uses.{event-used, variable-used}
-use Rattle.cif_nets.proofs.Numbers.{numbered, variable-named}
 
 module _ (t : Source) (h : IsSound t) where
-  edge-named : (c : Component) → Member c (bodies t) → (w : EventEdge) → Member w (event_edges c) → names_its_objects c w ≡ true
+  edge-named : (c : Component) → Member c (components_of t) → (w : EventEdge) → Member w (event_edges c) → names_its_objects c w ≡ true
   edge-named c m w k =
-      let event = numbered t h c w.event_use.name (leads-event t h c m w.event_use.name (event-used c w.edge (edge-of c w k) w.event_use (use-of c w k))) in
+      let event = numbered t h c m w.event_use.name (event-used c w.edge (edge-of c w k) w.event_use (use-of c w k)) in
       ap (λ b. b && list_all (names_variable c) (targets_of_all w.edge.updates)) (ap is_some event.number)
-      ∙ all-from (names_variable c) (targets_of_all w.edge.updates) (λ nm i. ap is_some (variable-named t h c nm (leads-variable t h c m nm (variable-used c w.edge (edge-of c w k) nm i))))
+      ∙ all-from (names_variable c) (targets_of_all w.edge.updates) (λ nm i. ap is_some (variable-named t h c nm (variable-denoted t h c m nm (variable-used c w.edge (edge-of c w k) nm i))))
 
   all-named : list_all names_all (automata t) ≡ true
-  all-named = all-from names_all (automata t) (λ c m. all-from (names_its_objects c) (event_edges c) (edge-named c (automaton-body t h c m)))
+  all-named = all-from names_all (automata t) (λ c m. all-from (names_its_objects c) (event_edges c) (edge-named c (automaton-home t c m)))
 
   sound-represented : Represents (net_of_source t) t
   sound-represented = source-represented t (sizes t h) (ranges t h) (single t h) all-named
 
-pub represented : (t : Source) → is_built t ≡ true → KeepsBefore t algebraic → Represents (net_of_source t) t
-represented t built keeps = sound-represented t (record { built = built; keeps = keeps })
+pub represented : (t : Source) → HasForms t → KeepsBefore t algebraic → Represents (net_of_source t) t
+represented t forms keeps = sound-represented t (record { forms = forms; keeps = keeps })

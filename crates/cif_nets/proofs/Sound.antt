@@ -1,25 +1,28 @@
--- A source of the forms built so far that keeps its rules up to those on algebraic variables: what each rule gives, and that
--- its components are its bodies.
-use Rattle.std.proofs.Common.{◌≡◌, ℕ, suc, ◌≤◌, true, false, inl, inr, length, sym, ◌∙◌, ap, subst, arith}
+-- A source of the forms built so far that keeps its rules up to those on algebraic variables: what each rule gives.
+use Rattle.std.proofs.Common.{◌≡◌, ℕ, ◌≤◌, length, sym, subst, arith}
+use Rattle.std.specs.Prelude.{flat_map}
 use Rattle.cif_system.specs.Words.{Member}
-use Rattle.cif_source.specs.Source.{Source}
-use Rattle.cif_source.specs.Components.{Component, body_of, params_of, param_entries, body_entries}
-use Rattle.cif_source.specs.Objects.{components_of, most_objects, bodies}
+use Rattle.cif_source.specs.Source.{EdgeTree, LocationTree, Source}
+use Rattle.cif_source.specs.Components.{Component, specification_of, as_written}
+use Rattle.cif_source.specs.Objects.{components_of, most_objects, bodies, locs_in}
 use Rattle.cif_source.specs.Scoping.{UnknownDue, DuplicateDue, WrongKindDue}
-use Rattle.cif_rules.specs.BodyRules.{MismatchDue, InitialsDue, NotOwnDue, AssignedTwiceDue}
+use Rattle.cif_source.proofs.ReachLaws.{frames-listed}
+use Rattle.cif_rules.specs.BodyRules.{edges_of, MismatchDue, InitialsDue, NotOwnDue, AssignedTwiceDue}
 use Rattle.cif_rules.specs.InstanceRules.{AlphabetLacksDue, TooManyObjectsDue, ConstantRangeDue}
-use Rattle.cif_image.specs.Built.{has_no_definitions, is_built}
 use Rattle.cif_image.specs.WellFormed.{unknown, duplicate, wrong_kind, mismatch, initials, not_own, assigned_twice, alphabet_lacks, too_many_objects, constant_range, algebraic, KeepsBefore}
-use Rattle.cif_image.proofs.KeptLaws.{has_twice}
-use Rattle.cif_image.proofs.PathLaws.{names, names-append, not-twice-right}
-use Rattle.cif_image.proofs.RuleLaws.{within-or-past, few-kept}
-use Rattle.cif_image.proofs.FormLaws.{no-definitions}
-use Rattle.cif_image.proofs.WalkLaws.{body_objects, bodies-components, many-objects}
+use Rattle.cif_image.proofs.RuleLaws.{few-kept}
 use Rattle.cif_image.proofs.DistinctLaws.{ScopesAreSingle}
 use Rattle.cif_image.proofs.SingleLaws.{scopes-single}
+use Rattle.cif_written.proofs.Alike.{body-written}
+use Rattle.cif_written.proofs.Bodies.{components-written}
+use Rattle.cif_fits.specs.Forms.{HasForms}
+
+-- an edge of a component is one of its body as written
+pub edge-written : (c : Component) (e : EdgeTree) → Member e (edges_of c) → Member e (edges_of (as_written c))
+edge-written c e k = subst (λ b. Member e (flat_map (λ (l : LocationTree). l.edges) (locs_in b))) (sym (body-written c)) k
 
 pub record IsSound (t : Source) : Type 0 where
-  pub built : is_built t ≡ true
+  pub forms : HasForms t
   pub keeps : KeepsBefore t algebraic
 
 module _ (t : Source) (h : IsSound t) where
@@ -55,37 +58,17 @@ module _ (t : Source) (h : IsSound t) where
   pub ranges : (at : ℕ) → ConstantRangeDue t at → ⊥
   ranges at = h.keeps (constant_range at) (omega arith)
 
-  -- ---- forms
-
-  pub alone : has_no_definitions t ≡ true
-  alone = no-definitions t h.built
-
   -- ---- components
-
-  pub few-objects : body_objects t ≤ most_objects
-  few-objects =
-      elim (within-or-past (body_objects t) most_objects) [
-        | inl w ↦ w
-        | inr w ↦ absurd (sizes (suc most_objects) (many-objects t alone w))
-      ]
-
-  pub listed : components_of t ≡ bodies t
-  listed = bodies-components t alone few-objects
 
   pub few : length (components_of t) ≤ most_objects
   few = few-kept t sizes
 
-  pub home : (c : Component) → Member c (bodies t) → Member c (components_of t)
-  home c m = subst (Member c) (sym listed) m
+  pub root : (c : Component) → Member c (components_of t) → specification_of c ≡ t
+  root c m = (frames-listed t few c m).0
 
-  pub from-home : (c : Component) → Member c (components_of t) → Member c (bodies t)
-  from-home c m = subst (Member c) listed m
+  pub as-body : (c : Component) → Member c (components_of t) → Member (as_written c) (bodies t)
+  as-body = components-written t
 
   -- no scope declares a name twice
   pub scopes : ScopesAreSingle t
   scopes = scopes-single t few single
-
-  pub body-single : (c : Component) → Member c (bodies t) → has_twice (names (body_entries (body_of c))) ≡ false
-  body-single c m =
-      not-twice-right (names (param_entries (params_of c))) (names (body_entries (body_of c)))
-      (ap has_twice (sym (names-append (param_entries (params_of c)) (body_entries (body_of c)))) ∙ scopes c (home c m))

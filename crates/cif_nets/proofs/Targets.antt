@@ -1,6 +1,6 @@
 -- An edge leaves a location of its automaton and leads to one, and each automaton begins in one.
-use Rattle.std.proofs.Common.{◌≡◌, ℕ, ◌+◌, ◌<◌, ◌⊎◌, Bool, true, false, cond, inl, inr, List, [], ◌∷◌, length, map, Option, Some, None, find, refl, sym, ◌∙◌, ap, subst, arith}
-use Rattle.std.specs.Prelude.{◌||◌, not, nat_eq, flat_map, filter_map, option_map}
+use Rattle.std.proofs.Common.{◌≡◌, ℕ, ◌+◌, ◌<◌, ◌⊎◌, Bool, true, false, cond, inl, inr, List, [], ◌∷◌, ◌++◌, length, map, Option, Some, None, find, refl, sym, ◌∙◌, ap, subst, arith}
+use Rattle.std.specs.Prelude.{◌||◌, not, flat_map, filter_map, option_map}
 use Rattle.std.specs.List.{list_all, list_any, cons_option, enumerate_from, position_or_len}
 use Rattle.std.specs.Cmp.Lexicographic as words
 use Rattle.std.proofs.lemmas.Cmp.{nat_list_eq_equiv}
@@ -9,36 +9,25 @@ use Rattle.cif_system.specs.Words.{Member}
 use Rattle.cif_system.proofs.Lists.{some-same, none-some, false-true}
 use Rattle.cif_system.proofs.Picks.{append-right, flat_map-member}
 use Rattle.cif_model.proofs.Passing.{all-member}
-use Rattle.cif_source.specs.Source.{Text, EquationTree, LocationTree, DeclTree, type_decl, enum_decl, event_decl, const_decl, alg_decl, input_decl, disc_decl, equation_decl, invariant_decl, marked_decl, AutomatonTree, automaton_body, Source}
-use Rattle.cif_source.specs.Components.{Component, whole, part, blank, copy, body_of, params_of, Entry, Entries, declared, literal, location, inner, definition, instance, parameter, same_text, entry_named, scope_of, param_entries, body_entries, decl_entries, location_entry}
+use Rattle.cif_source.specs.Source.{Text, ParamTree, EquationTree, LocationTree, DeclTree, type_decl, enum_decl, event_decl, const_decl, alg_decl, input_decl, disc_decl, equation_decl, invariant_decl, marked_decl, AutomatonTree, automaton_body, Source}
+use Rattle.cif_source.specs.Components.{Component, as_written, body_of, params_of, Entry, Entries, declared, literal, location, inner, definition, instance, parameter, same_text, entry_named, scope_of, param_name, param_entries, body_entries, decl_entries, location_entry}
 use Rattle.cif_source.specs.Lookup.{at_entry}
-use Rattle.cif_source.specs.Objects.{bodies, is_automaton, decls_of, locs_of, locs_in, EventEdge, event_edges}
+use Rattle.cif_source.specs.Objects.{components_of, bodies, is_automaton, decls_of, locs_of, locs_in, EventEdge, event_edges}
 use Rattle.cif_source.specs.Uses.{OwnName, target, left_side, own_ident, own_sought, own_names, is_own_asked, decl_own_names, location_own_names, edge_target}
 use Rattle.cif_source.specs.Step.{is_named, end_of, first_place}
 use Rattle.cif_source.specs.Scoping.{is_missing, is_wrong, UnknownName, UnknownOwn, WrongName, WrongOwn, WrongCount}
 use Rattle.cif_source.proofs.ComponentLaws.{append-cases}
-use Rattle.cif_rules.specs.BodyRules.{HasInitials, initial_count, name_at}
+use Rattle.cif_rules.specs.BodyRules.{initial_count}
 use Rattle.cif_image.proofs.KeptLaws.{or-right}
 use Rattle.cif_image.proofs.NumberLaws.{all-joined}
 use Rattle.cif_image.proofs.RuleLaws.{member-any}
-use Rattle.cif_image.proofs.FormLaws.{is_plain_part, only-parts, no-params, edge-stands, enumerated}
+use Rattle.cif_image.proofs.FormLaws.{edge-stands, enumerated}
+use Rattle.cif_written.proofs.Alike.{twice, body-written, params-written}
+use Rattle.cif_written.proofs.RuleLaws.{own-same, initial-one}
+use Rattle.cif_fits.proofs.NameLaws.{mapped-member}
 use Rattle.cif_image.proofs.NamedLaws.{position-below}
-use Rattle.cif_nets.proofs.Sound.{IsSound, alone, known, sorts, begun}
-use Rattle.cif_nets.proofs.Tests.{one-any, eq-true, eq-told}
-
--- ---- lists
-
-cons-later : {B : Type 0} (o : Option B) (xs : List B) (y : B) → Member y xs → Member y (cons_option o xs)
-cons-later None xs y k = k
-cons-later (Some b) xs y k = inr k
-
-mapped-member : {A B : Type 0} (f : A → Option B) (x : A) (xs : List A) (y : B) → Member x xs → f x ≡ Some y → Member y (filter_map f xs)
-mapped-member f x [] y m e = absurd m
-mapped-member f x (z ∷ xs) y m e =
-    elim m [
-      | inl w ↦ subst (λ o. Member y (cons_option o (filter_map f xs))) (sym (ap f (sym w) ∙ e)) (inl refl)
-      | inr w ↦ cons-later (f z) (filter_map f xs) y (mapped-member f x xs y w e)
-    ]
+use Rattle.cif_nets.proofs.Sound.{IsSound, known, sorts, begun, as-body}
+use Rattle.cif_nets.proofs.Tests.{one-any, true-else}
 
 -- ---- entries of locations
 
@@ -96,11 +85,12 @@ location-there a n k m =
       | inr w ↦ location-listed n.text a.locs 0 n k w refl
     ]
 
-name-of : (c : Component) → is_plain_part c ≡ true → is_automaton (body_of c) ≡ true → (at : ℕ) × (name_at c ≡ Some at)
-name-of (whole is) p a = absurd (false-true refl a)
-name-of (part o n b) p a = (n.at, refl)
-name-of (blank o n ps b) p a = absurd (false-true refl p)
-name-of (copy o n ps b g i) p a = absurd (false-true refl p)
+params-other : (ps : List (ℕ × ParamTree)) → list_all is_no_location (map (λ x. (param_name x.1, parameter x.0 x.1)) ps) ≡ true
+params-other [] = refl
+params-other (p ∷ ps) = params-other ps
+
+scope-written : (c : Component) → scope_of (as_written c) ≡ scope_of c
+scope-written c = λ i. param_entries (params-written c i) ++ body_entries (body-written c i)
 
 -- where an edge leaves
 pub from-small : (c : Component) (w : EventEdge) → Member w (event_edges c) → w.from < length (locs_of c)
@@ -109,17 +99,11 @@ from-small c w k = let e = edge-stands c w k in omega (arith, e.from, (enumerate
 module _ (t : Source) (h : IsSound t) where
   -- ---- first places
 
-  pub first-small : (c : Component) → Member c (bodies t) → is_automaton (body_of c) ≡ true → first_place c < length (locs_of c)
+  pub first-small : (c : Component) → Member c (components_of t) → is_automaton (body_of c) ≡ true → first_place c < length (locs_of c)
   first-small c m a = position-below (λ (l : LocationTree). l.initial) (locs_of c) (one-any (λ (l : LocationTree). l.initial) (locs_of c) one)
     where
       one : initial_count c ≡ 1
-      one =
-          (elim (nat_eq (initial_count c) 1) as (λ b. nat_eq (initial_count c) 1 ≡ b → initial_count c ≡ 1) [
-            | true ↦ λ e. eq-told (initial_count c) 1 e
-            | false ↦ λ e.
-                let name = name-of c (only-parts t (alone t h) c m) a in
-                absurd (begun t h name.0 (initial_count c) (member-any (λ d. HasInitials d name.0 (initial_count c)) c (bodies t) m (record { automaton = a; named = name.1; counted = refl; other = λ g. false-true e (eq-true (initial_count c) 1 g) })))
-          ]) refl
+      one = initial-one t (begun t h) c (as-body t h c m) a
 
   -- ---- targets
 
@@ -132,20 +116,26 @@ module _ (t : Source) (h : IsSound t) where
       (append-right (target n) (map (λ (q : EquationTree). left_side q.name) s.place.1.equations) (filter_map edge_target s.place.1.edges)
       (mapped-member edge_target w.edge s.place.1.edges (target n) s.edge (ap (option_map target) e))))
 
-  target-location : (c : Component) → Member c (bodies t) → (n : Ident) → Member (target n) (own_names c) → (k : ℕ) × (entry_named n.text (scope_of c) ≡ Some (location k))
+  target-location : (c : Component) → Member c (components_of t) → (n : Ident) → Member (target n) (own_names c) → (k : ℕ) × (entry_named n.text (scope_of c) ≡ Some (location k))
   target-location c m n k =
       (elim (entry_named n.text (scope_of c)) as (λ o. entry_named n.text (scope_of c) ≡ o → (k : ℕ) × (o ≡ Some (location k))) [
-        | None ↦ λ e. absurd (known t h n.at (member-any (λ c. UnknownName c n.at ⊎ UnknownOwn c n.at) c (bodies t) m (inr (member-any (λ (x : OwnName). ((own_ident x).at ≡ n.at) × (is_missing (own_sought c x) ≡ true)) (target n) (own_names c) k (refl, ap (λ o. is_missing (at_entry c o)) e)))))
+        | None ↦ λ e. absurd (known t h n.at (member-any (λ c. UnknownName c n.at ⊎ UnknownOwn c n.at) (as_written c) (bodies t) (as-body t h c m)
+            (inr (member-any (λ (x : OwnName). ((own_ident x).at ≡ n.at) × (is_missing (own_sought (as_written c) x) ≡ true)) (target n) (own_names (as_written c)) used (refl, ap (λ o. is_missing (at_entry (as_written c) o)) (written None e))))))
         | Some x ↦ λ e. its-place x (asked x e)
       ]) refl
     where
+      used : Member (target n) (own_names (as_written c))
+      used = subst (Member (target n)) (own-same c (as_written c) (sym (twice c))) k
+
+      written : (o : Option Entry) → entry_named n.text (scope_of c) ≡ o → entry_named n.text (scope_of (as_written c)) ≡ o
+      written o e = ap (entry_named n.text) (scope-written c) ∙ e
+
       asked : (x : Entry) → entry_named n.text (scope_of c) ≡ Some x → is_own_asked (target n) x ≡ true
       asked x e =
-          (elim (is_own_asked (target n) x) as (λ b. is_own_asked (target n) x ≡ b → b ≡ true) [
-            | true ↦ λ g. refl
-            | false ↦ λ g. absurd (sorts t h n.at (member-any (λ c. WrongName c n.at ⊎ WrongOwn c n.at ⊎ WrongCount c n.at) c (bodies t) m (inr (inl (member-any (λ (x : OwnName). ((own_ident x).at ≡ n.at) × (is_wrong (is_own_asked x) (own_sought c x) ≡ true)) (target n) (own_names c) k
-                (refl, ap (λ o. is_wrong (is_own_asked (target n)) (at_entry c o)) e ∙ ap not g))))))
-          ]) refl
+          true-else (is_own_asked (target n) x) (λ g.
+          sorts t h n.at (member-any (λ c. WrongName c n.at ⊎ WrongOwn c n.at ⊎ WrongCount c n.at) (as_written c) (bodies t) (as-body t h c m)
+          (inr (inl (member-any (λ (x : OwnName). ((own_ident x).at ≡ n.at) × (is_wrong (is_own_asked x) (own_sought (as_written c) x) ≡ true)) (target n) (own_names (as_written c)) used
+          (refl, ap (λ o. is_wrong (is_own_asked (target n)) (at_entry (as_written c) o)) (written (Some x) e) ∙ ap not g))))))
 
       its-place : (x : Entry) → is_own_asked (target n) x ≡ true → (k : ℕ) × (Some x ≡ Some (location k))
       its-place (location k) a = (k, refl)
@@ -156,7 +146,7 @@ module _ (t : Source) (h : IsSound t) where
       its-place (instance i) a = absurd (false-true refl a)
       its-place (parameter k p) a = absurd (false-true refl a)
 
-  module _ (c : Component) (m : Member c (bodies t)) (a : AutomatonTree) (e : body_of c ≡ automaton_body a) where
+  module _ (c : Component) (m : Member c (components_of t)) (a : AutomatonTree) (e : body_of c ≡ automaton_body a) where
     -- the target of an edge is a location of its automaton
     target-there : (w : EventEdge) → Member w (event_edges c) → (n : Ident) → w.edge.target ≡ Some n → list_any (is_named n.text) (locs_of c) ≡ true
     target-there w k n g =
@@ -164,7 +154,7 @@ module _ (t : Source) (h : IsSound t) where
         let y = entry-found n.text (scope_of c) (location at.0) at.1 in
         let own : Member {A = Ident × Entry} (y.0, location at.0) (body_entries (body_of c)) =
         elim (append-cases {A = Ident × Entry} (y.0, location at.0) (param_entries (params_of c)) (body_entries (body_of c)) y.1) [
-          | inl v ↦ absurd (subst (λ ps. Member {A = Ident × Entry} (y.0, location at.0) (param_entries ps)) (no-params t (alone t h) c m) v)
+          | inl v ↦ absurd (false-true refl (all-member is_no_location (param_entries (params_of c)) (y.0, location at.0) (params-other (enumerate_from 0 (params_of c))) v))
           | inr v ↦ v
         ] in
         ap (λ b. list_any (is_named n.text) (locs_in b)) e

@@ -1,5 +1,5 @@
 -- The net of a source has automata, events and variables alone, no more than there may be, and no channels.
-use Rattle.std.proofs.Common.{◌≡◌, ℕ, ◌+◌, ◌≤◌, Bool, true, false, cond, List, [], ◌∷◌, length, map, refl, sym, ◌∙◌, ap, subst, arith}
+use Rattle.std.proofs.Common.{◌≡◌, ℕ, suc, ◌+◌, ◌≤◌, Bool, true, false, cond, inl, inr, List, [], ◌∷◌, length, map, refl, sym, ◌∙◌, ap, subst, arith}
 use Rattle.std.specs.Prelude.{flat_map, filter, sum}
 use Rattle.std.specs.List.{list_all}
 use Rattle.std.proofs.lemmas.List.{length-append}
@@ -11,14 +11,15 @@ use Rattle.cif_model.specs.Net.{NetAuto, Net}
 use Rattle.cif_model.specs.Facts.{things, event_stands}
 use Rattle.cif_source.specs.Source.{no_type, void_type, value_type, DeclTree, type_decl, enum_decl, event_decl, const_decl, alg_decl, input_decl, disc_decl, equation_decl, invariant_decl, marked_decl, Source}
 use Rattle.cif_source.specs.Components.{Component, body_of}
-use Rattle.cif_source.specs.Objects.{bodies, automata, is_automaton, locs_of, event_edges, events, variables, is_event, is_input, is_variable, is_alg, Declared, declarations, decls_of}
-use Rattle.cif_rules.specs.InstanceRules.{decl_objects, component_objects}
+use Rattle.cif_source.specs.Objects.{components_of, most_objects, automata, is_automaton, locs_of, event_edges, events, variables, is_event, is_input, is_variable, is_alg, Declared, declarations, decls_of}
+use Rattle.cif_rules.specs.InstanceRules.{decl_objects, component_objects, object_count}
 use Rattle.cif_image.specs.Built.{is_no_channel, is_no_invariant, is_no_algebra}
 use Rattle.cif_image.specs.Flat.{net_of_source, net_auto, net_edge, net_event, net_stored, net_alg, net_exclusions, net_invariants, location_name}
-use Rattle.cif_image.proofs.RuleLaws.{declaration-cases, all-from}
+use Rattle.cif_image.proofs.RuleLaws.{declaration-cases, within-or-past, all-from}
 use Rattle.cif_image.proofs.NumberLaws.{append-kept}
-use Rattle.cif_image.proofs.FormLaws.{flat-nothing, decl-algebra, decl-channel, decl-invariant}
-use Rattle.cif_nets.proofs.Sound.{IsSound, few-objects, listed, from-home}
+use Rattle.cif_image.proofs.FormLaws.{flat-nothing}
+use Rattle.cif_fits.proofs.FormLaws.{decl-algebra, decl-channel, decl-invariant}
+use Rattle.cif_nets.proofs.Sound.{IsSound, sizes}
 use Rattle.cif_nets.proofs.Tests.{filter-nothing}
 
 -- ---- other forms
@@ -173,45 +174,53 @@ abbrev data_net : Source → Net
 data_net t = record { autos = map net_auto (automata t); events = map net_event (events t); inputs = []; vars = map net_stored (variables t); algs = []; exclusions = []; invariants = [] }
 
 module _ (t : Source) (h : IsSound t) where
-  pub declared-home : (d : Declared) → Member d (declarations t) → Member d.0 (bodies t) × Member d.1 (decls_of d.0)
-  declared-home d m = let c = declaration-cases t d m in (from-home t h d.0 c.0, c.1)
+  pub declared-home : (d : Declared) → Member d (declarations t) → Member d.0 (components_of t) × Member d.1 (decls_of d.0)
+  declared-home d m = declaration-cases t d m
 
   pub net-is : net_of_source t ≡ data_net t
   net-is = λ i. record {
     autos = map net_auto (automata t);
     events = map net_event (events t);
-    inputs = map net_stored (filter-nothing (λ (d : Declared). is_input d.1) (declarations t) (λ d m. let k = declared-home d m in no-input d.1 (decl-algebra t h.built d.0 k.0 d.1 k.1)) i);
+    inputs = map net_stored (filter-nothing (λ (d : Declared). is_input d.1) (declarations t) (λ d m. let k = declared-home d m in no-input d.1 (decl-algebra t h.forms d.0 k.0 d.1 k.1)) i);
     vars = map net_stored (variables t);
-    algs = map net_alg (filter-nothing (λ (d : Declared). is_alg d.1) (declarations t) (λ d m. let k = declared-home d m in no-alg d.1 (decl-algebra t h.built d.0 k.0 d.1 k.1)) i);
-    exclusions = flat-nothing net_exclusions (declarations t) (λ d m. let k = declared-home d m in no-exclusion d.0 d.1 (decl-invariant t h.built d.0 k.0 d.1 k.1)) i;
-    invariants = flat-nothing net_invariants (declarations t) (λ d m. let k = declared-home d m in no-invariant d.0 d.1 (decl-invariant t h.built d.0 k.0 d.1 k.1)) i;
+    algs = map net_alg (filter-nothing (λ (d : Declared). is_alg d.1) (declarations t) (λ d m. let k = declared-home d m in no-alg d.1 (decl-algebra t h.forms d.0 k.0 d.1 k.1)) i);
+    exclusions = flat-nothing net_exclusions (declarations t) (λ d m. let k = declared-home d m in no-exclusion d.0 d.1 (decl-invariant t h.forms d.0 k.0 d.1 k.1)) i;
+    invariants = flat-nothing net_invariants (declarations t) (λ d m. let k = declared-home d m in no-invariant d.0 d.1 (decl-invariant t h.forms d.0 k.0 d.1 k.1)) i;
   }
 
-  sort-counted : (sort : DeclTree → Bool) → length (filter (λ (d : Declared). sort d.1) (declarations t)) ≡ sort_total sort (bodies t)
-  sort-counted sort = ap (λ cs. length (filter (λ (d : Declared). sort d.1) (flat_map (λ c. map (λ d. (c, d)) (decls_of c)) cs))) (listed t h) ∙ sort-length sort (bodies t)
+  few-objects : object_count t ≤ most_objects
+  few-objects =
+      elim (within-or-past (object_count t) most_objects) [
+        | inl w ↦ w
+        | inr w ↦ absurd (sizes t h (suc most_objects) (w, refl))
+      ]
 
-  few-things : things (data_net t) ≤ 100000
-  few-things =
-      let autos : automata t ≡ autos_of (bodies t) = ap autos_of (listed t h) in
+  few-in : (cs : List Component) → components_of t ≡ cs → things (data_net t) ≤ 100000
+  few-in cs same =
+      let autos : automata t ≡ autos_of cs = ap autos_of same in
+      let objects : sum (map component_objects cs) ≤ most_objects = subst (λ ds. sum (map component_objects ds) ≤ most_objects) same few-objects in
       omega (
         arith,
-        things-fewer (bodies t),
-        few-objects t h,
+        things-fewer cs,
+        objects,
         map-length net_event (events t),
         sort-counted is_event,
         map-length net_stored (variables t),
         sort-counted is_variable,
         map-length net_auto (automata t),
         ap length autos,
-        ap (λ cs. sum (map auto_things (map net_auto cs))) autos,
+        ap (λ ds. sum (map auto_things (map net_auto ds))) autos,
       )
+    where
+      sort-counted : (sort : DeclTree → Bool) → length (filter (λ (d : Declared). sort d.1) (declarations t)) ≡ sort_total sort cs
+      sort-counted sort = ap (λ ds. length (filter (λ (d : Declared). sort d.1) (flat_map (λ c. map (λ d. (c, d)) (decls_of c)) ds))) same ∙ sort-length sort cs
 
   pub things-few : things (net_of_source t) ≤ 100000
-  things-few = subst (λ n. things n ≤ 100000) (sym net-is) few-things
+  things-few = subst (λ n. things n ≤ 100000) (sym net-is) (few-in (components_of t) refl)
 
   pub events-stand : list_all event_stands (map net_event (events t)) ≡ true
   events-stand =
       all-from event_stands (map net_event (events t)) (λ x m.
       let d = member-map net_event x (events t) m in
       let k = declared-home d.0 (filter-within (λ (d : Declared). is_event d.1) (declarations t) d.0 d.1) in
-      ap event_stands d.2 ∙ no-channel d.0.0 d.0.1 (decl-channel t h.built d.0.0 k.0 d.0.1 k.1))
+      ap event_stands d.2 ∙ no-channel d.0.0 d.0.1 (decl-channel t h.forms d.0.0 k.0 d.0.1 k.1))

@@ -1,6 +1,6 @@
 -- The updates of a net's edge stand: each assigned variable is there, each value has its kind, and no two updates of a list
 -- assign one variable.
-use Rattle.std.proofs.Common.{◌≡◌, ℕ, zero, suc, true, inl, inr, List, [], ◌∷◌, ◌++◌, map, Some, None, refl, sym, ◌∙◌, ap, subst}
+use Rattle.std.proofs.Common.{◌≡◌, ℕ, true, inl, inr, List, [], ◌∷◌, ◌++◌, map, Some, None, refl, sym, ◌∙◌, ap, subst}
 use Rattle.std.specs.Prelude.{◌&&◌, flat_map, slice_get}
 use Rattle.cif_ast.specs.Tree.{Tree, Trees, no_trees, trees, UpdateTree, assignment, selection, UpdateTrees, no_updates, updates, UpdateBranches, no_update_branches, update_branches}
 use Rattle.cif_ast.specs.Throughout.{HoldsInTree, HoldsInWholes, HoldsInUpdateTree, HoldsInUpdateTrees, HoldsInUpdateBranches}
@@ -14,36 +14,40 @@ use Rattle.cif_model.specs.Kinds as net
 use Rattle.cif_model.specs.Kinds.{fits}
 use Rattle.cif_model.specs.Exprs.{targets}
 use Rattle.cif_model.specs.Facts.{are_apart, var_kind, assigns_kind, updates_stand, update_stands, branches_stand}
-use Rattle.cif_source.specs.Source.{disc_decl, Source, list_of_trees}
+use Rattle.cif_source.specs.Source.{TypeTree, disc_decl, Source, list_of_trees}
 use Rattle.cif_source.specs.Components.{Component}
 use Rattle.cif_source.specs.Lookup.{found}
-use Rattle.cif_source.specs.Objects.{bodies, variables}
-use Rattle.cif_rules.specs.Kinds.{Kind, bool_kind, no_kind, kind_at}
+use Rattle.cif_source.specs.Objects.{components_of, variables}
+use Rattle.cif_rules.specs.Kinds.{Kind, bool_kind, no_kind, type_kind, kind_at, kind_of, demand}
+use Rattle.cif_rules.specs.Constants.{types_of}
 use Rattle.cif_rules.specs.Demands.{demanded, asked_for, updates_demands, update_demands, branches_demands}
 use Rattle.cif_rules.specs.BodyRules.{targets_of_all, targets_of, targets_of_branches, lists_in_all, lists_in, lists_in_branches}
 use Rattle.cif_image.specs.Flat.{net_of_source, net_stored, variable_number, net_updates_of, net_update_of, net_update_branches_of}
 use Rattle.cif_image.specs.Translation.{conjunction, net_of, net_list, net_guard}
+use Rattle.cif_image.specs.Types.{net_type}
+use Rattle.cif_written.specs.Denoted.{DenotesVariable}
 use Rattle.cif_fits.specs.Kinds.{AreMet, net_kind}
+use Rattle.cif_fits.proofs.ExprLaws.{is_valued, kind-told}
+use Rattle.cif_fits.proofs.TypeLaws.{written}
+use Rattle.cif_fits.proofs.NameLaws.{get-map}
 use Rattle.cif_nets.proofs.Sound.{IsSound}
-use Rattle.cif_nets.proofs.Finding.{LeadsToVariable}
-use Rattle.cif_nets.proofs.Numbers.{variable-there}
-use Rattle.cif_nets.proofs.Types.{type-kind}
+use Rattle.cif_nets.proofs.Finding.{variable-there}
 use Rattle.cif_nets.proofs.Demanded.{met-left, met-right, met-each}
 use Rattle.cif_nets.proofs.Assigning.{IsApart, targets-are, assigning-update}
 use Rattle.cif_nets.proofs.Tests.{both, apart-none}
 
--- the expressions of a body that keep their kinds in the net
-pub record KeepKinds (t : Source) : Type 0 where
-  pub expressions : (c : Component) (k : Kind) (e : Tree) → Member c (bodies t) → AreMet c (asked_for c k e) → HoldsInTree small_parts e → fits (net_of_source t) None (net_kind k) (net_of c e) ≡ true
-  pub conditions : (c : Component) (all : List Tree) → Member c (bodies t) → ((e : Tree) → Member e all → AreMet c (asked_for c bool_kind e)) → ((e : Tree) → Member e all → HoldsInTree small_parts e)
+-- expressions of components keep their kinds in the net
+pub record KeepExpressions (t : Source) : Type 0 where
+  pub expressions : (c : Component) (k : Kind) (e : Tree) → Member c (components_of t) → AreMet c (asked_for c k e) → HoldsInTree small_parts e → fits (net_of_source t) None (net_kind k) (net_of c e) ≡ true
+  pub conditions : (c : Component) (all : List Tree) → Member c (components_of t) → ((e : Tree) → Member e all → AreMet c (asked_for c bool_kind e)) → ((e : Tree) → Member e all → HoldsInTree small_parts e)
       → fits (net_of_source t) None net.bool_kind (conjunction (net_list c all)) ≡ true
-  pub guards : (c : Component) (at : ℕ) (all : List Tree) → Member c (bodies t) → ((e : Tree) → Member e all → AreMet c (asked_for c bool_kind e)) → ((e : Tree) → Member e all → HoldsInTree small_parts e)
+  pub guards : (c : Component) (at : ℕ) (all : List Tree) → Member c (components_of t) → ((e : Tree) → Member e all → AreMet c (asked_for c bool_kind e)) → ((e : Tree) → Member e all → HoldsInTree small_parts e)
       → fits (net_of_source t) None net.bool_kind (net_guard c at all) ≡ true
 
-at-mapped : {A B : Type 0} (f : A → B) (xs : List A) (k : ℕ) (y : A) → slice_get xs k ≡ Some y → slice_get (map f xs) k ≡ Some (f y)
-at-mapped f [] k y h = cc
-at-mapped f (x ∷ xs) zero y h = ap (λ o. elim o [ None ↦ None | Some z ↦ Some (f z) ]) h
-at-mapped f (x ∷ xs) (suc k) y h = at-mapped f xs k y h
+-- and so do types
+pub record KeepKinds (t : Source) : Type 0 where
+  pub types : (c : Component) → Member c (components_of t) → (x : TypeTree) → Member x (types_of c) → is_valued (type_kind c x) ≡ true → net.kind_of (net_type c x).type_of (net_type c x).literals ≡ net_kind (type_kind c x)
+  pub expressions : KeepExpressions t
 
 whole-holds : (cs : Trees) → HoldsInWholes small_parts cs → (e : Tree) → Member e (list_of_trees cs) → HoldsInTree small_parts e
 whole-holds no_trees h e m = absurd m
@@ -53,23 +57,26 @@ whole-holds (trees x cs) h e m =
       | inr w ↦ whole-holds cs h.2 e w
     ]
 
-module _ (t : Source) (h : IsSound t) (kept : KeepKinds t) (c : Component) (m : Member c (bodies t)) where
+module _ (t : Source) (h : IsSound t) (kept : KeepKinds t) (c : Component) (m : Member c (components_of t)) where
   -- no two updates of the list assign one variable, and so it is with the lists within
   abbrev AllApart : UpdateTrees → Type 0
   AllApart us = (vs : UpdateTrees) → Member vs (us ∷ lists_in_all us) → IsApart c vs
 
   abbrev AllLead : List Name → Type 0
-  AllLead nms = (nm : Name) → Member nm nms → LeadsToVariable t c nm
+  AllLead nms = (nm : Name) → Member nm nms → DenotesVariable t c nm
 
   -- a value has the kind of its variable
-  value-fits : (nm : Name) (e : Tree) → LeadsToVariable t c nm → AreMet c (asked_for c (kind_at (found c nm)) e) → HoldsInTree small_parts e
+  value-fits : (nm : Name) (e : Tree) → DenotesVariable t c nm → AreMet c (asked_for c (kind_at (found c nm)) e) → HoldsInTree small_parts e
       → assigns_kind (net_of_source t) None (var_kind (slice_get (map net_stored (variables t)) (variable_number c nm))) (net_of c e) ≡ true
   value-fits nm e l met small =
       let there : slice_get (map net_stored (variables t)) (variable_number c nm) ≡ Some (net_stored (l.place, disc_decl l.type_of l.ident l.first)) =
-      at-mapped net_stored (variables t) (variable_number c nm) (l.place, disc_decl l.type_of l.ident l.first) (variable-there t h c nm l) in
+      get-map net_stored (variables t) (variable_number c nm) (l.place, disc_decl l.type_of l.ident l.first) (variable-there t h c nm l) in
+      let is : kind_at (found c nm) ≡ type_kind l.place l.type_of = ap kind_at l.is_found in
+      let told = kind-told (kind_of c no_kind e) (kind_at (found c nm)) (met (demand no_kind (kind_at (found c nm)) e) (inl refl)) in
+      let valued : is_valued (type_kind l.place l.type_of) ≡ true = ap is_valued (sym is ∙ sym told.1) ∙ told.0 in
       ap (λ o. assigns_kind (net_of_source t) None (var_kind o) (net_of c e)) there
-      ∙ ap (λ k. fits (net_of_source t) None k (net_of c e)) (type-kind t h l.place l.is_body l.type_of ∙ ap (λ r. net_kind (kind_at r)) (sym l.is_found))
-      ∙ kept.expressions c (kind_at (found c nm)) e m met small
+      ∙ ap (λ k. fits (net_of_source t) None k (net_of c e)) (kept.types l.place l.is_listed l.type_of (written l.place (disc_decl l.type_of l.ident l.first) l.type_of l.is_declared (inl refl)) valued ∙ ap net_kind (sym is))
+      ∙ kept.expressions.expressions c (kind_at (found c nm)) e m met small
 
   -- an update and those after it assign different variables
   first-apart : (u : UpdateTree) (us : UpdateTrees) → IsApart c (updates u us) → are_apart (targets (net_updates (net_update_of c u) no_net_updates)) (targets (net_updates_of c us)) ≡ true
@@ -112,7 +119,7 @@ module _ (t : Source) (h : IsSound t) (kept : KeepKinds t) (c : Component) (m : 
         let front = met-left c (asked ++ updates_demands c no_kind us) (branches_demands c no_kind bs) met in
         both (fits (net_of_source t) None net.bool_kind (conjunction (net_list c (list_of_trees cs))) && updates_stand (net_of_source t) None (net_updates_of c us)) (branches_stand (net_of_source t) None (net_update_branches_of c bs))
         (both (fits (net_of_source t) None net.bool_kind (conjunction (net_list c (list_of_trees cs)))) (updates_stand (net_of_source t) None (net_updates_of c us))
-        (kept.conditions c (list_of_trees cs) m (met-each c (demanded c no_kind bool_kind) (list_of_trees cs) (met-left c asked (updates_demands c no_kind us) front)) (whole-holds cs small.1))
+        (kept.expressions.conditions c (list_of_trees cs) m (met-each c (demanded c no_kind bool_kind) (list_of_trees cs) (met-left c asked (updates_demands c no_kind us) front)) (whole-holds cs small.1))
         (updates-stand us (met-right c asked (updates_demands c no_kind us) front) small.2 (λ nm i. lead nm (append-left nm (targets_of_all us) (targets_of_branches bs) i))
         (λ vs i. apart vs (elim i [ inl w ↦ inl w | inr w ↦ inr (append-left vs (lists_in_all us) (lists_in_branches bs) w) ]))))
         (branches-stand bs (met-right c (asked ++ updates_demands c no_kind us) (branches_demands c no_kind bs) met) small.3 (λ nm i. lead nm (append-right nm (targets_of_all us) (targets_of_branches bs) i))
