@@ -1,12 +1,12 @@
 -- The net that is made is the net of the source, and so a net that represents it, where the nets of sources are nets that
 -- represent them.
 use Rattle.std.proofs.Common.{◌≡◌, ℕ, ◌+◌, ◌-◌, ◌≤◌, ◌<◌, Bool, true, false, cond, inl, inr, List, [], ◌∷◌, ◌++◌, length, map, take, None, refl, sym, ◌∙◌, ap, subst, arith}
-use Rattle.std.specs.Prelude.{filter}
+use Rattle.std.specs.Prelude.{◌&&◌, filter}
 use Rattle.std.specs.List.{position_or_len}
 use Rattle.std.proofs.lemmas.List.{length-append}
 use Rattle.cif_system.specs.Words.{Member}
 use Rattle.cif_system.proofs.Lists.{false-true, slice_get-below, map-length}
-use Rattle.cif_system.proofs.Picks.{at-member}
+use Rattle.cif_system.proofs.Picks.{and-left, and-right, at-member}
 use Rattle.cif_model.specs.Facts.{is_net}
 use Rattle.cif_source.specs.Source.{Text, DeclTree, type_decl, enum_decl, event_decl, const_decl, alg_decl, input_decl, disc_decl, equation_decl, invariant_decl, marked_decl, AutomatonTree, SourceBody, group_body, automaton_body, Source}
 use Rattle.cif_source.specs.Components.{Component, whole, part, blank, copy, body_of, path_of}
@@ -27,7 +27,7 @@ use Rattle.cif_net.specs.declared.data.Alg.{Alg}
 use Rattle.cif_net.specs.declared.predicates.Exclusion.{Exclusion}
 use Rattle.cif_net.specs.declared.predicates.Invariant.{Invariant}
 use Rattle.cif_net.specs.Parts.{auto_tree, event_tree, var_tree, net_of_parts}
-use Rattle.cif_image.specs.Built.{is_no_algebra, is_no_invariant, is_built}
+use Rattle.cif_image.specs.Built.{is_no_algebra, is_no_invariant, has_no_definitions, has_no_algebra, has_no_channels, has_no_invariants, has_no_received, is_built}
 use Rattle.cif_image.specs.Flat.{dotted, location_name, net_auto, net_event, net_stored, net_alg, net_exclusions, net_invariants, net_of_source}
 use Rattle.cif_image.specs.Represents.{Represents}
 use Rattle.cif_image.specs.Small.{HasSmallParts}
@@ -35,6 +35,7 @@ use Rattle.cif_image.specs.WellFormed.{KeepsBefore, algebraic}
 use Rattle.cif_image.proofs.RuleLaws.{declaration-cases}
 use Rattle.cif_image.proofs.WalkLaws.{body_objects, bodies-components, few-objects, many-objects}
 use Rattle.cif_image.proofs.FormLaws.{is_plain_part, flat-nothing, no-definitions, decl-algebra, decl-invariant, only-parts}
+use Rattle.cif_fits.specs.Forms.{HasForms, HasSmallArguments}
 use Rattle.cif_inst.specs.Rows.{RowTree, rows_of}
 use Rattle.cif_inst.specs.Objects.{stop, rows_count}
 use Rattle.cif_inst.specs.Events.{rows_events, rows_slots}
@@ -238,6 +239,19 @@ kept_rules n rows h ranges r inside =
       ranges = ranges;
     }
 
+-- a source without definitions has the forms that nets are built of
+built-forms : (t : Source) → is_built t ≡ true → HasForms t
+built-forms t built =
+    let four : (has_no_definitions t && has_no_algebra t && has_no_channels t && has_no_invariants t) ≡ true =
+    and-left (has_no_definitions t && has_no_algebra t && has_no_channels t && has_no_invariants t) (has_no_received t) built in
+    let three : (has_no_definitions t && has_no_algebra t && has_no_channels t) ≡ true = and-left (has_no_definitions t && has_no_algebra t && has_no_channels t) (has_no_invariants t) four in
+    record {
+      no_algebra = and-right (has_no_definitions t) (has_no_algebra t) (and-left (has_no_definitions t && has_no_algebra t) (has_no_channels t) three);
+      no_channels = and-right (has_no_definitions t && has_no_algebra t) (has_no_channels t) three;
+      no_invariants = and-right (has_no_definitions t && has_no_algebra t && has_no_channels t) (has_no_invariants t) four;
+      no_received = and-right (has_no_definitions t && has_no_algebra t && has_no_channels t && has_no_invariants t) (has_no_received t) built;
+    }
+
 module _ (n : Naming) (rows : List RowTree) (autos : List Auto) (all : List Event) (vars : List Var) (m : IsMade n rows autos all vars) where
   its-net : net_of_parts autos all [] vars [] [] [] ≡ net_of_source (source_for n)
   its-net =
@@ -261,13 +275,13 @@ module _ (n : Naming) (rows : List RowTree) (autos : List Auto) (all : List Even
     whole-net : net_of_parts autos all inputs vars algs exclusions invariants ≡ net_of_source (source_for n)
     whole-net = (λ k. net_of_parts autos all (no_inputs k) vars (no_algs k) (no_exclusions k) (no_invariants k)) ∙ its-net
 
-    pub fits_with : ((t : Source) → is_built t ≡ true → KeepsBefore t algebraic → HasSmallParts t → is_net (net_of_source t) ≡ true) → HasSmallParts (source_for n)
+    pub fits_with : ((t : Source) → HasForms t → KeepsBefore t algebraic → HasSmallParts t → HasSmallArguments t → is_net (net_of_source t) ≡ true) → HasSmallParts (source_for n) → HasSmallArguments (source_for n)
         → is_net (net_of_parts autos all inputs vars algs exclusions invariants) ≡ true
-    fits_with nets small = ap is_net whole-net ∙ nets (source_for n) m.names.built its-rules small
+    fits_with nets small few = ap is_net whole-net ∙ nets (source_for n) (built-forms (source_for n) m.names.built) its-rules small few
 
-    pub represents_with : ((t : Source) → is_built t ≡ true → KeepsBefore t algebraic → Represents (net_of_source t) t)
+    pub represents_with : ((t : Source) → HasForms t → KeepsBefore t algebraic → Represents (net_of_source t) t)
         → Represents (net_of_parts autos all inputs vars algs exclusions invariants) (source_for n)
-    represents_with nets = subst (λ x. Represents x (source_for n)) (sym whole-net) (nets (source_for n) m.names.built its-rules)
+    represents_with nets = subst (λ x. Represents x (source_for n)) (sym whole-net) (nets (source_for n) (built-forms (source_for n) m.names.built) its-rules)
 
 -- ---- refusals
 

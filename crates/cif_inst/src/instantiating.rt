@@ -13,7 +13,6 @@ ghost use Rattle.cif_types.specs.Kinds.{KeepsKinds, AreKindsOf};
 ghost use Rattle.cif_net.specs.View.{net_tree};
 ghost use Rattle.cif_image.specs.Built.{is_built};
 ghost use Rattle.cif_image.specs.Represents.{Represents};
-ghost use Rattle.cif_image.specs.Small.{HasSmallParts};
 ghost use Rattle.cif_inst.specs.Net.{due, KeepsInstances};
 ghost use Rattle.cif_inst.specs.Objects.{rows_count};
 ghost use Rattle.cif_inst.specs.Rows.{rows_of};
@@ -33,7 +32,7 @@ use cif_net::Net;
 use cif_nets::{nets_of_sources_are_nets, nets_represent_their_sources};
 use cif_objects::objects_of;
 use cif_scope::Scopes;
-use cif_small::counted_trees_have_small_parts;
+use cif_small::{counted_trees_have_small_parts, trees_have_small_arguments};
 use cif_types::Kinds;
 use std::alloc::Global;
 
@@ -48,7 +47,8 @@ fn net_of_constants(
     requires scopes { AreScopesOf (source_of spec.now) scopes.now }
     requires kinds { KeepsKinds (source_of spec.now) }
     requires forms { is_built (source_of spec.now) ≡ true }
-    requires small { HasSmallParts (source_of spec.now) }
+    requires countable { IsCountable spec.now }
+    requires small { HasSmallNumbers spec.now }
     requires rows { map row_tree rows.now ≡ rows_of (source_of spec.now) }
     requires few { rows_count (map row_tree rows.now) ≤ most_objects }
     requires values { HasValues (source_of spec.now) scopes.now constants.now.numbers constants.now.values }
@@ -68,6 +68,8 @@ fn net_of_constants(
     };
     let autos = all_autos(alloc, &naming, rows, events)?;
     let vars = variables_of(alloc, spec, scopes, rows, constants)?;
+    counted_trees_have_small_parts();
+    trees_have_small_arguments();
     nets_of_sources_are_nets();
     nets_represent_their_sources();
     Ok(Net {
@@ -86,7 +88,8 @@ fn net_of_rows(alloc: Global, spec: &Spec, scopes: &Scopes, rows: &[Row]) -> Res
     requires scopes { AreScopesOf (source_of spec.now) scopes.now }
     requires kinds { KeepsKinds (source_of spec.now) }
     requires forms { is_built (source_of spec.now) ≡ true }
-    requires small { HasSmallParts (source_of spec.now) }
+    requires countable { IsCountable spec.now }
+    requires small { HasSmallNumbers spec.now }
     requires rows { map row_tree rows.now ≡ rows_of (source_of spec.now) }
     requires few { rows_count (map row_tree rows.now) ≤ most_objects }
     ensures represents { IfOk result (λ n. Represents (net_tree n) (source_of spec.now)) }
@@ -121,6 +124,5 @@ pub fn instantiate(
             count: TOO_MANY as u32,
         });
     }
-    counted_trees_have_small_parts();
     net_of_rows(alloc, spec, scopes, rows.as_slice())
 }

@@ -14,3 +14,4 @@ pub mod Updates
 pub mod Distinct
 pub mod Apart
 pub mod Net
+pub mod Rows

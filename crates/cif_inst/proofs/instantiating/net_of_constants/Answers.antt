@@ -51,7 +51,8 @@ invariant_of-result c =
     record { names = names; kinds = c.requires.kinds; ranges = c.requires.ranges; of_source = c.requires.rows; made = c.in_ok-autos.ensures.made; declared = c.in_ok-all.ensures.all; stored = c.in_ok-vars.ensures; inside = c.in_ok-autos.ensures.within } in
     record {
       fits = fits_with n (map row_tree c.args.rows.now) c.in_ok-autos.autos c.in_ok-all.field-0.all c.in_ok-vars.vars made c.new.result c.new-2.result c.new-3.result c.new-4.result
-          c.new.ensures c.new-2.ensures c.new-3.ensures c.new-4.ensures c.nets_of_sources_are_nets.ensures c.requires.small;
+          c.new.ensures c.new-2.ensures c.new-3.ensures c.new-4.ensures c.nets_of_sources_are_nets.ensures
+          (c.counted_trees_have_small_parts.ensures c.args.spec.now c.requires.countable c.requires.small) (c.trees_have_small_arguments.ensures c.args.spec.now c.requires.small);
     }
 
 pub returns-clause-represents : goal.returns-clause-represents
