@@ -1,6 +1,6 @@
 -- A worked source with a definition, whose two instances are given an event, a number and a location: its net is a net and
 -- represents it, by computing. Above the tree stands its text.
-use Rattle.std.proofs.Common.{◌≡◌, pos, List, [], ◌∷◌, map, Some, None, lit≤, refl}
+use Rattle.std.proofs.Common.{◌≡◌, ℕ, ℤ, pos, List, [], ◌∷◌, Some, None, lit≤, refl}
 use Rattle.std.specs.Prelude.{codes, true, false}
 use Rattle.cif_ast.specs.Tree.{Tree, node, number, named, sum, comparison, assignment}
 use Rattle.cif_ast.specs.View.{terms_of, updates_of}
@@ -8,15 +8,14 @@ use Rattle.cif_ast.specs.declared.declarations.Class.TheVariants as class
 use Rattle.cif_ast.specs.declared.expressions.CmpOp.TheVariants as cmp
 use Rattle.cif_system.specs.System.{State, initial}
 use Rattle.cif_system.specs.Choices.{first_step}
-use Rattle.cif_term.specs.Tree.{lt, net_expr, n_number, n_loc, n_var, n_sum, n_compare, n_and, no_net_exprs, net_exprs, no_net_terms, net_terms, net_set, no_net_updates, net_updates}
+use Rattle.cif_term.specs.Tree.{lt, net_expr, n_number, n_loc, n_var, n_sum, n_compare, n_and, no_net_exprs, net_exprs, no_net_terms, net_terms}
 use Rattle.cif_model.specs.Facts.{is_net}
-use Rattle.cif_model.specs.Net.{NetEdge}
 use Rattle.cif_model.specs.Meaning.{system_of_net}
 use Rattle.cif_source.specs.Source.{int_type, range_type, no_type, syncs, event_decl, const_decl, disc_decl, event_param, alg_param, location_param, decl_item, component_item, definition_item, instance_item, InstanceTree, ParamTree, EdgeTree, SourceBody, automaton_body, Source}
 use Rattle.cif_source.specs.Components.{Component, whole, part, copy}
-use Rattle.cif_source.specs.Objects.{components_of, automata, event_edges}
+use Rattle.cif_source.specs.Objects.{automata}
 use Rattle.cif_source.proofs.Terms.{word, single, dotted, event_use, edge_by, place, behaviour, instance_named, source_list}
-use Rattle.cif_image.specs.Flat.{net_of_source, net_edge, net_updates_of, event_number}
+use Rattle.cif_image.specs.Flat.{net_of_source, event_number}
 use Rattle.cif_image.specs.Translation.{net_of, net_guard}
 use Rattle.cif_image.specs.Represents.{Represents}
 use Rattle.cif_image.proofs.RepresentsLaws.{apart-differ, all-found, net-represents}
