@@ -5,8 +5,8 @@ mod KidLaws
 mod ListLaws
 mod SizeLaws
 mod ListNumbers
-mod FindSingle
+pub mod FindSingle
 mod FindEntries
-mod FindChildren
-mod FindLaws
+pub mod FindChildren
+pub mod FindLaws
 mod OuterLaws

@@ -1,0 +1,6 @@
+mod Lists
+mod Entries
+mod Ranks
+mod Positions
+mod BodyLaws
+mod NumberLaws
