@@ -1,0 +1,5 @@
+pub mod Given
+pub mod Stripping
+pub mod Passing
+pub mod Following
+pub mod Reading
