@@ -1,11 +1,11 @@
 #!/usr/bin/env python3
-"""Compares the components of a source, instances included, and what names find from them, with a plain walk over frames, on random
-sources.
+"""Compares the components of a source, instances included, the numbers of what they declare, and what names find from them, with a plain
+walk over frames, on random sources.
 
     tools/compare_components.py CASES [SOURCES [SEED]]
 
-CASES is the program of `crates/data_cases`, which is asked `components` for each source that keeps all rules on scopes, and `from` for
-names in its components. A frame is a body with the frame round it; an instance has the body of its definition and the frame in which
+CASES is the program of `crates/data_cases`, which is asked `components` and `numbers` for each source that keeps all rules on scopes, and
+`from` for names in its components. A frame is a body with the frame round it; an instance has the body of its definition and the frame in which
 the definition stands, and stands where its arguments are given. The status is 1 where the two differ.
 """
 import random
@@ -13,9 +13,12 @@ import subprocess
 import sys
 
 from compare_names import Writer
-from plain_names import COMPONENT, DEFINITION, INSTANCE, due, written
+from plain_names import ALG, COMPONENT, DEFINITION, DISC, EVENT, INPUT, INSTANCE, due, written
 
 MOST = 300
+
+# What is numbered in the flat net, with its word in an answer and in the counts of all.
+NUMBERED = {EVENT: ("event", "events"), INPUT: ("input", "inputs"), DISC: ("variable", "variables"), ALG: ("alg", "algs")}
 
 
 class Frame:
@@ -112,6 +115,23 @@ def found(root, frame, name):
     return place
 
 
+def numbers_of(frames):
+    """What each component is, with the numbers of what it declares, and the counts of all."""
+    counts, automata, told = dict.fromkeys(NUMBERED, 0), 0, []
+    for frame in frames:
+        words = ["group"]
+        if frame.body.is_automaton:
+            words = ["automaton %d" % automata]
+            automata += 1
+        for slot in frame.body.slots:
+            if slot.sort in NUMBERED:
+                words.append("%s %s %d" % (slot.name, NUMBERED[slot.sort][0], counts[slot.sort]))
+                counts[slot.sort] += 1
+        told.append(", ".join(words))
+    sums = ["%d %s" % (counts[sort], NUMBERED[sort][1]) for sort in NUMBERED] + ["%d automata" % automata]
+    return told + ["of all " + ", ".join(sums)]
+
+
 def cases_of(choose, writer):
     """The cases of a source, each with its answer; none where the source has too many components."""
     root = Frame(writer.root)
@@ -126,7 +146,7 @@ def cases_of(choose, writer):
         if frame.stands:
             line += " at %d:%d in %d" % (numbers[id(frame.stands[0])], frame.stands[1], numbers[id(frame.outer)])
         told.append(line)
-    cases = [("components " + writer.text, told)]
+    cases = [("components " + writer.text, told), ("numbers " + writer.text, numbers_of(frames))]
     for _ in range(10):
         frame = choose.choice(frames)
         name = choose.choice([writer.name, lambda: writer.walked(frame.body)])()
@@ -162,7 +182,7 @@ def main(cases, sources=300, seed=1):
             line = next(told, None)
         if case.startswith("components"):
             components += len(wanted)
-        else:
+        elif case.startswith("from"):
             names += wanted != ["nothing"]
         if answer != wanted:
             differ += 1

@@ -1,16 +1,12 @@
 //! Cases of the components of a source by numbers.
 
-ghost use Rattle.cif_scope.specs.Scopes.{AreScopesOf};
-ghost use Rattle.cif_source.specs.Source.{source_of};
-
 use crate::rules::constant_of;
 use crate::sources::tree_of;
 use case_text::{Fault, Fields, Put, first_word, number};
-use cif_ast::{Form, Name, Spec};
-use cif_components::{Components, ComponentsErr, number_components};
+use cif_ast::{Form, Name};
+use cif_components::{Components, number_components};
 use cif_resolve::resolve;
 use cif_scope::Scopes;
-use std::alloc::Global;
 
 fn put_component(page: &mut String, components: &Components, number: u32) -> Put {
     let Some(one) = components.get(number) else {
@@ -33,19 +29,13 @@ fn put_components(page: &mut String, components: &Components) -> Result<(), Faul
     Ok(())
 }
 
-fn numbered(alloc: Global, spec: &Spec, scopes: &Scopes) -> Result<Components, ComponentsErr>
-    requires { AreScopesOf (source_of spec.now) scopes.now }
-{
-    number_components(alloc, spec, scopes)
-}
-
 /// `components TEXT`: the components of a source, each with its body, where it stands, and its outer component.
 pub fn components_case(fields: &Fields<'_>, page: &mut String) -> Result<(), Fault> {
     let text = fields.text()?;
     let spec = tree_of(fields.alloc, text.as_slice())?;
     match resolve(fields.alloc, &spec) {
         Err(error) => Ok(writeln!(page, "  {error:?}")?),
-        Ok(scopes) => match numbered(fields.alloc, &spec, &scopes) {
+        Ok(scopes) => match number_components(fields.alloc, &spec, &scopes) {
             Err(error) => Ok(writeln!(page, "  {error:?}")?),
             Ok(components) => put_components(page, &components),
         },
@@ -80,7 +70,7 @@ pub fn from_case(fields: &Fields<'_>, page: &mut String) -> Result<(), Fault> {
     let spec = tree_of(fields.alloc, text.as_slice())?;
     match resolve(fields.alloc, &spec) {
         Err(error) => Ok(writeln!(page, "  {error:?}")?),
-        Ok(scopes) => match numbered(fields.alloc, &spec, &scopes) {
+        Ok(scopes) => match number_components(fields.alloc, &spec, &scopes) {
             Err(error) => Ok(writeln!(page, "  {error:?}")?),
             Ok(components) => Ok(put_found(page, &scopes, &components, component, name)?),
         },

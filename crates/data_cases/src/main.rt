@@ -1,6 +1,6 @@
-//! Cases of expressions, of the rules on kinds, constants and updates, and of components, as data: asks the public calls of the libraries what
-//! the standard input says, and prints what they answer. The file `stdout` beside this crate has the expected answers, which are
-//! never taken from a run. `case_text` says how lines and texts are written.
+//! Cases of expressions, of components and their parameters, and of the rules on kinds, constants and updates, as data: asks the
+//! public calls of the libraries what the standard input says, and prints what they answer. The file `stdout` beside this crate has
+//! the expected answers, which are never taken from a run. `case_text` says how lines and texts are written.
 //!
 //! The calls:
 //!
@@ -9,6 +9,11 @@
 //! - `interval NUMBERS | EXPR`: the interval, the size and the depth of an expression, in which `a` is the first variable, `b` the
 //!   second and so on; the numbers are the lower and the upper bound of what is received, and then those of each variable;
 //! - `kinds TEXT`: whether a source of any form keeps the rules on kinds, or one that it breaks;
+//! - `numbers TEXT`: whether each component of a source is an automaton, with its number, and the numbers of what it declares; and how
+//!   many events, inputs, variables, algebraic variables and automata there are;
+//! - `parameters TEXT`: what the parameters of each component with some stand for: an event or a location by the component that
+//!   declares it and its name there, or the expression of a component at a place, and behind `as` the place of the parentheses that
+//!   stood round it;
 //! - `rules TEXT`: what the rules on constants, on assigned variables and on definitions of algebraic variables say of a source, and
 //!   the kind of each name of each of its bodies, with the lists of literals by their numbers;
 //! - `value TEXT`: the value of the constant that a source declares last, in which each name of a constant has the value 0.
@@ -18,6 +23,8 @@ mod calls;
 mod components;
 mod expressions;
 mod intervals;
+mod numbers;
+mod parameters;
 mod rules;
 mod sources;
 
