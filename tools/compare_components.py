@@ -165,7 +165,7 @@ def made(choose):
             return writer
 
 
-def main(cases, sources=300, seed=1):
+def main(cases, sources=150, seed=1):
     choose = random.Random(seed)
     asked = [case for _ in range(sources) for case in cases_of(choose, made(choose))]
     text = "".join(line + "\n" for line, _ in asked)
