@@ -65,6 +65,7 @@ module _ (text : Text) where
   inst_ends (inst.AlphabetLacks at) h = h
   inst_ends (inst.TooManyObjects count) h = h
   inst_ends (inst.ConstantRange at) h = h
+  inst_ends (inst.TooLarge nodes depth) h = h
   inst_ends inst.Memory h = absurd h
 
   alg_ends : (e : AlgErr) → HasRule (SourceDue text) (alg_rule e) → SourceEnds text (alg_status_of e)

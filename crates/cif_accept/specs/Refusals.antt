@@ -50,6 +50,7 @@ abbrev pub inst_status_of : InstErr → Status
 inst_status_of (inst.AlphabetLacks at) = status.Refused (refusal.AlphabetLacks at)
 inst_status_of (inst.TooManyObjects count) = status.Refused (refusal.TooManyObjects count)
 inst_status_of (inst.ConstantRange at) = status.Refused (refusal.ConstantRange at)
+inst_status_of (inst.TooLarge nodes depth) = status.Refused (refusal.TooLarge nodes depth)
 inst_status_of inst.Memory = status.Memory
 
 abbrev pub alg_status_of : AlgErr → Status

@@ -70,6 +70,7 @@ fn inst_status(error: InstErr) -> Status
         InstErr::AlphabetLacks { at } => Refusal::AlphabetLacks { at },
         InstErr::TooManyObjects { count } => Refusal::TooManyObjects { count },
         InstErr::ConstantRange { at } => Refusal::ConstantRange { at },
+        InstErr::TooLarge { nodes, depth } => Refusal::TooLarge { nodes, depth },
         InstErr::Memory => return Status::Memory,
     };
     Status::Refused { why }

@@ -8,6 +8,7 @@ use Rattle.cif_system.specs.System.{Role, sending, receiving}
 use Rattle.cif_system.specs.Choices.{product_by}
 use Rattle.cif_model.specs.Net.{NetEdge, NetAuto, NetEvent, NetExclusion}
 use Rattle.cif_model.specs.Listing.{syncs_on}
+use Rattle.cif_model.specs.Counts.{Measure}
 use Rattle.cif_alg.specs.declared.weighed.Weighed.{Weighed}
 use Rattle.cif_alg.specs.declared.tally.Tally.{Tally}
 use Rattle.cif_alg.specs.Weighed.{cut, weighed, paired, all_nodes}
@@ -27,9 +28,9 @@ factor j a = if syncs_on j a then option_count j a else 1
 abbrev pub rows : ℕ → List NetAuto → ℕ
 rows j autos = product_by (factor j) autos
 
-abbrev autos_at : List NetAuto → (j : ℕ) → Tally → Tally
-autos_at [] j t = t
-autos_at (a ∷ autos) j t = autos_at autos j (auto_at a j t)
+abbrev autos_at : (alg : ℕ → Measure) → List NetAuto → (j : ℕ) → Tally → Tally
+autos_at alg [] j t = t
+autos_at alg (a ∷ autos) j t = autos_at alg autos j (auto_at alg a j t)
 
 spread : (r w f d p v : ℕ) → (w * f + r * d) * p + r * f * v ≡ w * (f * p) + r * (d * p + f * v)
 spread r w f d p v = omega (arith, add-mul (w * f) (r * d) p, mul_assoc w f p, mul_assoc r d p, mul_assoc r f v, mul-add r (d * p) (f * v))
@@ -48,19 +49,19 @@ role_edges p j autos = flat_map (λ (a : NetAuto). own_edges p j a.edges) autos
 
 -- ---- all events
 
-tallied-table : (a : NetAuto) (n : ℕ) (f : ℕ → Tally) → tallied a (table f 0 n) ≡ table (λ j. auto_at a j (f j)) 0 n
-tallied-table a n f =
+tallied-table : (alg : ℕ → Measure) (a : NetAuto) (n : ℕ) (f : ℕ → Tally) → tallied alg a (table f 0 n) ≡ table (λ j. auto_at alg a j (f j)) 0 n
+tallied-table alg a n f =
     let g : ℕ → Tally = λ j. each_at (λ e. e) (λ e. opened) a.alphabet j (f j) in
-    let h : ℕ → Tally = λ j. edges_at a.edges j (g j) in
+    let h : ℕ → Tally = λ j. edges_at alg a.edges j (g j) in
     let k : ℕ → Tally = λ j. each_at (λ e. e) (λ e. with_stay) a.monitors j (h j) in
-    ap (λ ts. closed_for a.alphabet (stays_noted a.monitors (edges_noted a.edges ts))) (each-table (λ e. e) (λ e. opened) a.alphabet n f)
-    ∙ ap (λ ts. closed_for a.alphabet (stays_noted a.monitors ts)) (each-table (λ (x : NetEdge). x.event) (λ x. with_edge x.role (edge_nodes x)) a.edges n g)
+    ap (λ ts. closed_for a.alphabet (stays_noted a.monitors (edges_noted alg a.edges ts))) (each-table (λ e. e) (λ e. opened) a.alphabet n f)
+    ∙ ap (λ ts. closed_for a.alphabet (stays_noted a.monitors ts)) (each-table (λ (x : NetEdge). x.event) (λ x. with_edge x.role (edge_nodes alg x)) a.edges n g)
     ∙ ap (closed_for a.alphabet) (each-table (λ e. e) (λ e. with_stay) a.monitors n h)
     ∙ each-table (λ e. e) (λ e. closed) a.alphabet n k
 
-all-table : (autos : List NetAuto) (n : ℕ) (f : ℕ → Tally) → all_tallied autos (table f 0 n) ≡ table (λ j. autos_at autos j (f j)) 0 n
-all-table [] n f = refl
-all-table (a ∷ autos) n f = ap (all_tallied autos) (tallied-table a n f) ∙ all-table autos n (λ j. auto_at a j (f j))
+all-table : (alg : ℕ → Measure) (autos : List NetAuto) (n : ℕ) (f : ℕ → Tally) → all_tallied alg autos (table f 0 n) ≡ table (λ j. autos_at alg autos j (f j)) 0 n
+all-table alg [] n f = refl
+all-table alg (a ∷ autos) n f = ap (all_tallied alg autos) (tallied-table alg a n f) ∙ all-table alg autos n (λ j. auto_at alg a j (f j))
 
 -- the event there is a channel
 abbrev pub is_channel_there : List NetEvent → ℕ → Bool
@@ -106,10 +107,10 @@ module _ (v : NetEdge → ℕ) (u : NetExclusion → ℕ) where
       let f : w * 1 + r * 0 ≡ w = omega arith in
       λ i. resting v (e i) (f i) (or-false p i) ss rs
 
-  module _ (edges : (x : NetEdge) → edge_nodes x ≡ cut (v x)) (exclusions : (x : NetExclusion) → exclusion_nodes x ≡ cut (u x)) where
+  module _ (alg : ℕ → Measure) (edges : (x : NetEdge) → edge_nodes alg x ≡ cut (v x)) (exclusions : (x : NetExclusion) → exclusion_nodes alg x ≡ cut (u x)) where
     one-counted : (a : NetAuto) (j r w : ℕ) (p : Bool) (ss rs : List NetEdge)
-        → auto_at a j (resting v r w p ss rs) ≡ resting v (r * factor j a) (w * factor j a + r * addend j a) (p || syncs_on j a) (ss ++ own_edges sending j a.edges) (rs ++ own_edges receiving j a.edges)
-    one-counted a j r w p ss rs = auto-counted v edges a j r w p ss rs ∙ by (syncs_on j a) p
+        → auto_at alg a j (resting v r w p ss rs) ≡ resting v (r * factor j a) (w * factor j a + r * addend j a) (p || syncs_on j a) (ss ++ own_edges sending j a.edges) (rs ++ own_edges receiving j a.edges)
+    one-counted a j r w p ss rs = auto-counted v alg edges a j r w p ss rs ∙ by (syncs_on j a) p
       where
         ts : List NetEdge
         ts = ss ++ own_edges sending j a.edges
@@ -124,31 +125,31 @@ module _ (v : NetEdge → ℕ) (u : NetExclusion → ℕ) where
         by false q = sym (same-resting r w q ts us)
 
     autos-counted : (autos : List NetAuto) (j r w : ℕ) (p : Bool) (ss rs : List NetEdge)
-        → autos_at autos j (resting v r w p ss rs) ≡ resting v (r * rows j autos) (w * rows j autos + r * rows_nodes j autos) (p || list_any (syncs_on j) autos) (ss ++ role_edges sending j autos) (rs ++ role_edges receiving j autos)
+        → autos_at alg autos j (resting v r w p ss rs) ≡ resting v (r * rows j autos) (w * rows j autos + r * rows_nodes j autos) (p || list_any (syncs_on j) autos) (ss ++ role_edges sending j autos) (rs ++ role_edges receiving j autos)
     autos-counted [] j r w p ss rs = sym (same-resting r w p ss rs) ∙ λ i. resting v (r * 1) (w * 1 + r * 0) (p || false) (sym (append-nil ss) i) (sym (append-nil rs) i)
     autos-counted (a ∷ autos) j r w p ss rs =
         let f : ℕ = factor j a in
         let d : ℕ = addend j a in
         let q : ℕ = rows j autos in
         let s : ℕ = rows_nodes j autos in
-        ap (autos_at autos j) (one-counted a j r w p ss rs)
+        ap (autos_at alg autos j) (one-counted a j r w p ss rs)
         ∙ autos-counted autos j (r * f) (w * f + r * d) (p || syncs_on j a) (ss ++ own_edges sending j a.edges) (rs ++ own_edges receiving j a.edges)
         ∙ λ i. resting v (mul_assoc r f q i) (spread r w f d q s i) (or-assoc p (syncs_on j a) (list_any (syncs_on j) autos) i)
         (append_assoc ss (own_edges sending j a.edges) (role_edges sending j autos) i) (append_assoc rs (own_edges receiving j a.edges) (role_edges receiving j autos) i)
 
-    rests : (autos : List NetAuto) (j : ℕ) → autos_at autos j nothing_met ≡ resting v (rows j autos) (rows_nodes j autos) (list_any (syncs_on j) autos) (role_edges sending j autos) (role_edges receiving j autos)
+    rests : (autos : List NetAuto) (j : ℕ) → autos_at alg autos j nothing_met ≡ resting v (rows j autos) (rows_nodes j autos) (list_any (syncs_on j) autos) (role_edges sending j autos) (role_edges receiving j autos)
     rests autos j =
         let e : 1 * rows j autos ≡ rows j autos = omega arith in
         let f : 0 * rows j autos + 1 * rows_nodes j autos ≡ rows_nodes j autos = omega arith in
         autos-counted autos j 1 0 false [] []
         ∙ λ i. resting v (e i) (f i) (list_any (syncs_on j) autos) (role_edges sending j autos) (role_edges receiving j autos)
 
-    total-counted : (autos : List NetAuto) (xs : List NetExclusion) (c : Bool) (j : ℕ) → tally_nodes c (exclusions_at xs j (autos_at autos j nothing_met)) ≡ cut (event_total autos xs c j)
+    total-counted : (autos : List NetAuto) (xs : List NetExclusion) (c : Bool) (j : ℕ) → tally_nodes c (exclusions_at alg xs j (autos_at alg autos j nothing_met)) ≡ cut (event_total autos xs c j)
     total-counted autos xs c j =
         let t : Tally = resting v p q (list_any (syncs_on j) autos) ss rs in
         let z : 0 + b ≡ b = omega arith in
-        ap (λ y. tally_nodes c (exclusions_at xs j y)) (rests autos j)
-        ∙ ap (tally_nodes c) (exclusions-counted u exclusions j t xs 0)
+        ap (λ y. tally_nodes c (exclusions_at alg xs j y)) (rests autos j)
+        ∙ ap (tally_nodes c) (exclusions-counted alg u exclusions j t xs 0)
         ∙ ap (λ y. tally_nodes c (beside t y)) z
         ∙ by c (list_any (syncs_on j) autos)
       where
@@ -176,14 +177,14 @@ module _ (v : NetEdge → ℕ) (u : NetExclusion → ℕ) where
         by false true = all-weighed b p q
         by false false = refl
 
-    pub counted_are : (autos : List NetAuto) (xs : List NetExclusion) (events : List NetEvent) → counted autos xs events ≡ cut (sum_by (λ j. event_total autos xs (is_channel_there events j) j) (range_with_len 0 (length events)))
+    pub counted_are : (autos : List NetAuto) (xs : List NetExclusion) (events : List NetEvent) → counted alg autos xs events ≡ cut (sum_by (λ j. event_total autos xs (is_channel_there events j) j) (range_with_len 0 (length events)))
     counted_are autos xs events =
         let n : ℕ = length events in
-        let f : ℕ → Tally = λ j. exclusions_at xs j (autos_at autos j nothing_met) in
+        let f : ℕ → Tally = λ j. exclusions_at alg xs j (autos_at alg autos j nothing_met) in
         let total : ℕ → ℕ = λ j. event_total autos xs (is_channel_there events j) j in
         let z : 0 + sum_by total (range_with_len 0 n) ≡ sum_by total (range_with_len 0 n) = omega arith in
-        ap (λ ts. tallies_nodes 0 events (exclusions_noted xs (all_tallied autos ts))) (filled-table nothing_met 0 n)
-        ∙ ap (λ ts. tallies_nodes 0 events (exclusions_noted xs ts)) (all-table autos n (λ j. nothing_met))
-        ∙ ap (tallies_nodes 0 events) (each-table (λ (x : NetExclusion). x.event) (λ x. with_besides (exclusion_nodes x)) xs n (λ j. autos_at autos j nothing_met))
+        ap (λ ts. tallies_nodes 0 events (exclusions_noted alg xs (all_tallied alg autos ts))) (filled-table nothing_met 0 n)
+        ∙ ap (λ ts. tallies_nodes 0 events (exclusions_noted alg xs ts)) (all-table alg autos n (λ j. nothing_met))
+        ∙ ap (tallies_nodes 0 events) (each-table (λ (x : NetExclusion). x.event) (λ x. with_besides (exclusion_nodes alg x)) xs n (λ j. autos_at alg autos j nothing_met))
         ∙ nodes-summed f (is_channel_there events) total (λ j. total-counted autos xs (is_channel_there events j) j) events 0 0 0 (λ d. let e : d ≡ 0 + d = omega arith in ap (is_channel_there events) e) refl
         ∙ ap cut z

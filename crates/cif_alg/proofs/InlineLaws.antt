@@ -151,13 +151,13 @@ module _ (x : n.Net) (no-algs : x.algs ≡ []) (no-invariants : x.invariants ≡
   plain-sizes : (es : List NetExpr) → sizes_by (table_measure []) es ≡ size_of x es
   plain-sizes es = sym (ap (λ ms. sum_by (λ g. (measure_by (at_or no_form ms) g).size) es) no-measures)
 
-  edge-weighs : (y : n.NetEdge) → edge_nodes y ≡ cut (edge_weight x y)
+  edge-weighs : (y : n.NetEdge) → edge_nodes (table_measure []) y ≡ cut (edge_weight x y)
   unfolding edge_nodes
   edge-weighs y = omega (arith, plain-sizes (edge_exprs y))
 
-  exclusion-weighs : (y : n.NetExclusion) → exclusion_nodes y ≡ cut (exclusion_weight x y)
+  exclusion-weighs : (y : n.NetExclusion) → exclusion_nodes (table_measure []) y ≡ cut (exclusion_weight x y)
   unfolding exclusion_nodes
   exclusion-weighs y = omega (arith, plain-sizes (y.pred ∷ []), sum_by-cons (λ g. (measure x g).size) y.pred [])
 
-  pub told : counted x.autos x.exclusions x.events ≡ stopped most_nodes (nodes x)
-  told = counted_are (edge_weight x) (exclusion_weight x) edge-weighs exclusion-weighs x.autos x.exclusions x.events ∙ ap cut (sym nodes-are)
+  pub told : counted (table_measure []) x.autos x.exclusions x.events ≡ stopped most_nodes (nodes x)
+  told = counted_are (edge_weight x) (exclusion_weight x) (table_measure []) edge-weighs exclusion-weighs x.autos x.exclusions x.events ∙ ap cut (sym nodes-are)

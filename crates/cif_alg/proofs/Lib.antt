@@ -10,4 +10,5 @@ mod RoleLaws
 mod KeepLaws
 mod InlineLaws
 mod LimitLaws
+mod OutlineLaws
 mod Rows

@@ -10,6 +10,7 @@ use Rattle.cif_model.specs.Rules.{evaluated, is_plain_expr, invariant_keeps, is_
 use Rattle.cif_net.specs.declared.net.Net.{Net}
 use Rattle.cif_net.specs.View.{net_tree, auto_tree, event_tree, exclusion_tree}
 use Rattle.cif_measure.proofs.IntervalLaws.{acyclic}
+use Rattle.cif_measure.specs.Meanings.{table_measure}
 use Rattle.cif_measure.specs.declared.error.WidthErr.TheVariants as width
 use Rattle.cif_measure.specs.declared.error.IntervalErr.{IntervalErr}
 use Rattle.cif_measure.specs.declared.error.IntervalErr.TheVariants as interval
@@ -30,7 +31,7 @@ past m v =
 
 -- k nodes were counted, and the depth d
 module _ (net : Net) (no-algs : (net_tree net).algs ≡ []) (no-invariants : (net_tree net).invariants ≡ []) (k d : ℕ)
-    (are : k ≡ counted (map auto_tree net.autos) (map exclusion_tree net.exclusions) (map event_tree net.events)) (deep : d ≡ stopped most_depth (depth (net_tree net))) where
+    (are : k ≡ counted (table_measure []) (map auto_tree net.autos) (map exclusion_tree net.exclusions) (map event_tree net.events)) (deep : d ≡ stopped most_depth (depth (net_tree net))) where
   nodes-told : k ≡ stopped most_nodes (nodes (net_tree net))
   nodes-told = are ∙ told (net_tree net) no-algs no-invariants net.fits
 

@@ -2,13 +2,16 @@
 use Rattle.std.proofs.Common.{◌≡◌, ℕ, ◌+◌, ◌*◌, true, List, [], ◌∷◌, ◌++◌, drop, replicate, refl}
 use Rattle.cif_system.specs.System.{plain}
 use Rattle.cif_system.specs.Choices.{all_choices}
-use Rattle.cif_term.specs.Tree.{NetExpr, lt, no_net_updates}
+use Rattle.cif_term.specs.Tree.{NetExpr, n_alg, lt, no_net_updates}
 use Rattle.cif_model.specs.Net.{no_net_chan, NetEdge, NetAuto, NetExclusion, Net}
 use Rattle.cif_model.specs.Meaning.{system_of_net}
 use Rattle.cif_model.specs.Counts.{nodes, depth}
 use Rattle.cif_model.specs.Rules.{is_plain}
-use Rattle.cif_model.proofs.Examples.{sure, num, var, compare, event, edge, auto, net_with, counter, channel}
+use Rattle.cif_model.proofs.Examples.{here, sure, num, var, compare, event, edge, auto, net_with, counter, channel}
+use Rattle.cif_measure.specs.declared.measures.Measure.{Measure}
+use Rattle.cif_measure.specs.Meanings.{table_measure}
 use Rattle.cif_alg.specs.Tallies.{edge_nodes, exclusion_nodes, counted}
+use Rattle.cif_alg.specs.Outlines.{AreAsLarge}
 
 -- so many edges for event 0
 abbrev with_edges : ℕ → NetAuto
@@ -21,7 +24,7 @@ abbrev net : List NetAuto → Net
 net autos = net_with (event plain no_net_chan) autos
 
 abbrev nodes_counted : Net → ℕ
-nodes_counted n = counted n.autos n.exclusions n.events
+nodes_counted n = counted (table_measure []) n.autos n.exclusions n.events
 
 -- three edges and four: twelve choices, each itself, two parties and two guards
 abbrev two : Net
@@ -126,6 +129,24 @@ counting_nodes = refl
 counting_counted : nodes_counted (counter small) ≡ 8
 unfolding edge_nodes exclusion_nodes
 counting_counted = refl
+
+-- the same of an outline, which has a measure in the place of the guard and the update
+abbrev measures : ℕ → List Measure
+measures size = record { size = 1; depth = 0 } ∷ record { size = size; depth = 1 } ∷ []
+
+abbrev outline : List NetAuto
+outline = auto (0 ∷ []) (edge (here (n_alg 1)) no_net_updates [] ∷ []) ∷ []
+
+outline_is_as_large : AreAsLarge (measures 6) outline [] (counter small)
+outline_is_as_large = record { autos_as = refl; exclusions_as = refl }
+
+outline_counted : counted (table_measure (measures 6)) outline [] (counter small).events ≡ 8
+unfolding edge_nodes exclusion_nodes
+outline_counted = refl
+
+large_outline_counted : counted (table_measure (measures 2000000)) outline [] (counter small).events ≡ 1000001
+unfolding edge_nodes exclusion_nodes
+large_outline_counted = refl
 
 counting_depth : depth (counter small) ≡ 1
 counting_depth = refl

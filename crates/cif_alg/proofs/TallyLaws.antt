@@ -8,6 +8,7 @@ use Rattle.cif_system.specs.System.{Role, syncing, sending, receiving}
 use Rattle.cif_system.specs.Step.{same_role}
 use Rattle.cif_model.specs.Net.{NetEdge, NetAuto, NetExclusion}
 use Rattle.cif_model.specs.Listing.{syncs_on}
+use Rattle.cif_model.specs.Counts.{Measure}
 use Rattle.cif_alg.specs.declared.weighed.Weighed.{Weighed}
 use Rattle.cif_alg.specs.declared.tally.Options.{Options}
 use Rattle.cif_alg.specs.declared.tally.Tally.{Tally}
@@ -77,11 +78,11 @@ abbrev pub option_count : ℕ → NetAuto → ℕ
 option_count j a = length (own_edges syncing j a.edges) + own_stay j a
 
 -- the changes by its edges, and all that it changes
-abbrev pub edges_at : List NetEdge → (j : ℕ) → Tally → Tally
-edges_at xs j t = each_at (λ (x : NetEdge). x.event) (λ x. with_edge x.role (edge_nodes x)) xs j t
+abbrev pub edges_at : (alg : ℕ → Measure) → List NetEdge → (j : ℕ) → Tally → Tally
+edges_at alg xs j t = each_at (λ (x : NetEdge). x.event) (λ x. with_edge x.role (edge_nodes alg x)) xs j t
 
-abbrev pub auto_at : NetAuto → (j : ℕ) → Tally → Tally
-auto_at a j t = each_at (λ e. e) (λ e. closed) a.alphabet j (each_at (λ e. e) (λ e. with_stay) a.monitors j (edges_at a.edges j (each_at (λ e. e) (λ e. opened) a.alphabet j t)))
+abbrev pub auto_at : (alg : ℕ → Measure) → NetAuto → (j : ℕ) → Tally → Tally
+auto_at alg a j t = each_at (λ e. e) (λ e. closed) a.alphabet j (each_at (λ e. e) (λ e. with_stay) a.monitors j (edges_at alg a.edges j (each_at (λ e. e) (λ e. opened) a.alphabet j t)))
 
 all-options : (c n : ℕ) (s : Bool) → let o : Options = record { edges = weighed c n; stays = s } in all_options o ≡ weighed (c + (if s then 1 else 0)) (n + (if s then 1 else 0))
 all-options c n true = one_more 1 c n
@@ -128,14 +129,14 @@ module _ (v : NetEdge → ℕ) where
       by true = refl
       by false = refl
 
-  module _ (weighs : (x : NetEdge) → edge_nodes x ≡ cut (v x)) where
-    one-told : (x : NetEdge) (xs : List NetEdge) → with_one (edge_nodes x) (told xs) ≡ told (xs ++ x ∷ [])
+  module _ (alg : ℕ → Measure) (weighs : (x : NetEdge) → edge_nodes alg x ≡ cut (v x)) where
+    one-told : (x : NetEdge) (xs : List NetEdge) → with_one (edge_nodes alg x) (told xs) ≡ told (xs ++ x ∷ [])
     one-told x xs =
         let n : length xs + 1 ≡ length (xs ++ x ∷ []) = omega (arith, length-append xs (x ∷ [])) in
         let m : sum_by v xs + v x ≡ sum_by v (xs ++ x ∷ []) = omega (arith, sum_by-append v xs (x ∷ []), sum_by-cons v x []) in
         ap (λ k. with_one k (told xs)) (weighs x) ∙ one_more (v x) (length xs) (sum_by v xs) ∙ λ i. weighed (n i) (m i)
 
-    edge-met : (ch : Weighed) (p : Bool) (x : NetEdge) (o : Busy) (ss rs : List NetEdge) → with_edge syncing (edge_nodes x) (met ch p o ss rs) ≡ met ch p (with_edges o (x ∷ [])) ss rs
+    edge-met : (ch : Weighed) (p : Bool) (x : NetEdge) (o : Busy) (ss rs : List NetEdge) → with_edge syncing (edge_nodes alg x) (met ch p o ss rs) ≡ met ch p (with_edges o (x ∷ [])) ss rs
     edge-met ch p x None ss rs = refl
     edge-met ch p x (Some (xs, s)) ss rs = ap (λ (w : Weighed). record { choices = ch; has_party = p; options = Some (record { edges = w; stays = s }); sends = told ss; receives = told rs; besides = 0 }) (one-told x xs)
 
@@ -148,7 +149,7 @@ module _ (v : NetEdge → ℕ) where
     same-busy (Some (ys, s)) = ap (λ (zs : List NetEdge). let q : Busy = Some (zs, s) in q) (sym (append-nil ys))
 
     edges-met : (ch : Weighed) (p : Bool) (j : ℕ) (xs : List NetEdge) (o : Busy) (ss rs : List NetEdge)
-        → edges_at xs j (met ch p o ss rs) ≡ met ch p (with_edges o (own_edges syncing j xs)) (ss ++ own_edges sending j xs) (rs ++ own_edges receiving j xs)
+        → edges_at alg xs j (met ch p o ss rs) ≡ met ch p (with_edges o (own_edges syncing j xs)) (ss ++ own_edges sending j xs) (rs ++ own_edges receiving j xs)
     edges-met ch p j [] o ss rs = λ i. met ch p (same-busy o i) (sym (append-nil ss) i) (sym (append-nil rs) i)
     edges-met ch p j (x ∷ xs) o ss rs = by x.role (nat_eq x.event j) (edges-met ch p j xs)
       where
@@ -161,15 +162,15 @@ module _ (v : NetEdge → ℕ) where
         received : List NetEdge
         received = own_edges receiving j xs
 
-        by : (r : Role) (b : Bool) → ((q : Busy) (ts us : List NetEdge) → edges_at xs j (met ch p q ts us) ≡ met ch p (with_edges q own) (ts ++ sent) (us ++ received))
-            → edges_at xs j (if b then with_edge r (edge_nodes x) (met ch p o ss rs) else met ch p o ss rs)
+        by : (r : Role) (b : Bool) → ((q : Busy) (ts us : List NetEdge) → edges_at alg xs j (met ch p q ts us) ≡ met ch p (with_edges q own) (ts ++ sent) (us ++ received))
+            → edges_at alg xs j (if b then with_edge r (edge_nodes alg x) (met ch p o ss rs) else met ch p o ss rs)
             ≡ met ch p (with_edges o (if same_role syncing r && b then x ∷ own else own)) (ss ++ (if same_role sending r && b then x ∷ sent else sent)) (rs ++ (if same_role receiving r && b then x ∷ received else received))
-        by syncing true more = ap (edges_at xs j) (edge-met ch p x o ss rs) ∙ more (with_edges o (x ∷ [])) ss rs ∙ ap (λ (q : Busy). met ch p q (ss ++ sent) (rs ++ received)) (joined o x own)
+        by syncing true more = ap (edges_at alg xs j) (edge-met ch p x o ss rs) ∙ more (with_edges o (x ∷ [])) ss rs ∙ ap (λ (q : Busy). met ch p q (ss ++ sent) (rs ++ received)) (joined o x own)
         by sending true more =
-            ap (λ (w : Weighed). edges_at xs j (record { choices = ch; has_party = p; options = options_told o; sends = w; receives = told rs; besides = 0 })) (one-told x ss)
+            ap (λ (w : Weighed). edges_at alg xs j (record { choices = ch; has_party = p; options = options_told o; sends = w; receives = told rs; besides = 0 })) (one-told x ss)
             ∙ more o (ss ++ x ∷ []) rs ∙ ap (λ ts. met ch p (with_edges o own) ts (rs ++ received)) (append_assoc ss (x ∷ []) sent)
         by receiving true more =
-            ap (λ (w : Weighed). edges_at xs j (record { choices = ch; has_party = p; options = options_told o; sends = told ss; receives = w; besides = 0 })) (one-told x rs)
+            ap (λ (w : Weighed). edges_at alg xs j (record { choices = ch; has_party = p; options = options_told o; sends = told ss; receives = w; besides = 0 })) (one-told x rs)
             ∙ more o ss (rs ++ x ∷ []) ∙ ap (λ us. met ch p (with_edges o own) (ss ++ sent) us) (append_assoc rs (x ∷ []) received)
         by syncing false more = more o ss rs
         by sending false more = more o ss rs
@@ -177,11 +178,11 @@ module _ (v : NetEdge → ℕ) where
 
     -- the tally after an automaton
     pub auto-counted : (a : NetAuto) (j r w : ℕ) (p : Bool) (ss rs : List NetEdge)
-        → auto_at a j (resting r w p ss rs) ≡ (let ts : List NetEdge = ss ++ own_edges sending j a.edges in let us : List NetEdge = rs ++ own_edges receiving j a.edges in
+        → auto_at alg a j (resting r w p ss rs) ≡ (let ts : List NetEdge = ss ++ own_edges sending j a.edges in let us : List NetEdge = rs ++ own_edges receiving j a.edges in
         if syncs_on j a then resting (r * option_count j a) (w * option_count j a + r * option_nodes j a) true ts us else resting r w p ts us)
     auto-counted a j r w p ss rs =
-        ap (λ t. closing (staying (edges_at a.edges j t))) (each-once opened opened-twice a.alphabet j (resting r w p ss rs))
-        ∙ each-once closed closed-twice a.alphabet j (staying (edges_at a.edges j (if syncs_on j a then opened (resting r w p ss rs) else resting r w p ss rs)))
+        ap (λ t. closing (staying (edges_at alg a.edges j t))) (each-once opened opened-twice a.alphabet j (resting r w p ss rs))
+        ∙ each-once closed closed-twice a.alphabet j (staying (edges_at alg a.edges j (if syncs_on j a then opened (resting r w p ss rs) else resting r w p ss rs)))
         ∙ by (syncs_on j a)
       where
         staying : Tally → Tally
@@ -199,7 +200,7 @@ module _ (v : NetEdge → ℕ) where
         us : List NetEdge
         us = rs ++ own_edges receiving j a.edges
 
-        by : (b : Bool) → (let t : Tally = staying (edges_at a.edges j (if b then opened (resting r w p ss rs) else resting r w p ss rs)) in if b then closed t else t)
+        by : (b : Bool) → (let t : Tally = staying (edges_at alg a.edges j (if b then opened (resting r w p ss rs) else resting r w p ss rs)) in if b then closed t else t)
             ≡ (if b then resting (r * option_count j a) (w * option_count j a + r * option_nodes j a) true ts us else resting r w p ts us)
         by true =
             ap (λ t. closed (staying t)) (edges-met (weighed r w) p j a.edges (Some ([], false)) ss rs)
@@ -212,24 +213,24 @@ module _ (v : NetEdge → ℕ) where
 abbrev pub exclusions_for : ℕ → List NetExclusion → List NetExclusion
 exclusions_for j xs = filter (λ (x : NetExclusion). nat_eq x.event j) xs
 
-abbrev pub exclusions_at : List NetExclusion → (j : ℕ) → Tally → Tally
-exclusions_at xs j t = each_at (λ (x : NetExclusion). x.event) (λ x. with_besides (exclusion_nodes x)) xs j t
+abbrev pub exclusions_at : (alg : ℕ → Measure) → List NetExclusion → (j : ℕ) → Tally → Tally
+exclusions_at alg xs j t = each_at (λ (x : NetExclusion). x.event) (λ x. with_besides (exclusion_nodes alg x)) xs j t
 
 abbrev pub beside : Tally → ℕ → Tally
 beside t b = record t { besides = cut b }
 
 -- the tally after exclusions, where an exclusion has u nodes
-pub exclusions-counted : (u : NetExclusion → ℕ) → ((x : NetExclusion) → exclusion_nodes x ≡ cut (u x)) → (j : ℕ) (t : Tally) (xs : List NetExclusion) (b : ℕ)
-    → exclusions_at xs j (beside t b) ≡ beside t (b + sum_by u (exclusions_for j xs))
-exclusions-counted u weighs j t [] b = let e : b + 0 ≡ b = omega arith in sym (ap (beside t) e)
-exclusions-counted u weighs j t (x ∷ xs) b = by (nat_eq x.event j) (exclusions-counted u weighs j t xs)
+pub exclusions-counted : (alg : ℕ → Measure) (u : NetExclusion → ℕ) → ((x : NetExclusion) → exclusion_nodes alg x ≡ cut (u x)) → (j : ℕ) (t : Tally) (xs : List NetExclusion) (b : ℕ)
+    → exclusions_at alg xs j (beside t b) ≡ beside t (b + sum_by u (exclusions_for j xs))
+exclusions-counted alg u weighs j t [] b = let e : b + 0 ≡ b = omega arith in sym (ap (beside t) e)
+exclusions-counted alg u weighs j t (x ∷ xs) b = by (nat_eq x.event j) (exclusions-counted alg u weighs j t xs)
   where
-    by : (c : Bool) → ((d : ℕ) → exclusions_at xs j (beside t d) ≡ beside t (d + sum_by u (exclusions_for j xs)))
-        → exclusions_at xs j (if c then with_besides (exclusion_nodes x) (beside t b) else beside t b)
+    by : (c : Bool) → ((d : ℕ) → exclusions_at alg xs j (beside t d) ≡ beside t (d + sum_by u (exclusions_for j xs)))
+        → exclusions_at alg xs j (if c then with_besides (exclusion_nodes alg x) (beside t b) else beside t b)
         ≡ beside t (b + sum_by u (if c then x ∷ exclusions_for j xs else exclusions_for j xs))
     by true r =
         let e : b + u x + sum_by u (exclusions_for j xs) ≡ b + sum_by u (x ∷ exclusions_for j xs) = omega (arith, sum_by-cons u x (exclusions_for j xs)) in
-        ap (λ k. exclusions_at xs j (with_besides k (beside t b))) (weighs x)
-        ∙ ap (λ k. let q : Tally = record t { besides = k } in exclusions_at xs j q) (cut-add b (u x))
+        ap (λ k. exclusions_at alg xs j (with_besides k (beside t b))) (weighs x)
+        ∙ ap (λ k. let q : Tally = record t { besides = k } in exclusions_at alg xs j q) (cut-add b (u x))
         ∙ r (b + u x) ∙ ap (beside t) e
     by false r = r b

@@ -2,3 +2,4 @@ pub mod Keeps
 pub mod Refusals
 pub mod Weighed
 pub mod Tallies
+pub mod Outlines

@@ -3,8 +3,8 @@ use Rattle.std.specs.Prelude.{ℕ, ◌+◌, Bool, true, false, List, [], ◌∷�
 use Rattle.cif_system.specs.System.{Role, syncing, sending, receiving}
 use Rattle.cif_term.specs.Tree.{NetExpr}
 use Rattle.cif_model.specs.Net.{no_net_chan, NetEdge, NetAuto, NetEvent, NetExclusion}
+use Rattle.cif_model.specs.Counts.{Measure}
 use Rattle.cif_model.specs.Exprs.{edge_exprs}
-use Rattle.cif_measure.specs.Meanings.{table_measure}
 use Rattle.cif_measure.specs.Sizes.{sizes_by}
 use Rattle.cif_alg.specs.declared.weighed.Weighed.{Weighed}
 use Rattle.cif_alg.specs.declared.tally.Options.{Options}
@@ -57,18 +57,17 @@ abbrev pub tally_nodes : (is_channel : Bool) → Tally → ℕ
 tally_nodes true t = all_nodes (cut (1 + t.besides)) (paired t.sends (paired t.receives t.choices))
 tally_nodes false t = if t.has_party then all_nodes (cut (1 + t.besides)) t.choices else 0
 
--- ---- sizes
+-- ---- sizes, where alg tells what an algebraic variable weighs
 
--- what expressions weigh that name no algebraic variable
-abbrev pub plain_size : List NetExpr → ℕ
-plain_size es = cut (sizes_by (table_measure []) es)
+abbrev pub cut_size : (alg : ℕ → Measure) → List NetExpr → ℕ
+cut_size alg es = cut (sizes_by alg es)
 
 -- an edge as an option: the party, and its expressions
-unfoldable pub edge_nodes : NetEdge → ℕ
-edge_nodes x = cut (1 + plain_size (edge_exprs x))
+unfoldable pub edge_nodes : (alg : ℕ → Measure) → NetEdge → ℕ
+edge_nodes alg x = cut (1 + cut_size alg (edge_exprs x))
 
-unfoldable pub exclusion_nodes : NetExclusion → ℕ
-exclusion_nodes x = plain_size (x.pred ∷ [])
+unfoldable pub exclusion_nodes : (alg : ℕ → Measure) → NetExclusion → ℕ
+exclusion_nodes alg x = cut_size alg (x.pred ∷ [])
 
 -- ---- all events
 
@@ -84,8 +83,8 @@ each_changed key g (x ∷ xs) ts = each_changed key g xs (changed (g x) (key x) 
 abbrev pub opened_for : (events : List ℕ) → List Tally → List Tally
 opened_for es ts = each_changed (λ e. e) (λ e. opened) es ts
 
-abbrev pub edges_noted : List NetEdge → List Tally → List Tally
-edges_noted xs ts = each_changed (λ (x : NetEdge). x.event) (λ x. with_edge x.role (edge_nodes x)) xs ts
+abbrev pub edges_noted : (alg : ℕ → Measure) → List NetEdge → List Tally → List Tally
+edges_noted alg xs ts = each_changed (λ (x : NetEdge). x.event) (λ x. with_edge x.role (edge_nodes alg x)) xs ts
 
 abbrev pub stays_noted : (events : List ℕ) → List Tally → List Tally
 stays_noted es ts = each_changed (λ e. e) (λ e. with_stay) es ts
@@ -93,16 +92,16 @@ stays_noted es ts = each_changed (λ e. e) (λ e. with_stay) es ts
 abbrev pub closed_for : (events : List ℕ) → List Tally → List Tally
 closed_for es ts = each_changed (λ e. e) (λ e. closed) es ts
 
-abbrev pub exclusions_noted : List NetExclusion → List Tally → List Tally
-exclusions_noted xs ts = each_changed (λ (x : NetExclusion). x.event) (λ x. with_besides (exclusion_nodes x)) xs ts
+abbrev pub exclusions_noted : (alg : ℕ → Measure) → List NetExclusion → List Tally → List Tally
+exclusions_noted alg xs ts = each_changed (λ (x : NetExclusion). x.event) (λ x. with_besides (exclusion_nodes alg x)) xs ts
 
 -- an automaton is counted for the events of its alphabet
-abbrev pub tallied : NetAuto → List Tally → List Tally
-tallied a ts = closed_for a.alphabet (stays_noted a.monitors (edges_noted a.edges (opened_for a.alphabet ts)))
+abbrev pub tallied : (alg : ℕ → Measure) → NetAuto → List Tally → List Tally
+tallied alg a ts = closed_for a.alphabet (stays_noted a.monitors (edges_noted alg a.edges (opened_for a.alphabet ts)))
 
-abbrev pub all_tallied : List NetAuto → List Tally → List Tally
-all_tallied [] ts = ts
-all_tallied (a ∷ autos) ts = all_tallied autos (tallied a ts)
+abbrev pub all_tallied : (alg : ℕ → Measure) → List NetAuto → List Tally → List Tally
+all_tallied alg [] ts = ts
+all_tallied alg (a ∷ autos) ts = all_tallied alg autos (tallied alg a ts)
 
 abbrev pub is_channel_event : NetEvent → Bool
 is_channel_event e = elim e.chan [ no_net_chan ↦ false | _ ↦ true ]
@@ -113,5 +112,5 @@ tallies_nodes n [] ts = n
 tallies_nodes n (e ∷ es) [] = n
 tallies_nodes n (e ∷ es) (t ∷ ts) = tallies_nodes (cut (n + tally_nodes (is_channel_event e) t)) es ts
 
-abbrev pub counted : List NetAuto → List NetExclusion → List NetEvent → ℕ
-counted autos exclusions events = tallies_nodes 0 events (exclusions_noted exclusions (all_tallied autos (replicate (length events) nothing_met)))
+abbrev pub counted : (alg : ℕ → Measure) → List NetAuto → List NetExclusion → List NetEvent → ℕ
+counted alg autos exclusions events = tallies_nodes 0 events (exclusions_noted alg exclusions (all_tallied alg autos (replicate (length events) nothing_met)))

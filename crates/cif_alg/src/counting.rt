@@ -2,26 +2,35 @@
 
 ghost use Rattle.std.specs.Prelude.{◌≡◌, map, IfOk};
 ghost use Rattle.cif_net.specs.View.{auto_tree, edge_tree, event_tree, exclusion_tree};
+ghost use Rattle.cif_measure.specs.Meanings.{table_measure};
 ghost use Rattle.cif_alg.specs.Tallies.{is_channel_event, tallies_nodes, edge_nodes, exclusion_nodes, opened_for, edges_noted, stays_noted, closed_for, tallied, all_tallied, exclusions_noted, counted};
 
 use crate::limit::sum;
 use crate::tally::Tally;
 use cif_base::{Items, Memory};
-use cif_measure::{edge_size, exclusion_size};
-use cif_net::{Auto, Event, Exclusion, Net, NetChan, NetEdge};
+use cif_measure::{Measure, edge_size, exclusion_size};
+use cif_net::{Auto, Event, Exclusion, NetChan, NetEdge};
 use std::alloc::Global;
 
-/// The nodes of the choices of all events of a net without algebraic variables and state invariants, where the count stops one
-/// past the limit. The time is linear in what alphabets, monitors, edges, exclusions and events there are, with their
-/// expressions.
-pub fn choice_nodes(alloc: Global, net: &Net) -> Result<u64, Memory>
+/// The nodes of the choices of all events, for the automata, exclusions and events of a net without state invariants. An algebraic
+/// variable counts as the measure with its number in `algs`, and the count stops one past the limit. So the nodes of a net can be
+/// told from automata that have measures in the place of its expressions. The time is linear in what alphabets, monitors, edges,
+/// exclusions and events there are, with their expressions.
+pub fn choice_nodes(
+    alloc: Global,
+    autos: &[Auto],
+    exclusions: &[Exclusion],
+    events: &[Event],
+    algs: &[Measure],
+) -> Result<u64, Memory>
     ensures { IfOk result
-        (λ nodes. nodes ≡ counted (map auto_tree net.now.autos) (map exclusion_tree net.now.exclusions) (map event_tree net.now.events)) }
+        (λ nodes. nodes ≡ counted (table_measure algs.now) (map auto_tree autos.now) (map exclusion_tree exclusions.now)
+        (map event_tree events.now)) }
 {
-    let mut tallies = Items::filled(alloc, Tally::new(), net.events.len())?;
-    tally_all(&mut tallies, net.autos.as_slice());
-    note_exclusions(&mut tallies, net.exclusions.as_slice());
-    Ok(all_nodes(net.events.as_slice(), tallies.as_slice()))
+    let mut tallies = Items::filled(alloc, Tally::new(), events.len())?;
+    tally_all(&mut tallies, autos, algs);
+    note_exclusions(&mut tallies, exclusions, algs);
+    Ok(all_nodes(events, tallies.as_slice()))
 }
 
 /// Those of all events, by their tallies.
@@ -44,20 +53,20 @@ fn is_channel(event: &Event) -> bool
     }
 }
 
-fn tally_all(tallies: &mut Items<Tally>, autos: &[Auto])
-    ensures { tallies.new ≡ all_tallied (map auto_tree autos.now) tallies.old }
+fn tally_all(tallies: &mut Items<Tally>, autos: &[Auto], algs: &[Measure])
+    ensures { tallies.new ≡ all_tallied (table_measure algs.now) (map auto_tree autos.now) tallies.old }
 {
     for auto in autos {
-        tally(tallies, auto);
+        tally(tallies, auto, algs);
     }
 }
 
 /// An automaton is counted for each event of its alphabet.
-fn tally(tallies: &mut Items<Tally>, auto: &Auto)
-    ensures { tallies.new ≡ tallied (auto_tree auto.now) tallies.old }
+fn tally(tallies: &mut Items<Tally>, auto: &Auto, algs: &[Measure])
+    ensures { tallies.new ≡ tallied (table_measure algs.now) (auto_tree auto.now) tallies.old }
 {
     open_for(tallies, auto.alphabet.as_slice());
-    note_edges(tallies, auto.edges.as_slice());
+    note_edges(tallies, auto.edges.as_slice(), algs);
     note_stays(tallies, auto.monitors.as_slice());
     close_for(tallies, auto.alphabet.as_slice());
 }
@@ -73,23 +82,23 @@ fn open_for(tallies: &mut Items<Tally>, events: &[u32])
     }
 }
 
-fn note_edges(tallies: &mut Items<Tally>, edges: &[NetEdge])
-    ensures { tallies.new ≡ edges_noted (map edge_tree edges.now) tallies.old }
+fn note_edges(tallies: &mut Items<Tally>, edges: &[NetEdge], algs: &[Measure])
+    ensures { tallies.new ≡ edges_noted (table_measure algs.now) (map edge_tree edges.now) tallies.old }
 {
     for edge in edges {
         let at = edge.event as usize;
         if let Some(tally) = tallies.get(at).copied() {
-            tallies.set(at, tally.with_edge(edge.role, edge_nodes(edge)));
+            tallies.set(at, tally.with_edge(edge.role, edge_nodes(edge, algs)));
         }
     }
 }
 
 /// The nodes of an edge as an option: the party, and those of its expressions.
 #[tactic(auto, unfolding(crate::specs::Tallies::edge_nodes))]
-fn edge_nodes(edge: &NetEdge) -> u64
-    ensures { result ≡ edge_nodes (edge_tree edge.now) }
+fn edge_nodes(edge: &NetEdge, algs: &[Measure]) -> u64
+    ensures { result ≡ edge_nodes (table_measure algs.now) (edge_tree edge.now) }
 {
-    sum(1, edge_size(&[], edge))
+    sum(1, edge_size(algs, edge))
 }
 
 fn note_stays(tallies: &mut Items<Tally>, events: &[u32])
@@ -115,21 +124,21 @@ fn close_for(tallies: &mut Items<Tally>, events: &[u32])
     }
 }
 
-fn note_exclusions(tallies: &mut Items<Tally>, exclusions: &[Exclusion])
-    ensures { tallies.new ≡ exclusions_noted (map exclusion_tree exclusions.now) tallies.old }
+fn note_exclusions(tallies: &mut Items<Tally>, exclusions: &[Exclusion], algs: &[Measure])
+    ensures { tallies.new ≡ exclusions_noted (table_measure algs.now) (map exclusion_tree exclusions.now) tallies.old }
 {
     for exclusion in exclusions {
         let at = exclusion.event as usize;
         if let Some(tally) = tallies.get(at).copied() {
-            tallies.set(at, tally.with_besides(exclusion_nodes(exclusion)));
+            tallies.set(at, tally.with_besides(exclusion_nodes(exclusion, algs)));
         }
     }
 }
 
 /// The nodes of an exclusion, those of its predicate.
 #[tactic(auto, unfolding(crate::specs::Tallies::exclusion_nodes))]
-fn exclusion_nodes(exclusion: &Exclusion) -> u64
-    ensures { result ≡ exclusion_nodes (exclusion_tree exclusion.now) }
+fn exclusion_nodes(exclusion: &Exclusion, algs: &[Measure]) -> u64
+    ensures { result ≡ exclusion_nodes (table_measure algs.now) (exclusion_tree exclusion.now) }
 {
-    exclusion_size(&[], exclusion)
+    exclusion_size(algs, exclusion)
 }

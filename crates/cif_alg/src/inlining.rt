@@ -1,14 +1,17 @@
 //! Plain nets.
 
-ghost use Rattle.std.specs.Prelude.{◌≡◌, nat_lt, true, false, ◌||◌, [], IfOk, IfErr};
+ghost use Rattle.std.specs.Prelude.{◌≡◌, nat_lt, true, false, ◌||◌, [], map, IfOk, IfErr};
 ghost use Rattle.std.specs.List.{list_all};
 ghost use Rattle.cif_model.specs.Counts.{most_nodes, most_depth, is_too_large};
 ghost use Rattle.cif_model.specs.Rules.{evaluated, is_plain_expr};
-ghost use Rattle.cif_net.specs.View.{net_tree};
+ghost use Rattle.cif_net.specs.View.{net_tree, auto_tree, exclusion_tree, event_tree};
+ghost use Rattle.cif_measure.specs.Meanings.{table_measure};
 ghost use Rattle.cif_alg.specs.Keeps.{KeepsAlgebraic, due};
+ghost use Rattle.cif_alg.specs.Tallies.{counted};
 
 use crate::counting::choice_nodes;
 use crate::error::AlgErr;
+use cif_base::Memory;
 use cif_measure::{MOST_DEPTH, MOST_NODES, check_intervals, depth_of};
 use cif_net::{Net, Plain};
 use std::alloc::Global;
@@ -46,7 +49,7 @@ fn check_size(alloc: Global, net: &Net) -> Result<(), AlgErr>
     ensures small { IfOk result (λ done. is_too_large (net_tree net.now) ≡ false) }
     ensures refused { IfErr result (λ e. due (net_tree net.now) e) }
 {
-    let nodes = choice_nodes(alloc, net)?;
+    let nodes = nodes_of(alloc, net)?;
     let depth = depth_of(net);
     if is_over(nodes, depth) {
         return Err(AlgErr::TooLarge {
@@ -55,6 +58,20 @@ fn check_size(alloc: Global, net: &Net) -> Result<(), AlgErr>
         });
     }
     Ok(())
+}
+
+/// The nodes of the choices of a net, where the count stops one past the limit.
+fn nodes_of(alloc: Global, net: &Net) -> Result<u64, Memory>
+    ensures { IfOk result (λ nodes. nodes ≡ counted (table_measure []) (map auto_tree net.now.autos)
+        (map exclusion_tree net.now.exclusions) (map event_tree net.now.events)) }
+{
+    choice_nodes(
+        alloc,
+        net.autos.as_slice(),
+        net.exclusions.as_slice(),
+        net.events.as_slice(),
+        &[],
+    )
 }
 
 /// Whether one of the counts is past its limit.

@@ -6,9 +6,12 @@
 mod counting;
 mod error;
 mod inlining;
+mod laws;
 mod limit;
 mod tally;
 mod weighed;
 
+pub use counting::choice_nodes;
 pub use error::AlgErr;
 pub use inlining::inline;
+pub use laws::outlines_have_the_nodes_of_their_net;

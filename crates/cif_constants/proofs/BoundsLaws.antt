@@ -1,40 +1,36 @@
 -- The first constant expression or bound that breaks the rule is told, and where none is, none breaks it.
-use Rattle.std.proofs.Common.{◌≡◌, ℕ, ◌+◌, ℤ, Bool, true, false, ◌⊎◌, inl, inr, List, [], ◌∷◌, ◌++◌, map, flat_map, refl, sym, ap, subst, ◌∙◌, Option, Some, None}
+use Rattle.std.proofs.Common.{◌≡◌, ℕ, ℤ, Bool, true, false, ◌⊎◌, inl, inr, List, [], ◌∷◌, ◌++◌, map, flat_map, refl, sym, ap, subst, ◌∙◌, Option, Some, None}
 use Rattle.std.specs.Prelude.{IsTrue, int_lt}
-use Rattle.std.specs.List.{Any}
 use Rattle.std.specs.Option.{option_or}
 use Rattle.cif_system.specs.Words.{Member}
 use Rattle.cif_system.specs.System.{in_range}
 use Rattle.cif_system.proofs.Lists.{some-same, none-some, false-true}
-use Rattle.cif_system.proofs.Picks.{at-member, append-left, append-right, map-member, flat_map-member}
+use Rattle.cif_system.proofs.Picks.{append-left, append-right, map-member, flat_map-member}
 use Rattle.cif_system.proofs.Distinct.{member-append, member-map, member-flat_map}
 use Rattle.cif_ast.specs.Tree.{Tree}
 use Rattle.cif_source.specs.Source.{TypeTree, bool_type, int_type, range_type, named_type, Source, tree_at}
-use Rattle.cif_source.specs.Components.{Component, params_of}
-use Rattle.cif_source.specs.Objects.{bodies, decls_in}
+use Rattle.cif_source.specs.Components.{Component, as_written, body_of, params_of}
+use Rattle.cif_source.specs.Objects.{components_of, decls_in}
 use Rattle.cif_source.specs.Value.{constant}
 use Rattle.cif_source.specs.Types.{signed_range}
 use Rattle.cif_rules.specs.Constants.{param_types, decl_types, types_of, Bounds, bounds_in, bounds_of, bound_values, decl_constants, typed_constants, constants_of}
 use Rattle.cif_rules.specs.InstanceRules.{is_faulty, FaultyConstant, LeavesRange, LongBound, EmptyRange, ConstantRangeDue}
 use Rattle.cif_scope.specs.declared.scopes.Scopes.{Scopes}
-use Rattle.cif_scope.specs.Tables.{IsBody, Beside}
-use Rattle.cif_scope.specs.Written.{WrittenBody, written_bodies}
-use Rattle.cif_scope.proofs.Places.{Sits, sits-head, sits-tail, sits-whole}
-use Rattle.cif_scope.proofs.DefinitionLaws.{IsWritten, bodies-written}
-use Rattle.cif_scope.proofs.IndexLaws.{any-of, of-any}
-use Rattle.cif_cycles.proofs.Graphs.{member-at}
-use Rattle.cif_constants.specs.Collected.{types_in, values_in}
-use Rattle.cif_constants.specs.Outcomes.{unless_faulty, outcome}
-use Rattle.cif_constants.specs.Bounds.{fits_32, crossed, bounds_fault, types_fault, missing_value, values_fault, body_fault, faults_from}
-use Rattle.cif_constants.specs.Constants.{IsFlat, HasValues, BoundsDue}
-use Rattle.cif_constants.proofs.Firsts.{or-told, or-none}
-use Rattle.cif_constants.proofs.DueLaws.{value-is}
-
-pub any-member : {A : Type 0} (P : A → Type 0) (xs : List A) (x : A) → Member x xs → P x → Any P xs
-any-member P xs x m p = let w = member-at xs x m in any-of P xs w.0 x w.1 p
-
-pub member-any : {A : Type 0} (P : A → Type 0) (xs : List A) → Any P xs → (x : A) × Member x xs × P x
-member-any P xs a = let w = of-any P xs a in (w.1, at-member xs w.0 w.1 w.2, w.3)
+use Rattle.cif_scope.specs.Tables.{IsBody}
+use Rattle.cif_scope.specs.Written.{written_bodies}
+use Rattle.cif_image.proofs.RuleLaws.{member-any}
+use Rattle.cif_image.proofs.StandingLaws.{any-member}
+use Rattle.cif_written.proofs.Bodies.{components-written}
+use Rattle.cif_written.proofs.Constants.{constants-kept}
+use Rattle.cif_constants.specs.Named.{table_value}
+use Rattle.cif_constants.specs.Used.{NumberedBody, first_in, used_from}
+use Rattle.cif_constants.specs.Outcomes.{unless_faulty, evaluated, outcome}
+use Rattle.cif_constants.specs.Bounds.{fits_32, crossed, bounds_fault, types_fault, missing_value, values_fault, body_fault}
+use Rattle.cif_constants.specs.Constants.{HasValues, BoundsDue}
+use Rattle.cif_constancy.proofs.Firsts.{or-told, or-none}
+use Rattle.cif_constants.proofs.ValueLaws.{value-is}
+use Rattle.cif_constants.proofs.UsedLaws.{IsMarked}
+use Rattle.cif_constants.proofs.OwnLaws.{first-told, first-none, own-component, component-own}
 
 -- ---- two bounds
 
@@ -73,6 +69,9 @@ missing-none e false x h = refl
 missing-told : (e : Tree) (f : Bool) (x : ℤ) (at : ℕ) → missing_value e (unless_faulty f x) ≡ Some at → (tree_at e ≡ at) × (f ≡ true)
 missing-told e true x at h = (some-same (tree_at e) at h, refl)
 missing-told e false x at h = absurd (none-some at h)
+
+abbrev ends : Bounds → List Tree
+ends b = b.0 ∷ b.1 ∷ []
 
 -- ---- a component
 
@@ -132,20 +131,17 @@ module _ (c : Component) where
   abbrev Broken : ℕ → Type 0
   Broken at = FaultyConstant c at ⊎ LongBound c at ⊎ EmptyRange c at
 
-  abbrev both_ends : Bounds → List Tree
-  both_ends b = b.0 ∷ b.1 ∷ []
-
   lower-in : (b : Bounds) → Member b (bounds_of c) → Member b.0 (bound_values c)
-  lower-in b m = flat_map-member both_ends b (bounds_of c) b.0 m (inl refl)
+  lower-in b m = flat_map-member ends b (bounds_of c) b.0 m (inl refl)
 
   upper-in : (b : Bounds) → Member b (bounds_of c) → Member b.1 (bound_values c)
-  upper-in b m = flat_map-member both_ends b (bounds_of c) b.1 m (inr (inl refl))
+  upper-in b m = flat_map-member ends b (bounds_of c) b.1 m (inr (inl refl))
 
   faulty-bound : (e : Tree) (at : ℕ) → Member e (bound_values c) → (tree_at e ≡ at) × (bad e ≡ true) → Broken at
-  faulty-bound e at m h = inl (any-member (λ x. (tree_at x ≡ at) × IsTrue (bad x)) (constants_of c) e (append-left e (bound_values c) (map (λ (v : TypeTree × Tree). v.1) (typed_constants c)) m) h)
+  faulty-bound e at m h = inl (member-any (λ x. (tree_at x ≡ at) × IsTrue (bad x)) e (constants_of c) (append-left e (bound_values c) (map (λ (v : TypeTree × Tree). v.1) (typed_constants c)) m) h)
 
   long-bound : (e : Tree) (at : ℕ) → Member e (bound_values c) → (tree_at e ≡ at) × (fits_32 (constant c e) ≡ false) → Broken at
-  long-bound e at m h = inr (inl (any-member (λ x. (tree_at x ≡ at) × (in_range (signed_range 32) (constant c x) ≡ false)) (bound_values c) e m h))
+  long-bound e at m h = inr (inl (member-any (λ x. (tree_at x ≡ at) × (in_range (signed_range 32) (constant c x) ≡ false)) e (bound_values c) m h))
 
   bounds-broken : (b : Bounds) (at : ℕ) → Member b (bounds_of c) → WrongBounds at b → Broken at
   bounds-broken b at m h = elim h [
@@ -156,7 +152,7 @@ module _ (c : Component) where
         | inl w ↦ long-bound b.0 at (lower-in b m) w
         | inr p ↦ elim p [
           | inl w ↦ long-bound b.1 at (upper-in b m) w
-          | inr w ↦ inr (inr (any-member (λ (x : Bounds). (tree_at x.0 ≡ at) × IsTrue (int_lt (constant c x.1) (constant c x.0))) (bounds_of c) b m w))
+          | inr w ↦ inr (inr (member-any (λ (x : Bounds). (tree_at x.0 ≡ at) × IsTrue (int_lt (constant c x.1) (constant c x.0))) b (bounds_of c) m w))
         ]
       ]
     ]
@@ -164,7 +160,7 @@ module _ (c : Component) where
 
   value-broken : (v : TypeTree × Tree) (at : ℕ) → Member v (typed_constants c) → (tree_at v.1 ≡ at) → (bad v.1 ≡ true) → Broken at
   value-broken v at m e h =
-      inl (any-member (λ x. (tree_at x ≡ at) × IsTrue (bad x)) (constants_of c) v.1 (append-right v.1 (bound_values c) (map (λ (x : TypeTree × Tree). x.1) (typed_constants c)) (map-member (λ (x : TypeTree × Tree). x.1) v (typed_constants c) m)) (e, h))
+      inl (member-any (λ x. (tree_at x ≡ at) × IsTrue (bad x)) v.1 (constants_of c) (append-right v.1 (bound_values c) (map (λ (x : TypeTree × Tree). x.1) (typed_constants c)) (map-member (λ (x : TypeTree × Tree). x.1) v (typed_constants c) m)) (e, h))
 
   abbrev own_fault : Option ℕ
   own_fault = option_or (types_fault (outcome c) (types_of c)) (values_fault (outcome c) (typed_constants c))
@@ -180,10 +176,10 @@ module _ (c : Component) where
       let w = or-none (types_fault (outcome c) (types_of c)) (values_fault (outcome c) (typed_constants c)) h in
       elim broken [
         | inl f ↦
-            let x = member-any (λ e. (tree_at e ≡ at) × IsTrue (bad e)) (constants_of c) f in
+            let x = any-member (λ e. (tree_at e ≡ at) × IsTrue (bad e)) (constants_of c) f in
             elim (member-append x.0 (bound_values c) (map (λ (v : TypeTree × Tree). v.1) (typed_constants c)) x.1) [
               | inl m ↦
-                  let b = member-flat_map both_ends x.0 (bounds_of c) m in
+                  let b = member-flat_map ends x.0 (bounds_of c) m in
                   let sound = types-none (types_of c) w.0 b.0 b.1 in
                   elim b.2 [
                     | inl e ↦ false-true (ap bad e ∙ sound.0) x.2.1
@@ -193,67 +189,54 @@ module _ (c : Component) where
             ]
         | inr g ↦ elim g [
           | inl l ↦
-              let x = member-any (λ e. (tree_at e ≡ at) × (in_range (signed_range 32) (constant c e) ≡ false)) (bound_values c) l in
-              let b = member-flat_map both_ends x.0 (bounds_of c) x.1 in
+              let x = any-member (λ e. (tree_at e ≡ at) × (in_range (signed_range 32) (constant c e) ≡ false)) (bound_values c) l in
+              let b = member-flat_map ends x.0 (bounds_of c) x.1 in
               let sound = types-none (types_of c) w.0 b.0 b.1 in
               elim b.2 [
                 | inl e ↦ false-true x.2.1 (ap (λ y. fits_32 (constant c y)) e ∙ sound.2)
                 | inr r ↦ elim r [ inl e ↦ false-true x.2.1 (ap (λ y. fits_32 (constant c y)) e ∙ sound.3) | inr e ↦ absurd e ]
               ]
           | inr m ↦
-              let x = member-any (λ (b : Bounds). (tree_at b.0 ≡ at) × IsTrue (int_lt (constant c b.1) (constant c b.0))) (bounds_of c) m in
+              let x = any-member (λ (b : Bounds). (tree_at b.0 ≡ at) × IsTrue (int_lt (constant c b.1) (constant c b.0))) (bounds_of c) m in
               let sound = types-none (types_of c) w.0 x.0 x.1 in
               false-true sound.4 x.2.1
         ]
       ]
 
--- ---- all bodies
+-- ---- all components
 
-abbrev faults : List Component → Option ℕ
-faults [] = None
-faults (c ∷ cs) = option_or (own_fault c) (faults cs)
+types-same : (f g : Tree → Option ℤ) (ts : List TypeTree) → ((e : Tree) → Member e (flat_map ends (flat_map bounds_in ts)) → f e ≡ g e) → types_fault f ts ≡ types_fault g ts
+types-same f g [] h = refl
+types-same f g (bool_type ∷ ts) h = types-same f g ts h
+types-same f g (int_type ∷ ts) h = types-same f g ts h
+types-same f g (named_type nm ∷ ts) h = types-same f g ts h
+types-same f g (range_type l u ∷ ts) h = λ i. option_or (bounds_fault l u (h l (inl refl) i) (h u (inr (inl refl)) i)) (types-same f g ts (λ e m. h e (inr (inr m))) i)
 
-told-in : (cs : List Component) (at : ℕ) → faults cs ≡ Some at → (c : Component) × Member c cs × Broken c at
-told-in [] at h = absurd (none-some at h)
-told-in (c ∷ cs) at h = elim (or-told (own_fault c) (faults cs) at h) [
-  | inl g ↦ (c, inl refl, own-told c at g)
-  | inr g ↦ let w = told-in cs at g in (w.0, inr w.1, w.2)
-]
+values-same : (f g : Tree → Option ℤ) (xs : List (TypeTree × Tree)) → ((v : TypeTree × Tree) → Member v xs → f v.1 ≡ g v.1) → values_fault f xs ≡ values_fault g xs
+values-same f g [] h = refl
+values-same f g (v ∷ xs) h = λ i. option_or (missing_value v.1 (h v (inl refl) i)) (values-same f g xs (λ x m. h x (inr m)) i)
 
-none-in : (cs : List Component) → faults cs ≡ None → (c : Component) → Member c cs → own_fault c ≡ None
-none-in [] h c m = absurd m
-none-in (d ∷ cs) h c m =
-    let w = or-none (own_fault d) (faults cs) h in
-    elim m [ inl e ↦ subst (λ x. own_fault x ≡ None) (sym e) w.0 | inr g ↦ none-in cs w.1 c g ]
+module _ (t : Source) (s : Scopes) (used : List Bool) (are : IsMarked t s used) (ns : List (List ℕ)) (vs : List ℤ) (values : HasValues t s ns vs) where
+  value-at : (k : ℕ) (c : Component) → Member c (components_of t) → IsBody t k (as_written c) → (e : Tree) → Member e (constants_of c) → evaluated (table_value s ns vs k) e ≡ outcome c e
+  value-at k c listed own e m = value-is t s ns vs k c e values listed own (constants-kept t are.constancy c (components-written t c listed) e m)
 
-module _ (t : Source) (s : Scopes) (ns : List (List ℕ)) (vs : List ℤ) (values : HasValues t s ns vs) where
-  body-is : (k : ℕ) (c : Component) (w : WrittenBody) → IsBody t k c → IsWritten c w → body_fault s ns vs k w ≡ own_fault c
-  body-is k c w own h =
-      (λ i. let value : Tree → Option ℤ = λ e. value-is t s ns vs k c e values own i in option_or (types_fault value (types_in w)) (values_fault value (values_in w)))
-      ∙ ap (λ ps. option_or (types_fault (outcome c) (flat_map param_types ps ++ flat_map decl_types (decls_in w.body))) (values_fault (outcome c) (flat_map decl_constants (decls_in w.body)))) (sym h.0)
-      ∙ ap (λ b. option_or (types_fault (outcome c) (flat_map param_types (params_of c) ++ flat_map decl_types (decls_in b))) (values_fault (outcome c) (flat_map decl_constants (decls_in b)))) (sym h.1)
+  body-is : (b : NumberedBody) (c : Component) → Member c (components_of t) → IsBody t b.number (as_written c) → params_of c ≡ b.written.params → body_of c ≡ b.written.body → body_fault s ns vs b ≡ own_fault c
+  body-is b c listed own params body =
+      let value : Tree → Option ℤ = evaluated (table_value s ns vs b.number) in
+      (λ i. option_or (types_fault value (flat_map param_types (sym params i) ++ flat_map decl_types (decls_in (sym body i)))) (values_fault value (flat_map decl_constants (decls_in (sym body i)))))
+      ∙ (λ i. option_or
+      (types-same value (outcome c) (types_of c) (λ e m. value-at b.number c listed own e (append-left e (bound_values c) (map (λ (v : TypeTree × Tree). v.1) (typed_constants c)) m)) i)
+      (values-same value (outcome c) (typed_constants c) (λ v m. value-at b.number c listed own v.1 (append-right v.1 (bound_values c) (map (λ (x : TypeTree × Tree). x.1) (typed_constants c)) (map-member (λ (x : TypeTree × Tree). x.1) v (typed_constants c) m))) i))
 
-  bodies-are : (cs : List Component) (ws : List WrittenBody) (k : ℕ) → Beside IsWritten cs ws → Sits (bodies t) k cs → faults_from s ns vs k ws ≡ faults cs
-  bodies-are [] [] k h g = refl
-  bodies-are [] (w ∷ ws) k h g = absurd h
-  bodies-are (c ∷ cs) [] k h g = absurd h
-  bodies-are (c ∷ cs) (w ∷ ws) k h g =
-      ap (λ o. option_or o (faults_from s ns vs (k + 1) ws)) (body-is k c w (sits-head (bodies t) k c cs g) h.0)
-      ∙ ap (option_or (own_fault c)) (bodies-are cs ws (k + 1) h.1 (sits-tail (bodies t) k c cs g))
+  pub bounds-refused : (o : Option ℕ) (at : ℕ) → o ≡ first_in (body_fault s ns vs) (used_from used 0 (written_bodies t)) → o ≡ Some at → ConstantRangeDue t at
+  bounds-refused o at e h =
+      let w = first-told (body_fault s ns vs) (used_from used 0 (written_bodies t)) at (sym e ∙ h) in
+      let c = own-component t s used are w.0 w.1 in
+      let broken : Broken c.component at = own-told c.component at (sym (body-is w.0 c.component c.listed c.own c.params c.body) ∙ w.2) in
+      member-any (λ d. FaultyConstant d at ⊎ LeavesRange d at ⊎ LongBound d at ⊎ EmptyRange d at) c.component (components_of t) c.listed (elim broken [ inl f ↦ inl f | inr r ↦ inr (inr r) ])
 
-  all-are : faults_from s ns vs 0 (written_bodies t) ≡ faults (bodies t)
-  all-are = bodies-are (bodies t) (written_bodies t) 0 (bodies-written t) (sits-whole (bodies t))
-
-  pub bounds-refused : (o : Option ℕ) (at : ℕ) → IsFlat t → o ≡ faults_from s ns vs 0 (written_bodies t) → o ≡ Some at → ConstantRangeDue t at
-  bounds-refused o at flat e h =
-      let w = told-in (bodies t) at (sym all-are ∙ sym e ∙ h) in
-      subst (λ cs. Any (λ d. FaultyConstant d at ⊎ LeavesRange d at ⊎ LongBound d at ⊎ EmptyRange d at) cs) (sym flat.components)
-      (any-member (λ d. FaultyConstant d at ⊎ LeavesRange d at ⊎ LongBound d at ⊎ EmptyRange d at) (bodies t) w.0 w.1 (widened w.0 at w.2))
-    where
-      widened : (c : Component) (at : ℕ) → Broken c at → FaultyConstant c at ⊎ LeavesRange c at ⊎ LongBound c at ⊎ EmptyRange c at
-      widened c at b = elim b [ inl f ↦ inl f | inr r ↦ inr (inr r) ]
-
-  pub none-broken : (o : Option ℕ) → IsFlat t → o ≡ faults_from s ns vs 0 (written_bodies t) → o ≡ None → (at : ℕ) → BoundsDue t at → ⊥
-  none-broken o flat e h at due =
-      let w = member-any (λ c. FaultyConstant c at ⊎ LongBound c at ⊎ EmptyRange c at) (bodies t) (subst (λ cs. Any (λ c. FaultyConstant c at ⊎ LongBound c at ⊎ EmptyRange c at) cs) flat.components due) in
-      own-none w.0 (none-in (bodies t) (sym all-are ∙ sym e ∙ h) w.0 w.1) at w.2
+  pub none-broken : (o : Option ℕ) → o ≡ first_in (body_fault s ns vs) (used_from used 0 (written_bodies t)) → o ≡ None → (at : ℕ) → BoundsDue t at → ⊥
+  none-broken o e h at due =
+      let w = any-member (λ c. FaultyConstant c at ⊎ LongBound c at ⊎ EmptyRange c at) (components_of t) due in
+      let b = component-own t s used are w.0 w.1 in
+      own-none w.0 (sym (body-is b.0 w.0 w.1 b.2 b.3 b.4) ∙ first-none (body_fault s ns vs) (used_from used 0 (written_bodies t)) b.0 (sym e ∙ h) b.1) at w.2

@@ -1,5 +1,5 @@
 -- The values that constants get one after the other are their values.
-use Rattle.std.proofs.Common.{◌≡◌, ◌≢◌, ℕ, zero, suc, ◌+◌, ◌<◌, ℤ, Bool, true, false, List, [], ◌∷◌, ◌++◌, append_assoc, length, refl, sym, ap, subst, ◌∙◌, arith, Option, Some, None, inl, inr, ◌⊎◌, flat_map, append-nil}
+use Rattle.std.proofs.Common.{◌≡◌, ◌≢◌, ℕ, zero, suc, ◌<◌, ℤ, Bool, true, false, List, [], ◌∷◌, ◌++◌, append_assoc, length, refl, sym, ap, subst, ◌∙◌, arith, Option, Some, None, inl, inr, append-nil}
 use Rattle.std.specs.Prelude.{slice_get, slice_set, Result, Ok, Err}
 use Rattle.cif_system.specs.Words.{Member, AreDistinct, Before}
 use Rattle.cif_system.proofs.Lists.{some-same, none-some, slice_get-below, map-length}
@@ -7,57 +7,45 @@ use Rattle.cif_system.proofs.Picks.{at-member, append-right}
 use Rattle.cif_system.proofs.Distinct.{member-append, member-flat_map}
 use Rattle.cif_ast.specs.declared.names.Ident.{Ident}
 use Rattle.cif_ast.specs.declared.names.Name.{Name}
-use Rattle.cif_ast.specs.Tree.{Tree, node, named}
+use Rattle.cif_ast.specs.Tree.{Tree}
 use Rattle.cif_source.specs.Source.{DeclTree, type_decl, enum_decl, event_decl, const_decl, alg_decl, input_decl, disc_decl, equation_decl, invariant_decl, marked_decl, TypeTree, Source, tree_at}
-use Rattle.cif_source.specs.Components.{Component, specification_of}
+use Rattle.cif_source.specs.Components.{Component, as_written, specification_of}
 use Rattle.cif_source.specs.Lookup.{found}
-use Rattle.cif_source.specs.Objects.{bodies, decls_in, decls_of, of_sort, is_const}
-use Rattle.cif_source.specs.Uses.{names_in}
+use Rattle.cif_source.specs.Objects.{components_of, bodies, decls_in, decls_of, of_sort, is_const}
+use Rattle.cif_source.specs.Scoping.{is_wrong}
+use Rattle.cif_rules.specs.BodyRules.{is_constant}
 use Rattle.cif_source.specs.Value.{constant_within, constant}
 use Rattle.cif_rules.specs.InstanceRules.{is_faulty}
 use Rattle.cif_order.specs.Graph.{Needs, IsOrder, IsRank}
 use Rattle.cif_order.proofs.Lists.{written-same, written-other}
 use Rattle.cif_scope.specs.declared.scopes.Scopes.{Scopes}
-use Rattle.cif_scope.specs.Tables.{IsBody, Beside}
-use Rattle.cif_scope.specs.Scopes.{AreNumbered}
-use Rattle.cif_scope.specs.Written.{WrittenBody, written_bodies}
-use Rattle.cif_scope.proofs.Places.{Sits, sits-head, sits-tail, sits-whole}
-use Rattle.cif_scope.proofs.BodyLaws.{body-root}
-use Rattle.cif_scope.proofs.DefinitionLaws.{IsWritten, bodies-written}
+use Rattle.cif_scope.specs.Tables.{IsBody}
+use Rattle.cif_scope.specs.Written.{written_bodies}
+use Rattle.cif_scope.proofs.BodyLaws.{body-root, root-written}
+use Rattle.cif_written.proofs.Bodies.{components-written}
+use Rattle.cif_written.proofs.Constants.{constant-same}
 use Rattle.cif_constants.specs.Outcomes.{unless_faulty, evaluated, outcome}
 use Rattle.cif_constants.specs.Named.{or_zero, value_at, table_value}
-use Rattle.cif_constants.specs.Nodes.{Node, decl_nodes, nodes_from, node_needs, node_value, filled_by, filled_at, filled_on, filled}
-use Rattle.cif_constants.specs.Constants.{IsFlat, HasValues}
+use Rattle.cif_constants.specs.Nodes.{Node, decl_nodes, body_nodes, node_needs, node_value, filled_by, filled_at, filled_on, filled}
+use Rattle.cif_constants.specs.Used.{used_from}
+use Rattle.cif_constants.specs.Constants.{HasValues}
 use Rattle.cif_constants.proofs.Meanings.{defined_within, name_within, constant_name}
-use Rattle.cif_constants.proofs.FaultLaws.{computed_is}
-use Rattle.cif_constants.proofs.Congruence.{same-computed}
+use Rattle.cif_constants.proofs.ValueLaws.{evaluated-same, name-constant, constant-evaluated}
+use Rattle.cif_constants.proofs.UsedLaws.{IsMarked}
+use Rattle.cif_constants.proofs.OwnLaws.{own-component}
+use Rattle.cif_constants.proofs.FoundLaws.{found-stands, agrees, looks}
 use Rattle.cif_constants.proofs.NodeLaws.{nodes}
-use Rattle.cif_constants.proofs.ReachedLaws.{numbers, looks, agrees, followed, IsNode, IsFoundNode, found-value}
-use Rattle.cif_constants.proofs.RankLaws.{within-value, constants-count, graph, value-need, stable-below}
+use Rattle.cif_constants.proofs.CountLaws.{constants-within}
+use Rattle.cif_constants.proofs.ReachedLaws.{numbers, followed, IsNode, IsFoundNode, found-value}
+use Rattle.cif_constants.proofs.RankLaws.{graph, value-need, node-constant, stable-below}
 
--- where names have the same values, so do expressions
-pub evaluated-same : (f g : Name → ℤ) (e : Tree) → ((nm : Name) → Member nm (names_in e) → f nm ≡ g nm) → evaluated f e ≡ evaluated g e
-evaluated-same f g e h = sym (computed_is f e) ∙ same-computed f g e h ∙ computed_is g e
+-- ---- constants are declared in components
 
-abbrev pub count_for : Component → ℕ
-count_for c = length (of_sort is_const (specification_of c))
-
-outcome-evaluated : (c : Component) (e : Tree) → outcome c e ≡ evaluated (constant_name c) e
-outcome-evaluated c e = λ i. unless_faulty (is_faulty (λ x. within-value (count_for c) c x i) e) (within-value (count_for c) c e i)
-
--- the value of a name is that of the constant expression which it is
-pub name-constant : (c : Component) (nm : Name) → constant c (node (named nm) nm.at) ≡ constant_name c nm
-name-constant c nm = within-value (count_for c) c (node (named nm) nm.at)
-
-pub constant-evaluated : (c : Component) (e : Tree) → evaluated (constant_name c) e ≡ outcome c e
-constant-evaluated c e = sym (outcome-evaluated c e)
-
--- ---- constants are declared in bodies
-
--- a constant of a body with this value
+-- a constant of a component with this value
 pub record IsConstant (t : Source) (x : Node) : Type 0 where
   pub component : Component
-  pub own : IsBody t x.body component
+  pub listed : Member component (components_of t)
+  pub own : IsBody t x.body (as_written component)
   pub ty : TypeTree
   pub name : Ident
   pub is : x.decl ≡ const_decl ty name x.value
@@ -65,9 +53,8 @@ pub record IsConstant (t : Source) (x : Node) : Type 0 where
 
 -- the constant whose value stands there is faulty
 pub record IsFaultyAt (t : Source) (at : ℕ) : Type 0 where
-  pub body : ℕ
   pub component : Component
-  pub own : IsBody t body component
+  pub listed : Member component (components_of t)
   pub ty : TypeTree
   pub name : Ident
   pub value : Tree
@@ -90,28 +77,23 @@ decl-node k (equation_decl q) x m = absurd m
 decl-node k (invariant_decl i) x m = absurd m
 decl-node k (marked_decl p) x m = absurd m
 
-pub nodes-sound : (t : Source) (cs : List Component) (ws : List WrittenBody) (k : ℕ) (x : Node) → Beside IsWritten cs ws → Sits (bodies t) k cs → Member x (nodes_from k ws) → IsConstant t x
-nodes-sound t [] [] k x h g m = absurd m
-nodes-sound t [] (w ∷ ws) k x h g m = absurd h
-nodes-sound t (c ∷ cs) [] k x h g m = absurd h
-nodes-sound t (c ∷ cs) (w ∷ ws) k x h g m = elim (member-append x (flat_map (decl_nodes k) (decls_in w.body)) (nodes_from (k + 1) ws) m) [
-  | inl i ↦
-      let d = member-flat_map (decl_nodes k) x (decls_in w.body) i in
-      let n = decl-node k d.0 x d.2 in
-      let body : x.body ≡ k = ap (λ (y : Node). y.body) n.4 in
-      let value : x.value ≡ n.2 = ap (λ (y : Node). y.value) n.4 in
-      let decl : x.decl ≡ const_decl n.0 n.1 n.2 = ap (λ (y : Node). y.decl) n.4 in
-      let inside : Member (const_decl n.0 n.1 n.2) (decls_of c) = subst (λ b. Member (const_decl n.0 n.1 n.2) (decls_in b)) (sym h.0.1) (subst (λ y. Member y (decls_in w.body)) n.3 d.1) in
-      record {
-        component = c;
-        own = subst (λ i. IsBody t i c) (sym body) (sits-head (bodies t) k c cs g);
-        ty = n.0;
-        name = n.1;
-        is = decl ∙ ap (const_decl n.0 n.1) (sym value);
-        declares = subst (λ v. Member (const_decl n.0 n.1 v) (decls_of c)) (sym value) inside;
-      }
-  | inr i ↦ nodes-sound t cs ws (k + 1) x h.1 (sits-tail (bodies t) k c cs g) i
-]
+pub nodes-sound : (t : Source) (s : Scopes) (used : List Bool) (are : IsMarked t s used) (x : Node) → Member x (nodes t s used are) → IsConstant t x
+nodes-sound t s used are x m =
+    let b = member-flat_map body_nodes x (used_from used 0 (written_bodies t)) m in
+    let c = own-component t s used are b.0 b.1 in
+    let d = member-flat_map (decl_nodes b.0.number) x (decls_in b.0.written.body) b.2 in
+    let n = decl-node b.0.number d.0 x d.2 in
+    let value : x.value ≡ n.2 = ap (λ (y : Node). y.value) n.4 in
+    let inside : Member (const_decl n.0 n.1 n.2) (decls_of c.component) = subst (λ e. Member (const_decl n.0 n.1 n.2) (decls_in e)) (sym c.body) (subst (λ y. Member y (decls_in b.0.written.body)) n.3 d.1) in
+    record {
+      component = c.component;
+      listed = c.listed;
+      own = subst (λ i. IsBody t i (as_written c.component)) (sym (ap (λ (y : Node). y.body) n.4)) c.own;
+      ty = n.0;
+      name = n.1;
+      is = ap (λ (y : Node). y.decl) n.4 ∙ ap (const_decl n.0 n.1) (sym value);
+      declares = subst (λ v. Member (const_decl n.0 n.1 v) (decls_of c.component)) (sym value) inside;
+    }
 
 -- ---- orders
 
@@ -135,53 +117,54 @@ set-length [] k x = refl
 set-length (y ∷ xs) zero x = refl
 set-length (y ∷ xs) (suc k) x = ap suc (set-length xs k x)
 
-pub bool-cases : (b : Bool) → (b ≡ true) ⊎ (b ≡ false)
-bool-cases true = inl refl
-bool-cases false = inr refl
-
 -- ---- one after the other
 
-module _ (t : Source) (s : Scopes) (are : AreNumbered t s) (flat : IsFlat t) (order : List ℕ) (is : IsOrder (graph t s are flat) order) (rank : ℕ → ℕ) (ranked : IsRank (graph t s are flat) rank) where
+module _ (t : Source) (s : Scopes) (used : List Bool) (are : IsMarked t s used) (order : List ℕ) (is : IsOrder (graph t s used are) order) (rank : ℕ → ℕ) (ranked : IsRank (graph t s used are) rank) where
   abbrev pub all_nodes : List Node
-  all_nodes = nodes t s are
+  all_nodes = nodes t s used are
 
   abbrev pub its_numbers : List (List ℕ)
-  its_numbers = numbers t s are flat
+  its_numbers = numbers t s used are
 
   abbrev pub count : ℕ
   count = length (of_sort is_const t)
 
-  graph-long : length (graph t s are flat) ≡ count
-  graph-long = map-length (node_needs s its_numbers) all_nodes ∙ sym (constants-count t flat)
+  graph-long : length (graph t s used are) ≡ length all_nodes
+  graph-long = map-length (node_needs s its_numbers) all_nodes
 
   -- constant m has its value
   abbrev pub IsDone : List ℤ → ℕ → Type 0
-  IsDone vs m = (k : ℕ) (d : Component) (ty : TypeTree) (n : Ident) (e : Tree) → IsNode t s are flat m k d ty n e → value_at vs m ≡ constant_within count d e
+  IsDone vs m = (k : ℕ) (d : Component) (ty : TypeTree) (n : Ident) (e : Tree) → IsNode t s used are m k d ty n e → value_at vs m ≡ constant_within count d e
 
-  node-below : (m k : ℕ) (d : Component) (ty : TypeTree) (n : Ident) (e : Tree) → IsNode t s are flat m k d ty n e → rank m < count
+  node-below : (m k : ℕ) (d : Component) (ty : TypeTree) (n : Ident) (e : Tree) → IsNode t s used are m k d ty n e → rank m < count
   node-below m k d ty n e h =
-      let below : m < length all_nodes = slice_get-below all_nodes m (record { body = k; decl = const_decl ty n e; value = e }) h.1 in
-      let long : length (graph t s are flat) ≡ length all_nodes = map-length (node_needs s its_numbers) all_nodes in
-      let inside : m < length (graph t s are flat) = omega (arith, below, long) in
-      omega (arith, ranked.within m inside, graph-long)
+      let below : m < length all_nodes = slice_get-below all_nodes m (record { body = k; decl = const_decl ty n e; value = e }) h.at in
+      let inside : m < length (graph t s used are) = let long = graph-long in omega (arith, below, long) in
+      let within = constants-within t s used are in
+      let long = graph-long in
+      omega (arith, ranked.within m inside, long, within)
 
-  pub name-done : (vs : List ℤ) (k : ℕ) (c : Component) → IsBody t k c → (nm : Name) → ((m k2 : ℕ) (d : Component) (ty : TypeTree) (n : Ident) (e : Tree) → IsFoundNode t s are flat (looks t s are flat k nm) m d ty n e → IsDone vs m)
+  root-is : (k : ℕ) (c : Component) → IsBody t k (as_written c) → specification_of c ≡ t
+  root-is k c own = sym (root-written c) ∙ body-root t s.table.scopes are.numbers.table (as_written c) k own
+
+  name-done : (vs : List ℤ) (k : ℕ) (c : Component) → Member c (components_of t) → IsBody t k (as_written c) → (nm : Name) → is_wrong is_constant (found c nm) ≡ false
+      → ((m k2 : ℕ) (d : Component) (ty : TypeTree) (n : Ident) (e : Tree) → IsFoundNode t s used are (looks t s are.numbers k nm) m d ty n e → IsDone vs m)
       → table_value s its_numbers vs k nm ≡ constant_name c nm
-  name-done vs k c own nm done =
-      found-value t s are flat (defined_within count) vs (found c nm) (looks t s are flat k nm) (agrees t s are flat k c own nm)
-      (λ m d ty n e at node. done m node.0 d ty n e node node.0 d ty n e node.2 ∙ stable-below t s are flat rank ranked count m node.0 d ty n e node.2 (node-below m node.0 d ty n e node.2))
-      ∙ sym (followed t s are flat (defined_within count) k c own nm)
-      ∙ ap (λ u. name_within (length (of_sort is_const u)) c nm) (sym (body-root t s.table.scopes are.table c k own))
+  name-done vs k c listed own nm right done =
+      found-value t s used are (defined_within count) vs (found c nm) (looks t s are.numbers k nm) right (found-stands t are.few c listed nm) (agrees t s are.numbers k c own nm)
+      (λ m d ty n e at node. done m node.0 d ty n e node node.0 d ty n e node.2 ∙ stable-below t s used are rank ranked count m node.0 d ty n e node.2 (node-below m node.0 d ty n e node.2))
+      ∙ sym (followed (defined_within count) c nm right)
+      ∙ ap (λ u. name_within (length (of_sort is_const u)) c nm) (sym (root-is k c own))
 
-  node-outcome : (vs : List ℤ) (m k : ℕ) (d : Component) (ty : TypeTree) (n : Ident) (e : Tree) → IsNode t s are flat m k d ty n e → ((l : ℕ) → Needs (graph t s are flat) m l → IsDone vs l)
+  node-outcome : (vs : List ℤ) (m k : ℕ) (d : Component) (ty : TypeTree) (n : Ident) (e : Tree) → IsNode t s used are m k d ty n e → ((l : ℕ) → Needs (graph t s used are) m l → IsDone vs l)
       → evaluated (table_value s its_numbers vs k) e ≡ outcome d e
   node-outcome vs m k d ty n e h done =
       evaluated-same (table_value s its_numbers vs k) (constant_name d) e
-      (λ nm member. name-done vs k d h.0 nm (λ l i c x y z node. done l (value-need t s are flat m k l d ty n e nm h member node.1)))
+      (λ nm member. name-done vs k d h.listed h.own nm (node-constant t s used are m k d ty n e h nm member) (λ l i c x y z node. done l (value-need t s used are m k l d ty n e nm h member node.1)))
       ∙ constant-evaluated d e
 
-  constant-count : (k : ℕ) (d : Component) (e : Tree) → IsBody t k d → constant_within count d e ≡ constant d e
-  constant-count k d e own = ap (λ u. constant_within (length (of_sort is_const u)) d e) (sym (body-root t s.table.scopes are.table d k own))
+  constant-count : (k : ℕ) (d : Component) (e : Tree) → IsBody t k (as_written d) → constant_within count d e ≡ constant d e
+  constant-count k d e own = ap (λ u. constant_within (length (of_sort is_const u)) d e) (sym (root-is k d own))
 
   abbrev pub Answer : Result (List ℤ) ℕ → Type 0
   Answer (Ok out) = (m : ℕ) → m < length all_nodes → IsDone out m
@@ -196,18 +179,20 @@ module _ (t : Source) (s : Scopes) (are : AreNumbered t s) (flat : IsFlat t) (or
     | inr i ↦ elim i [ inl e ↦ subst (λ j. IsDone vs j) (sym e) g | inr f ↦ absurd f ]
   ]
 
-  set-done : (vs : List ℤ) (front ms : List ℕ) (m k : ℕ) (d : Component) (ty : TypeTree) (n : Ident) (e : Tree) → order ≡ front ++ m ∷ ms → length vs ≡ length all_nodes → AreDone vs front → IsNode t s are flat m k d ty n e
+  set-done : (vs : List ℤ) (front ms : List ℕ) (m k : ℕ) (d : Component) (ty : TypeTree) (n : Ident) (e : Tree) → order ≡ front ++ m ∷ ms → length vs ≡ length all_nodes → AreDone vs front → IsNode t s used are m k d ty n e
       → AreDone (slice_set vs m (constant d e)) (front ++ m ∷ [])
   set-done vs front ms m k d ty n e o long done h =
       done-more (slice_set vs m (constant d e)) front m
       (λ l member i c x y z g. ap or_zero (written-other vs m l (constant d e) (front-other l m front ms (subst (λ (ns : List ℕ). AreDistinct ns) o is.once) member)) ∙ done l member i c x y z g)
       (λ i c x y z g.
-      let below : m < length vs = omega (arith, long, slice_get-below all_nodes m (record { body = k; decl = const_decl ty n e; value = e }) h.1) in
-      let same : record { body = k; decl = const_decl ty n e; value = e } ≡ record { body = i; decl = const_decl x y z; value = z } = some-same (record { body = k; decl = const_decl ty n e; value = e }) (record { body = i; decl = const_decl x y z; value = z }) (sym h.1 ∙ g.1) in
+      let below : m < length vs = omega (arith, long, slice_get-below all_nodes m (record { body = k; decl = const_decl ty n e; value = e }) h.at) in
+      let same : record { body = k; decl = const_decl ty n e; value = e } ≡ record { body = i; decl = const_decl x y z; value = z } = some-same (record { body = k; decl = const_decl ty n e; value = e }) (record { body = i; decl = const_decl x y z; value = z }) (sym h.at ∙ g.at) in
       let body : k ≡ i = ap (λ (u : Node). u.body) same in
       let value : e ≡ z = ap (λ (u : Node). u.value) same in
-      let place : d ≡ c = some-same d c (sym h.0 ∙ ap (slice_get (bodies t)) body ∙ g.0) in
-      ap or_zero (written-same vs m (constant d e) below) ∙ ap (constant d) value ∙ ap (λ u. constant u z) place ∙ sym (constant-count i c z g.0))
+      let alike : as_written d ≡ as_written c = some-same (as_written d) (as_written c) (sym h.own ∙ ap (slice_get (bodies t)) body ∙ g.own) in
+      ap or_zero (written-same vs m (constant d e) below)
+      ∙ constant-same t are.constancy d c alike (components-written t d h.listed) e (node-constant t s used are m k d ty n e h)
+      ∙ ap (constant c) value ∙ sym (constant-count i c z g.own))
 
   abbrev node_by : ℕ → Option Node
   node_by m = slice_get all_nodes m
@@ -219,41 +204,46 @@ module _ (t : Source) (s : Scopes) (are : AreNumbered t s) (flat : IsFlat t) (or
   abbrev Goes : List ℕ → List ℕ → Type 0
   Goes front ms = (us : List ℤ) → length us ≡ length all_nodes → AreDone us front → Answer (all_filled us ms)
 
-  node-answer : (m : ℕ) (ms front : List ℕ) (vs : List ℤ) (x : Node) (c : IsConstant t x) → order ≡ front ++ m ∷ ms → length vs ≡ length all_nodes → AreDone vs front → Goes (front ++ m ∷ []) ms → slice_get all_nodes m ≡ Some x
+  node-answer : (m : ℕ) (ms front : List ℕ) (vs : List ℤ) (x : Node) (c : IsConstant t x) → order ≡ front ++ m ∷ ms → length vs ≡ length all_nodes → AreDone vs front → Goes (front ++ m ∷ []) ms → IsNode t s used are m x.body c.component c.ty c.name x.value
       → (p : Option ℤ) → p ≡ outcome c.component x.value → Answer (filled_on (filled_by x vs m p) (λ us. all_filled us ms))
-  node-answer m ms front vs x c o long done more h p e = elim (bool-cases (is_faulty (constant c.component) x.value)) [
-    | inl f ↦ subst (λ (q : Option ℤ). Answer (filled_on (filled_by x vs m q) (λ us. all_filled us ms))) (sym (e ∙ ap (λ b. unless_faulty b (constant c.component x.value)) f)) (record {
-      body = x.body;
-      component = c.component;
-      own = c.own;
-      ty = c.ty;
-      name = c.name;
-      value = x.value;
-      declares = c.declares;
-      stands = refl;
-      faulty = f;
-    })
-    | inr f ↦ subst (λ (q : Option ℤ). Answer (filled_on (filled_by x vs m q) (λ us. all_filled us ms))) (sym (e ∙ ap (λ b. unless_faulty b (constant c.component x.value)) f))
-        (more (slice_set vs m (constant c.component x.value)) (set-length vs m (constant c.component x.value) ∙ long)
-        (set-done vs front ms m x.body c.component c.ty c.name x.value o long done (c.own, h ∙ ap (λ d. Some (record { body = x.body; decl = d; value = x.value })) c.is)))
-  ]
+  node-answer m ms front vs x c o long done more h p e =
+      (elim (is_faulty (constant c.component) x.value) as (λ b. is_faulty (constant c.component) x.value ≡ b → p ≡ unless_faulty b (constant c.component x.value) → Answer (filled_on (filled_by x vs m p) (λ us. all_filled us ms))) [
+        | true ↦ λ f told. subst (λ (q : Option ℤ). Answer (filled_on (filled_by x vs m q) (λ us. all_filled us ms))) (sym told) (record {
+          component = c.component;
+          listed = c.listed;
+          ty = c.ty;
+          name = c.name;
+          value = x.value;
+          declares = c.declares;
+          stands = refl;
+          faulty = f;
+        })
+        | false ↦ λ f told. subst (λ (q : Option ℤ). Answer (filled_on (filled_by x vs m q) (λ us. all_filled us ms))) (sym told)
+            (more (slice_set vs m (constant c.component x.value)) (set-length vs m (constant c.component x.value) ∙ long)
+            (set-done vs front ms m x.body c.component c.ty c.name x.value o long done h))
+      ]) refl e
 
   step-at : (m : ℕ) (ms front : List ℕ) (vs : List ℤ) → order ≡ front ++ m ∷ ms → length vs ≡ length all_nodes → AreDone vs front → Goes (front ++ m ∷ []) ms
       → (q : Option Node) → slice_get all_nodes m ≡ q → Answer (filled_on (filled_at s its_numbers vs m q) (λ us. all_filled us ms))
-  step-at m ms front vs o long done more None h = more vs long (done-more vs front m done (λ k d ty n e g. absurd (none-some (record { body = k; decl = const_decl ty n e; value = e }) (sym h ∙ g.1))))
+  step-at m ms front vs o long done more None h = more vs long (done-more vs front m done (λ k d ty n e g. absurd (none-some (record { body = k; decl = const_decl ty n e; value = e }) (sym h ∙ g.at))))
   step-at m ms front vs o long done more (Some x) h =
-      let c = nodes-sound t (bodies t) (written_bodies t) 0 x (bodies-written t) (sits-whole (bodies t)) (at-member all_nodes m x h) in
-      let at : IsNode t s are flat m x.body c.component c.ty c.name x.value = (c.own, h ∙ ap (λ d. Some (record { body = x.body; decl = d; value = x.value })) c.is) in
-      node-answer m ms front vs x c o long done more h (node_value s its_numbers vs x)
+      let c = nodes-sound t s used are x (at-member all_nodes m x h) in
+      let at : IsNode t s used are m x.body c.component c.ty c.name x.value =
+      record {
+        listed = c.listed;
+        own = c.own;
+        declares = c.declares;
+        at = h ∙ ap (λ d. Some (record { body = x.body; decl = d; value = x.value })) c.is;
+      } in
+      node-answer m ms front vs x c o long done more at (node_value s its_numbers vs x)
       (node-outcome vs m x.body c.component c.ty c.name x.value at
       (λ l need. done l (before-front l m front ms (subst (λ (ns : List ℕ). AreDistinct ns) o is.once) (subst (λ (ns : List ℕ). Before l m ns) o (is.after m l need)))))
 
   pub fill-is : (rest front : List ℕ) (vs : List ℤ) → order ≡ front ++ rest → length vs ≡ length all_nodes → AreDone vs front → Answer (all_filled vs rest)
-  fill-is [] front vs o long done =
-      λ m below. done m (subst (λ (ns : List ℕ). Member m ns) (o ∙ append-nil front) (is.each m (let l : length (graph t s are flat) ≡ length all_nodes = map-length (node_needs s its_numbers) all_nodes in omega (arith, below, l))))
+  fill-is [] front vs o long done = λ m below. done m (subst (λ (ns : List ℕ). Member m ns) (o ∙ append-nil front) (is.each m (let l = graph-long in omega (arith, below, l))))
   fill-is (m ∷ ms) front vs o long done = step-at m ms front vs o long done (λ us l d. fill-is ms (front ++ m ∷ []) us (o ∙ sym (append_assoc front (m ∷ []) ms)) l d) (slice_get all_nodes m) refl
 
   pub has-values : (out : List ℤ) → ((m : ℕ) → m < length all_nodes → IsDone out m) → HasValues t s its_numbers out
-  has-values out done k c own nm =
-      name-done out k c own nm (λ m i d ty n e found. done m (slice_get-below all_nodes m (record { body = found.0; decl = const_decl ty n e; value = e }) found.2.1))
+  has-values out done k c listed own nm right =
+      name-done out k c listed own nm right (λ m i d ty n e found. done m (slice_get-below all_nodes m (record { body = found.0; decl = const_decl ty n e; value = e }) found.2.at))
       ∙ sym (name-constant c nm)

@@ -1,8 +1,9 @@
--- The number at the slot of a constant is its place among the constants of the source.
-use Rattle.std.proofs.Common.{◌≡◌, ℕ, zero, suc, ◌+◌, ◌-◌, ◌<◌, ◌≤◌, List, [], ◌∷◌, ◌++◌, append_assoc, map, length, drop, length-append, add-one, inl, inr, refl, sym, ap, subst, ◌∙◌, arith, Option, Some, None}
+-- The number at the slot of a constant is its place among the constants of the marked bodies.
+use Rattle.std.proofs.Common.{◌≡◌, ℕ, zero, suc, ◌+◌, ◌-◌, ◌<◌, ◌≤◌, Bool, true, false, List, [], ◌∷◌, ◌++◌, append_assoc, append-nil, map, length, drop, length-append, add-one, inl, inr, refl, sym, ap, subst, ◌∙◌, arith, Option, Some, None}
 use Rattle.std.specs.Prelude.{slice_get, flat_map, filter_map, option_map}
 use Rattle.std.specs.List.{enumerate_from, cons_option}
 use Rattle.std.proofs.lemmas.Grind.{flat_map-append}
+use Rattle.std.proofs.Math.Seq.{drop-length}
 use Rattle.cif_system.proofs.Lists.{some-same, none-some, slice_get-below}
 use Rattle.cif_order.proofs.Lists.{same-or-other}
 use Rattle.cif_ast.specs.declared.names.Ident.{Ident}
@@ -16,15 +17,16 @@ use Rattle.cif_scope.specs.declared.scope.What.{What}
 use Rattle.cif_scope.specs.declared.scopes.Scopes.{Scopes}
 use Rattle.cif_scope.specs.Tables.{IsBody, Beside, IsSort, IsName, IsWhat, IsScope}
 use Rattle.cif_scope.specs.Looks.{names_in, names_at, what_at}
-use Rattle.cif_scope.specs.Scopes.{AreNumbered}
 use Rattle.cif_scope.specs.Written.{WrittenBody, written_bodies}
 use Rattle.cif_scope.proofs.Places.{beside-at, beside-length}
 use Rattle.cif_scope.proofs.BodyLaws.{row-of}
 use Rattle.cif_scope.proofs.DefinitionLaws.{IsWritten, bodies-written}
 use Rattle.cif_cycles.proofs.NumberLaws.{get-front, get-rest, length-push, get-pushed, below-other}
 use Rattle.cif_cycles.proofs.Graphs.{at-below}
-use Rattle.cif_constants.specs.Numbers.{sort_unit, unit_of, count_to, body_count, row_to, total_to, rows_to, numbers_of, number_in, or_zero, number_at}
-use Rattle.cif_constants.specs.Nodes.{Node, decl_nodes, nodes_from}
+use Rattle.cif_constants.specs.Numbers.{sort_unit, unit_of, count_to, body_count, row_to, count_if, total_to, rows_to, numbers_of, number_in, or_zero, number_at}
+use Rattle.cif_constants.specs.Nodes.{Node, decl_nodes, body_nodes, nodes_in}
+use Rattle.cif_constants.specs.Used.{is_used, if_used, used_from}
+use Rattle.cif_constants.proofs.UsedLaws.{IsMarked}
 
 -- ---- constants among entries
 
@@ -212,28 +214,29 @@ row-at s k more (suc n) j l = elim (same-or-other j n) [
       get-front (row_to s k more n) ((more + count_to s k n) ∷ []) j inside ∙ row-at s k more n j less
 ]
 
-abbrev row_for : Scopes → ℕ → List ℕ
-row_for s n = row_to s n (total_to s n) (length (names_at s.table n))
+module _ (s : Scopes) (used : List Bool) where
+  abbrev row_for : ℕ → List ℕ
+  row_for n = row_to s n (total_to s used n) (length (names_at s.table n))
 
-rows-length : (s : Scopes) (n : ℕ) → length (rows_to s n) ≡ n
-rows-length s zero = refl
-rows-length s (suc n) = length-push (rows_to s n) (row_for s n) ∙ ap suc (rows-length s n)
+  rows-length : (n : ℕ) → length (rows_to s used n) ≡ n
+  rows-length zero = refl
+  rows-length (suc n) = length-push (rows_to s used n) (row_for n) ∙ ap suc (rows-length n)
 
-rows-at : (s : Scopes) (n k : ℕ) → k < n → slice_get (rows_to s n) k ≡ Some (row_for s k)
-rows-at s zero k l = absurd (omega arith)
-rows-at s (suc n) k l = elim (same-or-other k n) [
-  | inl e ↦ subst (λ i. slice_get (rows_to s n ++ row_for s n ∷ []) i ≡ Some (row_for s i)) (sym e) (get-pushed (rows_to s n) (row_for s n) n (rows-length s n))
-  | inr e ↦
-      let less : k < n = below-other k n l e in
-      let inside : k < length (rows_to s n) = let long = rows-length s n in omega arith in
-      get-front (rows_to s n) (row_for s n ∷ []) k inside ∙ rows-at s n k less
-]
+  rows-at : (n k : ℕ) → k < n → slice_get (rows_to s used n) k ≡ Some (row_for k)
+  rows-at zero k l = absurd (omega arith)
+  rows-at (suc n) k l = elim (same-or-other k n) [
+    | inl e ↦ subst (λ i. slice_get (rows_to s used n ++ row_for n ∷ []) i ≡ Some (row_for i)) (sym e) (get-pushed (rows_to s used n) (row_for n) n (rows-length n))
+    | inr e ↦
+        let less : k < n = below-other k n l e in
+        let inside : k < length (rows_to s used n) = let long = rows-length n in omega arith in
+        get-front (rows_to s used n) (row_for n ∷ []) k inside ∙ rows-at n k less
+  ]
 
 -- ---- all bodies
 
-module _ (t : Source) (s : Scopes) (are : AreNumbered t s) where
+module _ (t : Source) (s : Scopes) (used : List Bool) (are : IsMarked t s used) where
   names-are : (k : ℕ) (c : Component) → IsBody t k c → Beside (IsName t c) (scope_of c) (names_at s.table k)
-  names-are k c own = let r = row-of t s.table.scopes are.table k c own in subst (λ o. Beside (IsName t c) (scope_of c) (names_in o)) (sym r.1) r.2.names
+  names-are k c own = let r = row-of t s.table.scopes are.numbers.table k c own in subst (λ o. Beside (IsName t c) (scope_of c) (names_in o)) (sym r.1) r.2.names
 
   count-is : (k : ℕ) (c : Component) → IsBody t k c → (j : ℕ) → count_to s k j ≡ before (scope_of c) j
   count-is k c own zero = sym (before-first (scope_of c))
@@ -243,12 +246,12 @@ module _ (t : Source) (s : Scopes) (are : AreNumbered t s) where
       let d : before (scope_of c) (suc j) ≡ before (scope_of c) j + unit_at (scope_of c) j = before-next (scope_of c) j in
       omega arith
 
-  body-count : (k : ℕ) (c : Component) → IsBody t k c → body_count s k ≡ length (flat_map (decl_nodes k) (decls_in (body_of c)))
+  pub body-count : (k : ℕ) (c : Component) → IsBody t k c → body_count s k ≡ length (flat_map (decl_nodes k) (decls_in (body_of c)))
   body-count k c own =
       ap (count_to s k) (beside-length (IsName t c) (scope_of c) (names_at s.table k) (names-are k c own)) ∙ count-is k c own (length (scope_of c))
       ∙ sym (nodes-length k (scope_of c)) ∙ ap length (nodes-of k c)
 
-  abbrev pub ws : List WrittenBody
+  abbrev ws : List WrittenBody
   ws = written_bodies t
 
   bodies-long : length ws ≡ length (bodies t)
@@ -265,8 +268,28 @@ module _ (t : Source) (s : Scopes) (are : AreNumbered t s) where
   abbrev own_nodes : ℕ → WrittenBody → List Node
   own_nodes k w = flat_map (decl_nodes k) (decls_in w.body)
 
+  abbrev nodes_if : Bool → ℕ → WrittenBody → List Node
+  nodes_if b k w = nodes_in (if_used b k w)
+
+  if-count : (b : Bool) (k : ℕ) (w : WrittenBody) → length (nodes_if b k w) ≡ count_if b (length (own_nodes k w))
+  if-count true k w = ap length (append-nil (own_nodes k w))
+  if-count false k w = refl
+
+  -- those of the bodies from body k on
+  abbrev rest_from : ℕ → List WrittenBody → List Node
+  rest_from k vs = nodes_in (used_from used k vs)
+
+  abbrev pub nodes : List Node
+  nodes = rest_from 0 ws
+
+  split-nodes : (k : ℕ) (w : WrittenBody) → slice_get ws k ≡ Some w → rest_from k (drop k ws) ≡ nodes_if (is_used used k) k w ++ rest_from (suc k) (drop (suc k) ws)
+  split-nodes k w h =
+      ap (rest_from k) (split-off ws k w h)
+      ∙ flat_map-append body_nodes (if_used (is_used used k) k w) (used_from used (k + 1) (drop (suc k) ws))
+      ∙ ap (λ i. nodes_if (is_used used k) k w ++ rest_from i (drop (suc k) ws)) (add-one k)
+
   -- the constants before body k
-  fronts : (k : ℕ) → k ≤ length ws → (front : List Node) × (nodes_from 0 ws ≡ front ++ nodes_from k (drop k ws)) × (length front ≡ total_to s k)
+  fronts : (k : ℕ) → k ≤ length ws → (front : List Node) × (nodes ≡ front ++ rest_from k (drop k ws)) × (length front ≡ total_to s used k)
   fronts zero l = ([], refl, refl)
   fronts (suc k) l =
       let less : k ≤ length ws = omega arith in
@@ -274,33 +297,40 @@ module _ (t : Source) (s : Scopes) (are : AreNumbered t s) where
       let c = at-below (bodies t) k below in
       let w = written-at k c.0 c.1 in
       let f = fronts k less in
+      let more : List Node = nodes_if (is_used used k) k w.0 in
       let count : body_count s k ≡ length (own_nodes k w.0) = body-count k c.0 c.1 ∙ ap (λ b. length (flat_map (decl_nodes k) (decls_in b))) w.2.1 in
-      let total : length (f.0 ++ own_nodes k w.0) ≡ total_to s k + body_count s k = length-append (f.0) (own_nodes k w.0) ∙ (let a = f.2 in let b : length f.0 + length (own_nodes k w.0) ≡ total_to s k + body_count s k = omega arith in b) in (
-        f.0 ++ own_nodes k w.0,
-        f.1 ∙ ap (λ vs. f.0 ++ nodes_from k vs) (split-off ws k w.0 w.1) ∙ sym (append_assoc f.0 (own_nodes k w.0) (nodes_from (k + 1) (drop (suc k) ws))) ∙ ap (λ i. (f.0 ++ own_nodes k w.0) ++ nodes_from i (drop (suc k) ws)) (add-one k),
+      let long : length more ≡ count_if (is_used used k) (body_count s k) = if-count (is_used used k) k w.0 ∙ ap (count_if (is_used used k)) (sym count) in
+      let total : length (f.0 ++ more) ≡ total_to s used k + count_if (is_used used k) (body_count s k) = length-append (f.0) more ∙ (λ i. f.2 i + long i) in (
+        f.0 ++ more,
+        f.1 ∙ ap (λ l. f.0 ++ l) (split-nodes k w.0 w.1) ∙ sym (append_assoc f.0 more (rest_from (suc k) (drop (suc k) ws))),
         total,
       )
 
-  abbrev pub nodes : List Node
-  nodes = nodes_from 0 ws
+  pub nodes-count : length nodes ≡ total_to s used (length ws)
+  nodes-count =
+      let all : length ws ≤ length ws = omega arith in
+      let f = fronts (length ws) all in
+      ap length (f.1 ∙ ap (λ vs. f.0 ++ rest_from (length ws) vs) (drop-length ws) ∙ append-nil f.0) ∙ f.2
 
   -- what stands at the number of a constant
-  pub node-of : (k : ℕ) (c : Component) (j : ℕ) (m : Ident) (ty : TypeTree) (n : Ident) (e : Tree) → IsBody t k c → slice_get (scope_of c) j ≡ Some (m, declared (const_decl ty n e))
-      → slice_get nodes (number_at (numbers_of s) k j) ≡ Some (record { body = k; decl = const_decl ty n e; value = e })
-  node-of k c j m ty n e own at =
+  pub node-of : (k : ℕ) (c : Component) (j : ℕ) (m : Ident) (ty : TypeTree) (n : Ident) (e : Tree) → is_used used k ≡ true → IsBody t k c → slice_get (scope_of c) j ≡ Some (m, declared (const_decl ty n e))
+      → slice_get nodes (number_at (numbers_of s used) k j) ≡ Some (record { body = k; decl = const_decl ty n e; value = e })
+  node-of k c j m ty n e marked own at =
       let below : k < length (bodies t) = slice_get-below (bodies t) k c own in
-      let inside : k < length s.table.scopes = let long = beside-length (IsScope t) (bodies t) s.table.scopes are.table in omega arith in
+      let inside : k < length s.table.scopes = let long = beside-length (IsScope t) (bodies t) s.table.scopes are.numbers.table in omega arith in
       let slot : j < length (names_at s.table k) = let long = beside-length (IsName t c) (scope_of c) (names_at s.table k) (names-are k c own) in let l = slice_get-below (scope_of c) j (m, declared (const_decl ty n e)) at in omega (arith, long, l) in
-      let number : number_at (numbers_of s) k j ≡ total_to s k + before (scope_of c) j =
-      ap (λ o. number_in o j) (rows-at s (length s.table.scopes) k inside) ∙ ap or_zero (row-at s k (total_to s k) (length (names_at s.table k)) j slot) ∙ ap (λ i. total_to s k + i) (count-is k c own j) in
+      let number : number_at (numbers_of s used) k j ≡ total_to s used k + before (scope_of c) j =
+      ap (λ o. number_in o j) (rows-at s used (length s.table.scopes) k inside) ∙ ap or_zero (row-at s k (total_to s used k) (length (names_at s.table k)) j slot) ∙ ap (λ i. total_to s used k + i) (count-is k c own j) in
       let most : k ≤ length ws = let long = bodies-long in omega arith in
       let f = fronts k most in
       let w = written-at k c own in
+      let rest : List Node = rest_from (suc k) (drop (suc k) ws) in
       let own_is : scope_nodes k (scope_of c) ≡ own_nodes k w.0 = nodes-of k c ∙ ap (λ b. flat_map (decl_nodes k) (decls_in b)) w.2.1 in
       let here : slice_get (own_nodes k w.0) (before (scope_of c) j) ≡ Some (record { body = k; decl = const_decl ty n e; value = e }) = ap (λ (l : List Node). slice_get l (before (scope_of c) j)) (sym own_is) ∙ node-at k (scope_of c) j m ty n e at in
-      let past : total_to s k + before (scope_of c) j ≡ length f.0 + before (scope_of c) j = ap (λ i. i + before (scope_of c) j) (sym f.2) in
+      let past : total_to s used k + before (scope_of c) j ≡ length f.0 + before (scope_of c) j = ap (λ i. i + before (scope_of c) j) (sym f.2) in
       ap (slice_get nodes) number
-      ∙ ap (λ (l : List Node). slice_get l (total_to s k + before (scope_of c) j)) (f.1 ∙ ap (λ vs. f.0 ++ nodes_from k vs) (split-off ws k w.0 w.1))
-      ∙ get-past f.0 (own_nodes k w.0 ++ nodes_from (k + 1) (drop (suc k) ws)) (total_to s k + before (scope_of c) j) (before (scope_of c) j) past
-      ∙ get-front (own_nodes k w.0) (nodes_from (k + 1) (drop (suc k) ws)) (before (scope_of c) j) (slice_get-below (own_nodes k w.0) (before (scope_of c) j) (record { body = k; decl = const_decl ty n e; value = e }) here)
+      ∙ ap (λ (l : List Node). slice_get l (total_to s used k + before (scope_of c) j)) (f.1 ∙ ap (λ l. f.0 ++ l) (split-nodes k w.0 w.1))
+      ∙ get-past f.0 (nodes_if (is_used used k) k w.0 ++ rest) (total_to s used k + before (scope_of c) j) (before (scope_of c) j) past
+      ∙ ap (λ (l : List Node). slice_get (l ++ rest) (before (scope_of c) j)) (ap (λ b. nodes_if b k w.0) marked ∙ append-nil (own_nodes k w.0))
+      ∙ get-front (own_nodes k w.0) rest (before (scope_of c) j) (slice_get-below (own_nodes k w.0) (before (scope_of c) j) (record { body = k; decl = const_decl ty n e; value = e }) here)
       ∙ here

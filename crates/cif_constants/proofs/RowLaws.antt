@@ -19,7 +19,7 @@ use Rattle.cif_constants.specs.Slots.{Slot, nones, decl_slots, location_slots, i
 pub get_row : (rows : List (List (Option (Bor Decl)))) (k j : ℕ) → decl_at (map row_of rows) k j ≡ decl_in (option_map row_of (slice_get rows k)) j
 get_row rows k j = ap (λ o. decl_in o j) (slice_get-map row_of rows k)
 
-abbrev entry_slot : Ident × Entry → Slot
+abbrev pub entry_slot : Ident × Entry → Slot
 entry_slot (n, declared d) = Some d
 entry_slot (n, literal i ls) = None
 entry_slot (n, location i) = None

@@ -1,13 +1,13 @@
 -- The first constant expression or bound of a type that breaks the rule on constants, by the values of expressions.
-use Rattle.std.specs.Prelude.{ℕ, ◌+◌, ℤ, int_lt, Bool, true, false, List, [], ◌∷◌, Option, Some, None}
+use Rattle.std.specs.Prelude.{ℕ, ℤ, int_lt, Bool, true, false, List, [], ◌∷◌, Option, Some, None}
 use Rattle.std.specs.Option.{option_or}
 use Rattle.cif_ast.specs.Tree.{Tree}
 use Rattle.cif_system.specs.System.{in_range}
 use Rattle.cif_source.specs.Source.{TypeTree, bool_type, int_type, range_type, named_type, tree_at}
 use Rattle.cif_source.specs.Types.{signed_range}
 use Rattle.cif_scope.specs.declared.scopes.Scopes.{Scopes}
-use Rattle.cif_scope.specs.Written.{WrittenBody}
-use Rattle.cif_constants.specs.Collected.{types_in, values_in}
+use Rattle.cif_constants.specs.Used.{NumberedBody}
+use Rattle.cif_constancy.specs.Collected.{types_in, values_in}
 use Rattle.cif_constants.specs.Named.{table_value}
 use Rattle.cif_constants.specs.Outcomes.{evaluated}
 
@@ -44,10 +44,7 @@ abbrev pub values_fault : (Tree → Option ℤ) → List (TypeTree × Tree) → 
 values_fault value [] = None
 values_fault value (v ∷ vs) = option_or (missing_value v.1 (value v.1)) (values_fault value vs)
 
-abbrev pub body_fault : Scopes → List (List ℕ) → List ℤ → ℕ → WrittenBody → Option ℕ
-body_fault s ns vs k w = option_or (types_fault (evaluated (table_value s ns vs k)) (types_in w)) (values_fault (evaluated (table_value s ns vs k)) (values_in w))
-
--- of the bodies from body k on
-abbrev pub faults_from : Scopes → List (List ℕ) → List ℤ → ℕ → List WrittenBody → Option ℕ
-faults_from s ns vs k [] = None
-faults_from s ns vs k (w ∷ ws) = option_or (body_fault s ns vs k w) (faults_from s ns vs (k + 1) ws)
+abbrev pub body_fault : Scopes → List (List ℕ) → List ℤ → NumberedBody → Option ℕ
+body_fault s ns vs b =
+    let value = evaluated (table_value s ns vs b.number) in
+    option_or (types_fault value (types_in b.written)) (values_fault value (values_in b.written))

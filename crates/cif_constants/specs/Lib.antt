@@ -1,13 +1,13 @@
 pub mod Checked
+pub mod Used
 pub mod Computed
 pub mod Numbers
 pub mod Named
 pub mod Outcomes
 pub mod Nodes
-pub mod Collected
-pub mod Constancy
 pub mod Constants
 pub mod Bounds
 pub mod Slots
+pub mod Turns
 pub mod Walked
 pub mod Typed

@@ -1,5 +1,5 @@
--- The constants of a source as the nodes of a graph, what each needs, and their values in an order of the graph.
-use Rattle.std.specs.Prelude.{ℕ, ◌+◌, ℤ, true, List, [], ◌∷◌, ◌++◌, flat_map, slice_get, slice_set, Option, Some, None, Result, Ok, Err, option_map}
+-- The constants of bodies as the nodes of a graph, what each needs, and their values in an order of the graph.
+use Rattle.std.specs.Prelude.{ℕ, ℤ, true, List, [], ◌∷◌, flat_map, slice_get, slice_set, Option, Some, None, Result, Ok, Err, option_map}
 use Rattle.std.specs.Option.{option_to_list}
 use Rattle.cif_ast.specs.Tree.{Tree}
 use Rattle.cif_ast.specs.View.{view}
@@ -8,7 +8,7 @@ use Rattle.cif_source.specs.Objects.{decls_in}
 use Rattle.cif_source.specs.Uses.{Use, decl_uses}
 use Rattle.cif_scope.specs.declared.scopes.Scopes.{Scopes}
 use Rattle.cif_scope.specs.Looks.{look}
-use Rattle.cif_scope.specs.Written.{WrittenBody}
+use Rattle.cif_constants.specs.Used.{NumberedBody}
 use Rattle.cif_constants.specs.Numbers.{number_found}
 use Rattle.cif_constants.specs.Named.{table_value}
 use Rattle.cif_constants.specs.Outcomes.{evaluated}
@@ -35,10 +35,12 @@ decl_nodes k (equation_decl q) = []
 decl_nodes k (invariant_decl i) = []
 decl_nodes k (marked_decl p) = []
 
--- those of the bodies from body k on
-abbrev pub nodes_from : ℕ → List WrittenBody → List Node
-nodes_from k [] = []
-nodes_from k (w ∷ ws) = flat_map (decl_nodes k) (decls_in w.body) ++ nodes_from (k + 1) ws
+abbrev pub body_nodes : NumberedBody → List Node
+body_nodes b = flat_map (decl_nodes b.number) (decls_in b.written.body)
+
+-- those of all these bodies
+abbrev pub nodes_in : List NumberedBody → List Node
+nodes_in bs = flat_map body_nodes bs
 
 -- ---- needs
 

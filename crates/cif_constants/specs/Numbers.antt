@@ -1,5 +1,5 @@
--- The constants of a source, numbered through all bodies, by what the names of scopes are.
-use Rattle.std.specs.Prelude.{ℕ, zero, suc, ◌+◌, List, [], ◌∷◌, ◌++◌, length, Option, Some, None, slice_get}
+-- The constants of the bodies that are marked, numbered through them, by what the names of scopes are.
+use Rattle.std.specs.Prelude.{ℕ, zero, suc, ◌+◌, Bool, true, false, List, [], ◌∷◌, ◌++◌, length, Option, Some, None, slice_get}
 use Rattle.cif_scope.specs.declared.scope.Sort.{Sort}
 use Rattle.cif_scope.specs.declared.scope.Sort.TheVariants as sort
 use Rattle.cif_scope.specs.declared.scope.What.{What}
@@ -8,6 +8,7 @@ use Rattle.cif_scope.specs.declared.looked.Looked.{Looked}
 use Rattle.cif_scope.specs.declared.looked.Looked.TheVariants.{At, Missing, Blocked}
 use Rattle.cif_scope.specs.declared.scopes.Scopes.{Scopes}
 use Rattle.cif_scope.specs.Looks.{what_at, names_at}
+use Rattle.cif_constants.specs.Used.{is_used}
 
 -- one for a constant
 abbrev pub sort_unit : Sort → ℕ
@@ -42,18 +43,22 @@ abbrev pub row_to : Scopes → (k more n : ℕ) → List ℕ
 row_to s k more zero = []
 row_to s k more (suc n) = row_to s k more n ++ (more + count_to s k n) ∷ []
 
--- of the first n bodies
-abbrev pub total_to : Scopes → ℕ → ℕ
-total_to s zero = 0
-total_to s (suc n) = total_to s n + body_count s n
+abbrev pub count_if : Bool → ℕ → ℕ
+count_if true n = n
+count_if false n = 0
 
-abbrev pub rows_to : Scopes → ℕ → List (List ℕ)
-rows_to s zero = []
-rows_to s (suc n) = rows_to s n ++ row_to s n (total_to s n) (length (names_at s.table n)) ∷ []
+-- of the marked ones of the first n bodies
+abbrev pub total_to : Scopes → List Bool → ℕ → ℕ
+total_to s used zero = 0
+total_to s used (suc n) = total_to s used n + count_if (is_used used n) (body_count s n)
 
--- for each name of each body the number of constants before it, which for a constant is its number
-abbrev pub numbers_of : Scopes → List (List ℕ)
-numbers_of s = rows_to s (length s.table.scopes)
+abbrev pub rows_to : Scopes → List Bool → ℕ → List (List ℕ)
+rows_to s used zero = []
+rows_to s used (suc n) = rows_to s used n ++ row_to s n (total_to s used n) (length (names_at s.table n)) ∷ []
+
+-- for each name of each body the number of constants of marked bodies before it, which for such a constant is its number
+abbrev pub numbers_of : Scopes → List Bool → List (List ℕ)
+numbers_of s used = rows_to s used (length s.table.scopes)
 
 -- ---- the number of a slot
 

@@ -2,13 +2,9 @@
 use Rattle.std.specs.Prelude.{ℤ, pos, Bool, true, false, Option, Some, None}
 use Rattle.cif_ast.specs.Tree.{Tree}
 use Rattle.cif_ast.specs.declared.names.Name.{Name}
-use Rattle.cif_source.specs.Source.{Source}
 use Rattle.cif_source.specs.Components.{Component}
 use Rattle.cif_source.specs.Value.{value_with, constant}
-use Rattle.cif_rules.specs.BodyRules.{NotConstantDue}
 use Rattle.cif_rules.specs.InstanceRules.{is_faulty}
-use Rattle.cif_constants.specs.declared.error.ConstancyErr.{ConstancyErr}
-use Rattle.cif_constants.specs.declared.error.ConstancyErr.TheVariants.{NotConstant, Memory}
 
 -- none where it is faulty
 abbrev pub unless_faulty : {A : Type 0} → Bool → A → Option A
@@ -22,8 +18,3 @@ evaluated name e = unless_faulty (is_faulty (value_with name (pos 0)) e) (value_
 -- the value of a constant expression of c
 abbrev pub outcome : Component → Tree → Option ℤ
 outcome c e = unless_faulty (is_faulty (constant c) e) (constant c e)
-
--- the rule is broken at the place that is told; of want of memory nothing is said
-abbrev pub ConstancyDue : Source → ConstancyErr → Type 0
-ConstancyDue t (NotConstant at) = NotConstantDue t at
-ConstancyDue t Memory = Unit {0}

@@ -1,17 +1,16 @@
 -- The range of a type through names of types, by where they lead, and the first value that leaves its declared range.
-use Rattle.std.specs.Prelude.{ℕ, zero, suc, ◌+◌, ◌-ℤ◌, ℤ, pos, true, List, [], ◌∷◌, length, Option, None, Some, unwrap_or, if◌then◌else◌}
+use Rattle.std.specs.Prelude.{ℕ, zero, suc, ◌-ℤ◌, ℤ, pos, true, List, [], ◌∷◌, length, Option, None, Some, unwrap_or, if◌then◌else◌}
 use Rattle.std.specs.Option.{option_or}
 use Rattle.cif_ast.specs.Tree.{Tree}
 use Rattle.cif_system.specs.System.{Range, in_range}
 use Rattle.cif_source.specs.Source.{TypeTree, bool_type, int_type, range_type, named_type, type_tree, type_decl, enum_decl, event_decl, const_decl, alg_decl, input_decl, disc_decl, equation_decl, invariant_decl, marked_decl, tree_at}
 use Rattle.cif_source.specs.Types.{from_to, signed_range}
-use Rattle.cif_source.specs.Objects.{decls_in}
 use Rattle.cif_scope.specs.declared.looked.Looked.{Looked}
 use Rattle.cif_scope.specs.declared.looked.Looked.TheVariants.{At, Missing, Blocked}
 use Rattle.cif_scope.specs.declared.scopes.Scopes.{Scopes}
 use Rattle.cif_scope.specs.Looks.{look}
-use Rattle.cif_scope.specs.Written.{WrittenBody}
-use Rattle.cif_constants.specs.Collected.{values_in}
+use Rattle.cif_constants.specs.Used.{NumberedBody}
+use Rattle.cif_constancy.specs.Collected.{values_in}
 use Rattle.cif_constants.specs.Named.{table_value}
 use Rattle.cif_constants.specs.Outcomes.{evaluated}
 use Rattle.cif_constants.specs.Slots.{Slot, decl_at}
@@ -82,16 +81,5 @@ abbrev pub values_fault : (Tree → Option ℤ) → (TypeTree → Range) → Lis
 values_fault value range [] = None
 values_fault value range (v ∷ vs) = option_or (leaves v.1 (value v.1) (range v.0)) (values_fault value range vs)
 
-abbrev pub body_fault : Scopes → List (List ℕ) → List ℤ → List (List Slot) → ℕ → ℕ → WrittenBody → Option ℕ
-body_fault s ns vs rows turns k w = values_fault (evaluated (table_value s ns vs k)) (walked s ns vs rows turns k) (values_in w)
-
--- of the bodies from body k on
-abbrev pub faults_from : Scopes → List (List ℕ) → List ℤ → List (List Slot) → ℕ → ℕ → List WrittenBody → Option ℕ
-faults_from s ns vs rows turns k [] = None
-faults_from s ns vs rows turns k (w ∷ ws) = option_or (body_fault s ns vs rows turns k w) (faults_from s ns vs rows turns (k + 1) ws)
-
--- ---- how many declarations there are
-
-abbrev pub declaration_count : List WrittenBody → ℕ
-declaration_count [] = 0
-declaration_count (w ∷ ws) = length (decls_in w.body) + declaration_count ws
+abbrev pub body_fault : Scopes → List (List ℕ) → List ℤ → List (List Slot) → ℕ → NumberedBody → Option ℕ
+body_fault s ns vs rows turns b = values_fault (evaluated (table_value s ns vs b.number)) (walked s ns vs rows turns b.number) (values_in b.written)

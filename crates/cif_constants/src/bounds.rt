@@ -3,22 +3,27 @@
 ghost use Rattle.std.specs.Prelude.{◌≡◌, ℕ, int_lt, map, IfOk, IfErr};
 ghost use Rattle.cif_ast.specs.View.{view};
 ghost use Rattle.cif_source.specs.Source.{source_of, type_tree, tree_at};
-ghost use Rattle.cif_scope.specs.Scopes.{AreNumbered};
-ghost use Rattle.cif_scope.specs.Written.{body_of_written, written_bodies};
-ghost use Rattle.cif_constants.specs.Collected.{type_of, typed_of};
+ghost use Rattle.cif_rules.specs.BodyRules.{NotConstantDue};
+ghost use Rattle.cif_scope.specs.Scopes.{AreScopesOf};
+ghost use Rattle.cif_scope.specs.Written.{written_bodies};
+ghost use Rattle.cif_components.specs.Numbers.{AreComponentsOf};
+ghost use Rattle.cif_constancy.specs.Collected.{type_of, typed_of};
 ghost use Rattle.cif_constants.specs.Bounds as bounds;
-ghost use Rattle.cif_constants.specs.Constants.{IsFlat, HasValues, BoundsDue, ConstDue};
+ghost use Rattle.cif_constants.specs.Constants.{HasValues, BoundsDue, ConstDue};
 ghost use Rattle.cif_constants.specs.Named.{name_value};
 ghost use Rattle.cif_constants.specs.Outcomes.{evaluated};
+ghost use Rattle.cif_constants.specs.Used.{first_in, numbered_of, used_bodies, used_from};
 
-use crate::collecting::{Typed, body_types, body_values};
 use crate::error::ConstErr;
 use crate::evaluating::{evaluate, place};
 use crate::names::NameValues;
+use crate::using::{Body, component_bodies};
 use crate::values::Constants;
 use cif_ast::{Expr, Spec, TypeUse};
 use cif_base::Memory;
-use cif_scope::{Scopes, Written, number, written_bodies};
+use cif_components::Components;
+use cif_constancy::{Typed, body_types, body_values};
+use cif_scope::Scopes;
 use std::alloc::Global;
 
 const LEAST_INT: i64 = -2_147_483_648;
@@ -105,21 +110,20 @@ fn body_fault(
     alloc: Global,
     scopes: &Scopes,
     constants: &Constants,
-    body: u32,
-    one: Written<'_>,
+    body: Body<'_>,
 ) -> Result<Option<u32>, Memory>
     ensures { IfOk result (λ at. at
-        ≡ bounds.body_fault scopes.now constants.now.numbers constants.now.values body (body_of_written one.entry)) }
+        ≡ bounds.body_fault scopes.now constants.now.numbers constants.now.values (numbered_of body.entry)) }
 {
     let names = NameValues {
         scopes,
         numbers: constants.numbers.as_slice(),
         values: constants.values.as_slice(),
-        body,
+        body: body.number,
     };
-    let types = body_types(alloc, one)?;
+    let types = body_types(alloc, body.written)?;
     let first = types_fault(types.as_slice(), &names);
-    let values = body_values(alloc, one)?;
+    let values = body_values(alloc, body.written)?;
     Ok(first.or(values_fault(values.as_slice(), &names)))
 }
 
@@ -127,13 +131,13 @@ fn first_fault(
     alloc: Global,
     scopes: &Scopes,
     constants: &Constants,
-    written: &[Written<'_>],
+    bodies: &[Body<'_>],
 ) -> Result<Option<u32>, Memory>
     ensures { IfOk result (λ at. at
-        ≡ bounds.faults_from scopes.now constants.now.numbers constants.now.values 0 (map body_of_written written.now)) }
+        ≡ first_in (bounds.body_fault scopes.now constants.now.numbers constants.now.values) (map numbered_of bodies.now)) }
 {
-    for (body, one) in written.iter().enumerate() {
-        if let Some(at) = body_fault(alloc, scopes, constants, number(body)?, *one)? {
+    for body in bodies {
+        if let Some(at) = body_fault(alloc, scopes, constants, *body)? {
             return Ok(Some(at));
         }
     }
@@ -144,31 +148,34 @@ fn source_fault(
     alloc: Global,
     spec: &Spec,
     scopes: &Scopes,
+    components: &Components,
     constants: &Constants,
 ) -> Result<Option<u32>, Memory>
-    ensures { IfOk result (λ at. at
-        ≡ bounds.faults_from scopes.now constants.now.numbers constants.now.values 0 (written_bodies (source_of spec.now))) }
+    ensures { IfOk result (λ at. at ≡ first_in (bounds.body_fault scopes.now constants.now.numbers constants.now.values)
+        (used_from (used_bodies scopes.now components.now) 0 (written_bodies (source_of spec.now)))) }
 {
-    let written = written_bodies(alloc, spec)?;
-    first_fault(alloc, scopes, constants, written.as_slice())
+    let bodies = component_bodies(alloc, spec, scopes, components)?;
+    first_fault(alloc, scopes, constants, bodies.as_slice())
 }
 
-/// Checks that, every operand evaluated, each constant expression keeps to 64 bits and has no divisor 0, and that bounds of types
-/// have 32 bits, the lower one being no greater than the upper one, in a source without definitions. Whether values keep to
-/// their declared ranges isn't asked (CIF 3 language reference, "Constants", "Types").
+/// Checks that in each component, every operand evaluated, each constant expression keeps to 64 bits and has no divisor 0, and
+/// that bounds of types have 32 bits, the lower one being no greater than the upper one. Whether values keep to their declared
+/// ranges isn't asked (CIF 3 language reference, "Constants", "Types").
 pub fn check_bounds(
     alloc: Global,
     spec: &Spec,
     scopes: &Scopes,
+    components: &Components,
     constants: &Constants,
 ) -> Result<(), ConstErr>
-    requires numbers { AreNumbered (source_of spec.now) scopes.now }
-    requires flat { IsFlat (source_of spec.now) }
+    requires scopes { AreScopesOf (source_of spec.now) scopes.now }
+    requires components { AreComponentsOf (source_of spec.now) components.now }
+    requires constancy { (at : ℕ) → NotConstantDue (source_of spec.now) at → ⊥ }
     requires values { HasValues (source_of spec.now) scopes.now constants.now.numbers constants.now.values }
     ensures bounded { IfOk result (λ u. (at : ℕ) → BoundsDue (source_of spec.now) at → ⊥) }
     ensures refused { IfErr result (λ e. ConstDue (source_of spec.now) e) }
 {
-    let fault = source_fault(alloc, spec, scopes, constants)?;
+    let fault = source_fault(alloc, spec, scopes, components, constants)?;
     match fault {
         Some(at) => Err(ConstErr::ConstantRange { at }),
         None => Ok(()),

@@ -1,26 +1,9 @@
 //! Why constants have no values.
 
 ghost use Rattle.std.specs.Prelude.{◌≡◌};
-ghost use Rattle.cif_constants.specs.declared.error.ConstancyErr.TheVariants.{Memory as no_memory};
-ghost use Rattle.cif_constants.specs.declared.error.ConstErr.TheVariants.{Memory as no_memory_left};
+ghost use Rattle.cif_constants.specs.declared.error.ConstErr.TheVariants.{Memory as no_memory};
 
 use cif_base::Memory;
-
-/// Why not all expressions that are to be constant are, with the byte where that is, counted from 0, or that memory ran out.
-#[derive(Clone, Copy, Debug, PartialEq, Eq)]
-pub enum ConstancyErr {
-    /// The name there stands in a bound of a type, the value of a constant or a first value, and is no constant and no literal.
-    NotConstant { at: u32 },
-    Memory,
-}
-
-impl From<Memory> for ConstancyErr {
-    ghost from_gives = { λ _ e. e ≡ no_memory };
-
-    fn from(_error: Memory) -> ConstancyErr {
-        ConstancyErr::Memory
-    }
-}
 
 /// Why constants have no values, with the byte where that is, counted from 0, or that memory ran out.
 #[derive(Clone, Copy, Debug, PartialEq, Eq)]
@@ -32,7 +15,7 @@ pub enum ConstErr {
 }
 
 impl From<Memory> for ConstErr {
-    ghost from_gives = { λ _ e. e ≡ no_memory_left };
+    ghost from_gives = { λ _ e. e ≡ no_memory };
 
     fn from(_error: Memory) -> ConstErr {
         ConstErr::Memory

@@ -1,14 +1,11 @@
-//! The values of constant expressions of a CIF source, and whether they are constant (CIF 3 language reference, "Constants",
-//! "Types").
+//! The values of constant expressions of a CIF source (CIF 3 language reference, "Constants", "Types").
 #![tactic(auto)]
 
 mod bounds;
-mod checking;
-mod collecting;
-mod constancy;
 mod error;
 mod evaluating;
 mod filling;
+mod graph;
 mod keeping;
 mod names;
 mod nodes;
@@ -16,14 +13,16 @@ mod numbering;
 mod operators;
 mod ranges;
 mod slots;
+mod turning;
+mod using;
 mod values;
 
 pub use bounds::check_bounds;
-pub use checking::check_constancy;
-pub use error::{ConstErr, ConstancyErr};
+pub use error::ConstErr;
 pub use evaluating::evaluate;
-pub use keeping::{check_constants, turns};
+pub use keeping::check_constants;
 pub use names::NameValues;
 pub use ranges::{Types, ValueRange};
 pub use slots::declarations;
+pub use turning::turns;
 pub use values::{Constants, constant_values};

@@ -1,18 +1,18 @@
-//! The constants of a source, and what each needs.
+//! The constants of bodies, and what each needs.
 
 ghost use Rattle.std.specs.Prelude.{◌≡◌, ◌++◌, map, flat_map, IfOk, OnOk};
-ghost use Rattle.cif_source.specs.Source.{decl_tree, source_of};
-ghost use Rattle.cif_source.specs.Objects.{decls_in};
+ghost use Rattle.cif_source.specs.Source.{decl_tree};
 ghost use Rattle.cif_uses.specs.Views.{use_of};
-ghost use Rattle.cif_scope.specs.Written.{body_of_written, written_bodies};
-ghost use Rattle.cif_constants.specs.Collected.{decl_of};
-ghost use Rattle.cif_constants.specs.Nodes.{node_of, decl_nodes, nodes_from, uses_needs, node_needs};
+ghost use Rattle.cif_constancy.specs.Collected.{decl_of};
+ghost use Rattle.cif_constants.specs.Nodes.{node_of, decl_nodes, body_nodes, nodes_in, uses_needs, node_needs};
+ghost use Rattle.cif_constants.specs.Used.{numbered_of};
 
-use crate::collecting::body_decls;
 use crate::numbering::number_found;
-use cif_ast::{Decl, Expr, Spec};
+use crate::using::Body;
+use cif_ast::{Decl, Expr};
 use cif_base::{Items, Memory};
-use cif_scope::{Scopes, Written, number, written_bodies};
+use cif_constancy::body_decls;
+use cif_scope::Scopes;
 use cif_uses::{Use, add_decl_uses};
 use std::alloc::Global;
 
@@ -55,40 +55,21 @@ fn add_decls<'a>(decls: &[&'a Decl], body: u32, found: &mut Vec<Constant<'a>>) -
     Ok(())
 }
 
-fn add_body<'a>(
-    alloc: Global,
-    body: u32,
-    one: Written<'a>,
-    found: &mut Vec<Constant<'a>>,
-) -> Result<(), Memory>
-    ensures { OnOk result (map node_of found.new.items
-        ≡ map node_of found.old.items ++ flat_map (decl_nodes body) (decls_in (body_of_written one.entry).body)) }
+fn add_body<'a>(alloc: Global, body: Body<'a>, found: &mut Vec<Constant<'a>>) -> Result<(), Memory>
+    ensures { OnOk result (map node_of found.new.items ≡ map node_of found.old.items ++ body_nodes (numbered_of body.entry)) }
 {
-    let decls = body_decls(alloc, one)?;
-    add_decls(decls.as_slice(), body, found)
+    let decls = body_decls(alloc, body.written)?;
+    add_decls(decls.as_slice(), body.number, found)
 }
 
-fn add_bodies<'a>(
-    alloc: Global,
-    written: &[Written<'a>],
-    found: &mut Vec<Constant<'a>>,
-) -> Result<(), Memory>
-    ensures { OnOk result (map node_of found.new.items
-        ≡ map node_of found.old.items ++ nodes_from 0 (map body_of_written written.now)) }
+/// The constants of these bodies by their numbers.
+pub fn constants<'a>(alloc: Global, bodies: &[Body<'a>]) -> Result<Vec<Constant<'a>>, Memory>
+    ensures { IfOk result (λ all. map node_of all.items ≡ nodes_in (map numbered_of bodies.now)) }
 {
-    for (body, one) in written.iter().enumerate() {
-        add_body(alloc, number(body)?, *one, found)?;
-    }
-    Ok(())
-}
-
-/// The constants of a source by their numbers.
-pub fn constants<'a>(alloc: Global, spec: &'a Spec) -> Result<Vec<Constant<'a>>, Memory>
-    ensures { IfOk result (λ all. map node_of all.items ≡ nodes_from 0 (written_bodies (source_of spec.now))) }
-{
-    let written = written_bodies(alloc, spec)?;
     let mut found = Vec::new(alloc);
-    add_bodies(alloc, written.as_slice(), &mut found)?;
+    for body in bodies {
+        add_body(alloc, *body, &mut found)?;
+    }
     Ok(found)
 }
 

@@ -1,9 +1,11 @@
-//! The constants of a source, numbered through all bodies.
+//! The constants of the bodies that components have, numbered through these bodies.
 
 ghost use Rattle.std.specs.Prelude.{◌≡◌, ◌<◌, ◌≤◌, length, IfOk};
 ghost use Rattle.cif_scope.specs.Looks.{names_at};
 ghost use Rattle.cif_constants.specs.Numbers as counted;
+ghost use Rattle.cif_constants.specs.Used.{is_used};
 
+use crate::using::is_used;
 use cif_base::{Items, Memory};
 use cif_scope::{Looked, Scopes, Sort, What, number};
 use std::alloc::Global;
@@ -60,16 +62,33 @@ fn body_numbers(alloc: Global, scopes: &Scopes, body: u32, first: u32) -> Result
     Ok(row)
 }
 
-/// For each name of each body how many constants are declared before it, which for a constant is its number.
-pub fn constant_numbers(alloc: Global, scopes: &Scopes) -> Result<Items<Items<u32>>, Memory>
-    ensures { IfOk result (λ all. all ≡ counted.numbers_of scopes.now) }
+/// How many of a body are numbered.
+fn marked_count(scopes: &Scopes, used: &[bool], body: u32) -> u32
+    requires { body < length scopes.now.table.scopes }
+    ensures { result ≡ counted.count_if (is_used used.now body) (counted.body_count scopes.now body) }
+{
+    if is_used(used, body) {
+        body_count(scopes, body)
+    } else {
+        0
+    }
+}
+
+/// For each name of each body how many constants of marked bodies are declared before it, which for such a constant is its
+/// number.
+pub fn constant_numbers(
+    alloc: Global,
+    scopes: &Scopes,
+    used: &[bool],
+) -> Result<Items<Items<u32>>, Memory>
+    ensures { IfOk result (λ all. all ≡ counted.numbers_of scopes.now used.now) }
 {
     let mut all = Items::new(alloc);
     let mut total = 0;
     for body in 0..scopes.bodies() {
         let first = number(total)?;
         all.push(body_numbers(alloc, scopes, body, first)?)?;
-        total += body_count(scopes, body) as usize;
+        total += marked_count(scopes, used, body) as usize;
     }
     Ok(all)
 }

@@ -5,7 +5,8 @@ ghost use Rattle.cif_ast.specs.View.{view};
 ghost use Rattle.cif_source.specs.Source.{Source, type_tree};
 ghost use Rattle.cif_constants.specs.Slots.{row_of, slot_of, decl_at};
 ghost use Rattle.cif_system.specs.Words.{Member};
-ghost use Rattle.cif_source.specs.Components.{Component};
+ghost use Rattle.cif_source.specs.Components.{Component, as_written};
+ghost use Rattle.cif_source.specs.Objects.{components_of};
 ghost use Rattle.cif_source.specs.Types.{from_to as from_to_of, range_of, nearest_zero};
 ghost use Rattle.cif_rules.specs.Constants.{types_of};
 ghost use Rattle.cif_scope.specs.Tables.{IsBody};
@@ -89,7 +90,8 @@ fn decl_step<'a>(body: u32, decl: Option<&'a Decl>) -> Result<Step<'a>, Memory>
 impl<'a> Types<'a> {
     /// The value of a bound in a body, and 0 where it has none.
     fn bound(&self, body: u32, expr: &Expr) -> i64
-        ensures { result ≡ walked.bound self.now.scopes.now self.now.constants.now.numbers self.now.constants.now.values body (view expr.now) }
+        ensures { result ≡ walked.bound self.now.scopes.now self.now.constants.now.numbers self.now.constants.now.values body
+            (view expr.now) }
     {
         match self.constants.value(self.scopes, body, expr) {
             Some(value) => value,
@@ -145,10 +147,10 @@ impl<'a> Types<'a> {
         Ok(from_to(0, 0))
     }
 
-    /// The range of a type that a body writes. `turns` is one more than the source has declarations.
+    /// The range of a type that a body of a component writes. `turns` is one more than the components have declarations.
     pub fn range(&self, body: u32, ty: &'a TypeUse, turns: usize) -> Result<ValueRange, Memory>
-        ensures { (t : Source) (c : Component) → IsTyped t self.now turns → IsBody t body c → Member (type_tree ty.now) (types_of c)
-            → IfOk result (λ r. walked.range_view r ≡ range_of c (type_tree ty.now)) }
+        ensures { (t : Source) (c : Component) → IsTyped t self.now turns → Member c (components_of t) → IsBody t body (as_written c)
+            → Member (type_tree ty.now) (types_of c) → IfOk result (λ r. walked.range_view r ≡ range_of c (type_tree ty.now)) }
     {
         self.walk(body, ty, turns)
     }

@@ -1,24 +1,29 @@
 //! The values of the constants of a source.
 
-ghost use Rattle.std.specs.Prelude.{◌≡◌, IfOk, IfErr};
+ghost use Rattle.std.specs.Prelude.{◌≡◌, ℕ, IfOk, IfErr};
 ghost use Rattle.cif_ast.specs.View.{view};
 ghost use Rattle.cif_source.specs.Source.{Source, source_of};
-ghost use Rattle.cif_source.specs.Components.{Component};
+ghost use Rattle.cif_system.specs.Words.{Member};
+ghost use Rattle.cif_source.specs.Components.{Component, as_written};
+ghost use Rattle.cif_source.specs.Objects.{components_of};
+ghost use Rattle.cif_rules.specs.BodyRules.{NotConstantDue};
+ghost use Rattle.cif_components.specs.Numbers.{AreComponentsOf};
+ghost use Rattle.cif_written.specs.Constancy.{HasConstantNames};
 ghost use Rattle.cif_order.specs.Graph.{AreInside, IsOrder};
 ghost use Rattle.cif_scope.specs.Scopes.{AreScopesOf};
 ghost use Rattle.cif_scope.specs.Tables.{IsBody};
-ghost use Rattle.cif_constants.specs.Constants.{IsFlat, HasValues, ConstDue};
+ghost use Rattle.cif_constants.specs.Constants.{HasValues, ConstDue};
 ghost use Rattle.cif_constants.specs.Named.{table_value};
 ghost use Rattle.cif_constants.specs.Outcomes.{evaluated, outcome};
 
 use crate::error::ConstErr;
 use crate::evaluating::evaluate;
 use crate::filling::fill;
+use crate::graph::constant_graph;
 use crate::names::NameValues;
-use crate::nodes::{constants, needs_of};
-use crate::numbering::constant_numbers;
 use cif_ast::{Expr, Spec};
 use cif_base::{Items, Memory};
+use cif_components::Components;
 use cif_order::{OrderErr, order};
 use cif_scope::{Scopes, number};
 use std::alloc::Global;
@@ -43,26 +48,33 @@ fn ordered(alloc: Global, needs: &[Items<u32>]) -> Result<Items<u32>, Memory>
     }
 }
 
-/// The values of the constants of a source without definitions (CIF 3 language reference, "Constants").
-pub fn constant_values(alloc: Global, spec: &Spec, scopes: &Scopes) -> Result<Constants, ConstErr>
+/// The values of the constants of the components of a source (CIF 3 language reference, "Constants").
+pub fn constant_values(
+    alloc: Global,
+    spec: &Spec,
+    scopes: &Scopes,
+    components: &Components,
+) -> Result<Constants, ConstErr>
     requires scopes { AreScopesOf (source_of spec.now) scopes.now }
-    requires flat { IsFlat (source_of spec.now) }
+    requires components { AreComponentsOf (source_of spec.now) components.now }
+    requires constancy { (at : ℕ) → NotConstantDue (source_of spec.now) at → ⊥ }
     ensures values { IfOk result (λ all. HasValues (source_of spec.now) scopes.now all.numbers all.values) }
     ensures refused { IfErr result (λ e. ConstDue (source_of spec.now) e) }
 {
-    let numbers = constant_numbers(alloc, scopes)?;
-    let all = constants(alloc, spec)?;
-    let needs = needs_of(alloc, scopes, numbers.as_slice(), all.as_slice())?;
-    let sorted = ordered(alloc, needs.as_slice())?;
-    let zeros = Items::filled(alloc, 0, needs.len())?;
+    let graph = constant_graph(alloc, spec, scopes, components)?;
+    let sorted = ordered(alloc, graph.needs.as_slice())?;
+    let zeros = Items::filled(alloc, 0, graph.needs.len())?;
     match fill(
         scopes,
-        numbers.as_slice(),
-        all.as_slice(),
+        graph.numbers.as_slice(),
+        graph.constants.as_slice(),
         sorted.as_slice(),
         zeros,
     ) {
-        Ok(values) => Ok(Constants { numbers, values }),
+        Ok(values) => Ok(Constants {
+            numbers: graph.numbers,
+            values,
+        }),
         Err(at) => Err(ConstErr::ConstantRange { at }),
     }
 }
@@ -72,7 +84,8 @@ impl Constants {
     /// some divisor is 0.
     pub fn value(&self, scopes: &Scopes, body: u32, expr: &Expr) -> Option<i64>
         ensures computed { result ≡ evaluated (table_value scopes.now self.now.numbers self.now.values body) (view expr.now) }
-        ensures constant { (t : Source) (c : Component) → HasValues t scopes.now self.now.numbers self.now.values → IsBody t body c
+        ensures constant { (t : Source) (c : Component) → HasValues t scopes.now self.now.numbers self.now.values
+            → Member c (components_of t) → IsBody t body (as_written c) → HasConstantNames c (view expr.now)
             → result ≡ outcome c (view expr.now) }
     {
         let names = NameValues {

@@ -11,21 +11,22 @@ use Rattle.cif_source.specs.Components.{Component}
 use Rattle.cif_source.specs.Objects.{components_of}
 use Rattle.cif_rules.specs.Kinds.{Kind, bool_kind}
 use Rattle.cif_rules.specs.Demands.{asked_for}
+use Rattle.cif_image.specs.Built.{is_built}
 use Rattle.cif_image.specs.Flat.{net_of_source}
 use Rattle.cif_image.specs.Small.{HasSmallParts}
 use Rattle.cif_image.specs.Translation.{conjunction, net_of, net_list, net_guard, net_name}
 use Rattle.cif_image.specs.WellFormed.{KeepsBefore, algebraic}
 use Rattle.cif_fits.specs.Kinds.{net_kind, AreMet}
-use Rattle.cif_fits.specs.Forms.{HasForms, HasSmallArguments}
+use Rattle.cif_fits.specs.Forms.{HasSmallArguments}
 use Rattle.cif_fits.proofs.ExprLaws.{all-and, conjunction-fits, expr-fits}
 use Rattle.cif_fits.proofs.SoundLaws.{sound}
 use Rattle.cif_fits.proofs.NameLaws.{name-fits}
 
-pub expressions-fit : (t : Source) (c : Component) (k : Kind) (e : Tree) → HasForms t → KeepsBefore t algebraic → HasSmallParts t → HasSmallArguments t → Member c (components_of t)
+pub expressions-fit : (t : Source) (c : Component) (k : Kind) (e : Tree) → is_built t ≡ true → KeepsBefore t algebraic → HasSmallParts t → HasSmallArguments t → Member c (components_of t)
     → AreMet c (asked_for c k e) → HoldsInTree small_parts e → fits (net_of_source t) None (net_kind k) (net_of c e) ≡ true
-expressions-fit t c k e forms keeps small few m = expr-fits (net_of_source t) c (net_name c) (name-fits t (sound t forms keeps small few) c m) k e
+expressions-fit t c k e built keeps small few m = expr-fits (net_of_source t) c (net_name c) (name-fits t (sound t built keeps small few) c m) k e
 
-module _ (t : Source) (c : Component) (forms : HasForms t) (keeps : KeepsBefore t algebraic) (small : HasSmallParts t) (few : HasSmallArguments t) (m : Member c (components_of t)) where
+module _ (t : Source) (c : Component) (built : is_built t ≡ true) (keeps : KeepsBefore t algebraic) (small : HasSmallParts t) (few : HasSmallArguments t) (m : Member c (components_of t)) where
   abbrev AllMet : List Tree → Type 0
   AllMet all = (e : Tree) → Member e all → AreMet c (asked_for c bool_kind e)
 
@@ -36,7 +37,7 @@ module _ (t : Source) (c : Component) (forms : HasForms t) (keeps : KeepsBefore 
   list-fits [] met numbers = refl
   list-fits (e ∷ es) met numbers =
       all-and (fits (net_of_source t) None net.bool_kind (net_of c e)) (all_fit (net_of_source t) None (net_list c es))
-      (expressions-fit t c bool_kind e forms keeps small few m (met e (inl refl)) (numbers e (inl refl)))
+      (expressions-fit t c bool_kind e built keeps small few m (met e (inl refl)) (numbers e (inl refl)))
       (list-fits es (λ d i. met d (inr i)) (λ d i. numbers d (inr i)))
 
   pub conditions-fit : (all : List Tree) → AllMet all → AllSmall all → fits (net_of_source t) None net.bool_kind (conjunction (net_list c all)) ≡ true

@@ -10,11 +10,29 @@ use Rattle.cif_model.proofs.Passing.{all-member}
 use Rattle.cif_source.specs.Source.{RoleTree, syncs, sends, receives, UseTree, EdgeTree, LocationTree, DeclTree, Source}
 use Rattle.cif_source.specs.Components.{Component}
 use Rattle.cif_source.specs.Objects.{components_of, decls_of, decls_in, locs_of, locs_in, EventEdge, event_edges}
-use Rattle.cif_image.specs.Built.{is_no_algebra, has_no_equations, is_no_channel, only_syncs, takes_no_channel, is_no_invariant, every_item, every_decl, every_location, every_edge}
-use Rattle.cif_image.proofs.FormLaws.{edge-stands, enumerated}
+use Rattle.cif_image.specs.Built.{is_no_algebra, has_no_equations, has_no_algebra, is_no_channel, only_syncs, takes_no_channel, has_no_channels, is_no_invariant, has_no_invariants, has_no_received, every_item, every_decl, every_location, every_edge, is_built}
+use Rattle.cif_image.proofs.StandingLaws.{edge-stands, enumerated}
 use Rattle.cif_written.proofs.Bodies.{components-written}
 use Rattle.cif_written.proofs.RuleLaws.{bodies-pass}
-use Rattle.cif_fits.specs.Forms.{HasForms}
+
+-- ---- the forms, one by one
+
+pub record HasForms (t : Source) : Type 0 where
+  pub no_algebra : has_no_algebra t ≡ true
+  pub no_channels : has_no_channels t ≡ true
+  pub no_invariants : has_no_invariants t ≡ true
+  pub no_received : has_no_received t ≡ true
+
+pub forms-of : (t : Source) → is_built t ≡ true → HasForms t
+forms-of t built =
+    let three = and-left (has_no_algebra t && has_no_channels t && has_no_invariants t) (has_no_received t) built in
+    let two = and-left (has_no_algebra t && has_no_channels t) (has_no_invariants t) three in
+    record {
+      no_algebra = and-left (has_no_algebra t) (has_no_channels t) two;
+      no_channels = and-right (has_no_algebra t) (has_no_channels t) two;
+      no_invariants = and-right (has_no_algebra t && has_no_channels t) (has_no_invariants t) three;
+      no_received = and-right (has_no_algebra t && has_no_channels t && has_no_invariants t) (has_no_received t) built;
+    }
 
 its-role : (r : RoleTree) → (elim r [ syncs ↦ true | sends e ↦ false | receives ↦ false ]) ≡ true → r ≡ syncs
 its-role syncs h = refl

@@ -12,25 +12,26 @@ ghost use Rattle.cif_source.specs.Components.{Component};
 ghost use Rattle.cif_source.specs.Objects.{components_of};
 ghost use Rattle.cif_rules.specs.Kinds.{Kind, bool_kind};
 ghost use Rattle.cif_rules.specs.Demands.{asked_for};
+ghost use Rattle.cif_image.specs.Built.{is_built};
 ghost use Rattle.cif_image.specs.Flat.{net_of_source};
 ghost use Rattle.cif_image.specs.Small.{HasSmallParts};
 ghost use Rattle.cif_image.specs.Translation.{conjunction, net_of, net_list, net_guard};
 ghost use Rattle.cif_image.specs.WellFormed.{KeepsBefore, algebraic};
-ghost use Rattle.cif_fits.specs.Forms.{HasForms, HasSmallArguments};
+ghost use Rattle.cif_fits.specs.Forms.{HasSmallArguments};
 ghost use Rattle.cif_fits.specs.Kinds.{AreMet, net_kind};
 
-/// Where a source of the forms built so far, with definitions, keeps its rules and has small parts and arguments, an expression
+/// Where a source of the forms built so far keeps its rules and has small parts and arguments, an expression
 /// of one of its components that has the kind it is asked for, as have its operands, and in which no number exceeds 2147483647,
 /// has that kind in the net, parameters followed to their arguments.
 pub fn expressions_keep_their_kinds()
-    ensures { (t : Source) (c : Component) (k : Kind) (e : Tree) → HasForms t → KeepsBefore t algebraic → HasSmallParts t →
+    ensures { (t : Source) (c : Component) (k : Kind) (e : Tree) → is_built t ≡ true → KeepsBefore t algebraic → HasSmallParts t →
         HasSmallArguments t → Member c (components_of t) → AreMet c (asked_for c k e) → HoldsInTree small_parts e →
         fits (net_of_source t) None (net_kind k) (net_of c e) ≡ true }
 {}
 
 /// So have several conditions as one.
 pub fn conditions_keep_their_kind()
-    ensures { (t : Source) (c : Component) (all : List Tree) → HasForms t → KeepsBefore t algebraic → HasSmallParts t →
+    ensures { (t : Source) (c : Component) (all : List Tree) → is_built t ≡ true → KeepsBefore t algebraic → HasSmallParts t →
         HasSmallArguments t → Member c (components_of t) →
         ((e : Tree) → Member e all → AreMet c (asked_for c bool_kind e)) →
         ((e : Tree) → Member e all → HoldsInTree small_parts e) →
@@ -39,7 +40,7 @@ pub fn conditions_keep_their_kind()
 
 /// So have the guards of an edge.
 pub fn guards_keep_their_kind()
-    ensures { (t : Source) (c : Component) (at : ℕ) (all : List Tree) → HasForms t → KeepsBefore t algebraic → HasSmallParts t →
+    ensures { (t : Source) (c : Component) (at : ℕ) (all : List Tree) → is_built t ≡ true → KeepsBefore t algebraic → HasSmallParts t →
         HasSmallArguments t → Member c (components_of t) →
         ((e : Tree) → Member e all → AreMet c (asked_for c bool_kind e)) →
         ((e : Tree) → Member e all → HoldsInTree small_parts e) →

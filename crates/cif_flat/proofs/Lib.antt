@@ -1,4 +1,3 @@
 pub mod Lists
-pub mod Walk
 pub mod Forms
 pub mod NetLaws

@@ -10,7 +10,7 @@ use Rattle.cif_source.specs.Components.{Component}
 use Rattle.cif_source.specs.Objects.{events, is_event, is_alg, Declared, declarations}
 use Rattle.cif_image.specs.Built.{is_built, is_no_channel}
 use Rattle.cif_image.specs.Flat.{net_of_source, net_event, net_alg, net_invariants}
-use Rattle.cif_image.proofs.FormLaws.{flat-nothing}
+use Rattle.cif_image.proofs.StandingLaws.{flat-nothing}
 use Rattle.cif_flat.specs.Silent.{IsSilent}
 use Rattle.cif_flat.proofs.Lists.{empty}
 use Rattle.cif_flat.proofs.Forms.{IsBuiltDecl, declared-built}

@@ -6,13 +6,13 @@ use Rattle.cif_system.specs.Words.{Member}
 use Rattle.cif_system.proofs.Lists.{false-true}
 use Rattle.cif_system.proofs.Picks.{and-left, and-right}
 use Rattle.cif_model.proofs.Passing.{both-pass, all-member}
-use Rattle.cif_source.specs.Source.{RoleTree, syncs, sends, receives, UseTree, EdgeTree, EquationTree, LocationTree, DeclTree, SourceItem, decl_item, component_item, definition_item, instance_item, SourceBody, group_body, automaton_body, Source, no_source, source, list_of_items}
-use Rattle.cif_source.specs.Components.{Component, whole, part, body_of}
+use Rattle.cif_source.specs.Source.{RoleTree, syncs, sends, receives, UseTree, EdgeTree, EquationTree, LocationTree, DeclTree, ParamTree, SourceItem, decl_item, component_item, definition_item, instance_item, SourceBody, group_body, automaton_body, Source, no_source, source, list_of_items}
+use Rattle.cif_source.specs.Components.{Component, whole, part, blank, body_of}
 use Rattle.cif_source.specs.Objects.{bodies, bodies_in, bodies_at, bodies_under, items_in, item_decls, decls_in, locs_in}
-use Rattle.cif_image.specs.Received.{without_received, updates_without, decl_without, use_without, edge_without, location_without, item_without}
-use Rattle.cif_image.specs.Built.{stands_alone, has_no_definitions, is_nothing, is_no_algebra, has_no_algebra, has_no_equations, is_no_channel, only_syncs, takes_no_channel, has_no_channels, is_no_invariant, has_no_invariants, has_no_received, every_item, every_decl, every_edge, every_location, is_built}
+use Rattle.cif_image.specs.Received.{without_received, updates_without, decl_without, use_without, edge_without, location_without, param_without, item_without}
+use Rattle.cif_image.specs.Built.{is_nothing, is_no_algebra, has_no_algebra, has_no_equations, is_no_channel, is_no_channel_param, only_syncs, takes_no_channel, has_no_channels, is_no_invariant, has_no_invariants, has_no_received, every_item, every_decl, every_edge, every_location, is_built}
 use Rattle.cif_image.proofs.RuleLaws.{all-from}
-use Rattle.cif_form.specs.Forms.{decl_fits, edge_fits, location_fits, items_fit, item_fits, body_fits}
+use Rattle.cif_form.specs.Forms.{decl_fits, edge_fits, location_fits, param_fits, items_fit, item_fits, body_fits}
 
 -- ---- tests
 
@@ -89,21 +89,23 @@ location-still l h =
     all-three (list_all without_received l.marked) (list_all (λ (q : EquationTree). without_received q.value) l.equations) (list_all edge_without l.edges) f.1
     (none-still l.equations f.0) (all-implied edge_fits edge_without l.edges edge-still f.2)
 
--- ---- items that stand alone
+-- ---- items
 
--- it is no definition, and takes no channel
-alone-takes : (i : SourceItem) → stands_alone i ≡ true → takes_no_channel i ≡ true
-alone-takes (decl_item d) h = refl
-alone-takes (component_item n b) h = refl
-alone-takes (definition_item n ps b) h = absurd (false-true refl h)
-alone-takes (instance_item i) h = refl
+-- what is asked of an item itself
+abbrev item_own : SourceItem → Bool
+item_own i = takes_no_channel i && item_without i
 
--- it is neither a definition nor an instance, and no `?` stands in it
-alone-still : (i : SourceItem) → stands_alone i ≡ true → item_without i ≡ true
-alone-still (decl_item d) h = refl
-alone-still (component_item n b) h = refl
-alone-still (definition_item n ps b) h = absurd (false-true refl h)
-alone-still (instance_item i) h = absurd (false-true refl h)
+params-own : (ps : List ParamTree) → list_all param_fits ps ≡ true → (list_all is_no_channel_param ps && list_all param_without ps) ≡ true
+params-own ps h =
+    and-both (list_all is_no_channel_param ps) (list_all param_without ps)
+    (all-implied param_fits is_no_channel_param ps (λ p f. and-left (is_no_channel_param p) (param_without p) f) h)
+    (all-implied param_fits param_without ps (λ p f. and-right (is_no_channel_param p) (param_without p) f) h)
+
+own-params : (ps : List ParamTree) → (list_all is_no_channel_param ps && list_all param_without ps) ≡ true → list_all param_fits ps ≡ true
+own-params ps h =
+    all-from param_fits ps (λ p m. and-both (is_no_channel_param p) (param_without p)
+    (all-member is_no_channel_param ps p (and-left (list_all is_no_channel_param ps) (list_all param_without ps) h) m)
+    (all-member param_without ps p (and-right (list_all is_no_channel_param ps) (list_all param_without ps) h) m))
 
 -- ---- what a body has itself
 
@@ -111,41 +113,47 @@ abbrev inside : SourceBody → Bool
 inside b = list_all decl_fits (decls_in b) && list_all location_fits (locs_in b)
 
 abbrev own : SourceBody → Bool
-own b = list_all stands_alone (items_in b) && inside b
+own b = list_all item_own (items_in b) && inside b
 
 abbrev own_at : Component → Bool
 own_at c = own (body_of c)
 
-own-alone : (b : SourceBody) → own b ≡ true → list_all stands_alone (items_in b) ≡ true
-own-alone b h = and-left (list_all stands_alone (items_in b)) (inside b) h
+own-items : (b : SourceBody) → own b ≡ true → list_all item_own (items_in b) ≡ true
+own-items b h = and-left (list_all item_own (items_in b)) (inside b) h
 
 own-decls : (b : SourceBody) → own b ≡ true → list_all decl_fits (decls_in b) ≡ true
-own-decls b h = and-left (list_all decl_fits (decls_in b)) (list_all location_fits (locs_in b)) (and-right (list_all stands_alone (items_in b)) (inside b) h)
+own-decls b h = and-left (list_all decl_fits (decls_in b)) (list_all location_fits (locs_in b)) (and-right (list_all item_own (items_in b)) (inside b) h)
 
 own-locs : (b : SourceBody) → own b ≡ true → list_all location_fits (locs_in b) ≡ true
-own-locs b h = and-right (list_all decl_fits (decls_in b)) (list_all location_fits (locs_in b)) (and-right (list_all stands_alone (items_in b)) (inside b) h)
+own-locs b h = and-right (list_all decl_fits (decls_in b)) (list_all location_fits (locs_in b)) (and-right (list_all item_own (items_in b)) (inside b) h)
+
+group-own : (is : Source) → list_all item_own (list_of_items is) ≡ true → list_all decl_fits (flat_map item_decls (list_of_items is)) ≡ true → own (group_body is) ≡ true
+group-own is h g = and-both (list_all item_own (list_of_items is)) (inside (group_body is)) h (and-both (list_all decl_fits (flat_map item_decls (list_of_items is))) true g refl)
 
 -- ---- from the items to the bodies
 
-items-alone : (is : Source) → items_fit is ≡ true → list_all stands_alone (list_of_items is) ≡ true
-items-alone no_source h = refl
-items-alone (source (decl_item d) is) h = items-alone is (and-right (decl_fits d) (items_fit is) h)
-items-alone (source (component_item n b) is) h = items-alone is (and-right (body_fits b) (items_fit is) h)
-items-alone (source (definition_item n ps b) is) h = absurd (false-true refl h)
-items-alone (source (instance_item i) is) h = absurd (false-true refl h)
+items-own : (is : Source) → items_fit is ≡ true → list_all item_own (list_of_items is) ≡ true
+items-own no_source h = refl
+items-own (source (decl_item d) is) h = items-own is (and-right (decl_fits d) (items_fit is) h)
+items-own (source (component_item n b) is) h = items-own is (and-right (body_fits b) (items_fit is) h)
+items-own (source (definition_item n ps b) is) h =
+    and-both (list_all is_no_channel_param ps && list_all param_without ps) (list_all item_own (list_of_items is))
+    (params-own ps (and-left (list_all param_fits ps) (body_fits b) (and-left (list_all param_fits ps && body_fits b) (items_fit is) h)))
+    (items-own is (and-right (list_all param_fits ps && body_fits b) (items_fit is) h))
+items-own (source (instance_item i) is) h =
+    and-both (list_all without_received i.args) (list_all item_own (list_of_items is))
+    (and-left (list_all without_received i.args) (items_fit is) h) (items-own is (and-right (list_all without_received i.args) (items_fit is) h))
 
 items-decls : (is : Source) → items_fit is ≡ true → list_all decl_fits (flat_map item_decls (list_of_items is)) ≡ true
 items-decls no_source h = refl
 items-decls (source (decl_item d) is) h =
     and-both (decl_fits d) (list_all decl_fits (flat_map item_decls (list_of_items is))) (and-left (decl_fits d) (items_fit is) h) (items-decls is (and-right (decl_fits d) (items_fit is) h))
 items-decls (source (component_item n b) is) h = items-decls is (and-right (body_fits b) (items_fit is) h)
-items-decls (source (definition_item n ps b) is) h = absurd (false-true refl h)
-items-decls (source (instance_item i) is) h = absurd (false-true refl h)
+items-decls (source (definition_item n ps b) is) h = items-decls is (and-right (list_all param_fits ps && body_fits b) (items_fit is) h)
+items-decls (source (instance_item i) is) h = items-decls is (and-right (list_all without_received i.args) (items_fit is) h)
 
 body-own : (b : SourceBody) → body_fits b ≡ true → own b ≡ true
-body-own (group_body is) h =
-    and-both (list_all stands_alone (list_of_items is)) (list_all decl_fits (flat_map item_decls (list_of_items is)) && true) (items-alone is h)
-    (and-both (list_all decl_fits (flat_map item_decls (list_of_items is))) true (items-decls is h) refl)
+body-own (group_body is) h = group-own is (items-own is h) (items-decls is h)
 body-own (automaton_body a) h = h
 
 mutual
@@ -157,7 +165,9 @@ mutual
   item-fits : (i : SourceItem) (c : Component) → item_fits i ≡ true → list_all own_at (bodies_at c i) ≡ true
   item-fits (decl_item d) c h = refl
   item-fits (component_item n b) c h = and-both (own b) (list_all own_at (bodies_under (part c n b) b)) (body-own b h) (under-fits b (part c n b) h)
-  item-fits (definition_item n ps b) c h = absurd (false-true refl h)
+  item-fits (definition_item n ps b) c h =
+      let fits = and-right (list_all param_fits ps) (body_fits b) h in
+      and-both (own b) (list_all own_at (bodies_under (blank c n ps b) b)) (body-own b fits) (under-fits b (blank c n ps b) fits)
   item-fits (instance_item i) c h = refl
 
   under-fits : (b : SourceBody) (c : Component) → body_fits b ≡ true → list_all own_at (bodies_under c b) ≡ true
@@ -166,23 +176,37 @@ mutual
 
 -- ---- and back
 
+-- a body and what stands in it, before others
+apart : (b : SourceBody) (c : Component) (others : List Component) → (own b && list_all own_at (bodies_under c b ++ others)) ≡ true
+    → (own b ≡ true) × (list_all own_at (bodies_under c b) ≡ true) × (list_all own_at others ≡ true)
+apart b c others g =
+    let each = both-pass own_at (bodies_under c b) others (and-right (own b) (list_all own_at (bodies_under c b ++ others)) g) in
+    (and-left (own b) (list_all own_at (bodies_under c b ++ others)) g, each.0, each.1)
+
 mutual
   fit-bodies : (is : Source) (c : Component) → own (group_body is) ≡ true → list_all own_at (bodies_in c is) ≡ true → items_fit is ≡ true
   fit-bodies no_source c h g = refl
   fit-bodies (source (decl_item d) is) c h g =
-      let alone = own-alone (group_body (source (decl_item d) is)) h in
+      let each = own-items (group_body (source (decl_item d) is)) h in
       let decls = own-decls (group_body (source (decl_item d) is)) h in
       let others = flat_map item_decls (list_of_items is) in
       and-both (decl_fits d) (items_fit is) (and-left (decl_fits d) (list_all decl_fits others) decls)
-      (fit-bodies is c (and-both (list_all stands_alone (list_of_items is)) (inside (group_body is)) alone (and-both (list_all decl_fits others) true (and-right (decl_fits d) (list_all decl_fits others) decls) refl)) g)
+      (fit-bodies is c (group-own is each (and-right (decl_fits d) (list_all decl_fits others) decls)) g)
   fit-bodies (source (component_item n b) is) c h g =
-      let rest = and-right (own b) (list_all own_at (bodies_under (part c n b) b ++ bodies_in c is)) g in
-      let each = both-pass own_at (bodies_under (part c n b) b) (bodies_in c is) rest in
-      and-both (body_fits b) (items_fit is)
-      (fit-body b (part c n b) (and-left (own b) (list_all own_at (bodies_under (part c n b) b ++ bodies_in c is)) g) each.0)
-      (fit-bodies is c h each.1)
-  fit-bodies (source (definition_item n ps b) is) c h g = absurd (false-true refl h)
-  fit-bodies (source (instance_item i) is) c h g = absurd (false-true refl h)
+      let parts = apart b (part c n b) (bodies_in c is) g in
+      and-both (body_fits b) (items_fit is) (fit-body b (part c n b) parts.0 parts.1) (fit-bodies is c h parts.2)
+  fit-bodies (source (definition_item n ps b) is) c h g =
+      let each = own-items (group_body (source (definition_item n ps b) is)) h in
+      let decls = own-decls (group_body (source (definition_item n ps b) is)) h in
+      let parts = apart b (blank c n ps b) (bodies_in c is) g in
+      and-both (list_all param_fits ps && body_fits b) (items_fit is)
+      (and-both (list_all param_fits ps) (body_fits b) (own-params ps (and-left (item_own (definition_item n ps b)) (list_all item_own (list_of_items is)) each)) (fit-body b (blank c n ps b) parts.0 parts.1))
+      (fit-bodies is c (group-own is (and-right (item_own (definition_item n ps b)) (list_all item_own (list_of_items is)) each) decls) parts.2)
+  fit-bodies (source (instance_item i) is) c h g =
+      let each = own-items (group_body (source (instance_item i) is)) h in
+      let decls = own-decls (group_body (source (instance_item i) is)) h in
+      and-both (list_all without_received i.args) (items_fit is) (and-left (list_all without_received i.args) (list_all item_own (list_of_items is)) each)
+      (fit-bodies is c (group-own is (and-right (list_all without_received i.args) (list_all item_own (list_of_items is)) each) decls) g)
 
   fit-body : (b : SourceBody) (c : Component) → own b ≡ true → list_all own_at (bodies_under c b) ≡ true → body_fits b ≡ true
   fit-body (group_body is) c h g = fit-bodies is c h g
@@ -194,9 +218,9 @@ whole-fits : (t : Source) → items_fit t ≡ true → list_all own_at (bodies t
 whole-fits t h = and-both (own (group_body t)) (list_all own_at (bodies_in (whole t) t)) (body-own (group_body t) h) (bodies-fit t (whole t) h)
 
 module _ (t : Source) (h : list_all own_at (bodies t) ≡ true) where
-  items-fit : (test : SourceItem → Bool) → ((i : SourceItem) → stands_alone i ≡ true → test i ≡ true) → every_item test t ≡ true
+  items-fit : (test : SourceItem → Bool) → ((i : SourceItem) → item_own i ≡ true → test i ≡ true) → every_item test t ≡ true
   items-fit test f =
-      all-implied own_at (λ c. list_all test (items_in (body_of c))) (bodies t) (λ c k. all-implied stands_alone test (items_in (body_of c)) f (own-alone (body_of c) k)) h
+      all-implied own_at (λ c. list_all test (items_in (body_of c))) (bodies t) (λ c k. all-implied item_own test (items_in (body_of c)) f (own-items (body_of c) k)) h
 
   decls-fit : (test : DeclTree → Bool) → ((d : DeclTree) → decl_fits d ≡ true → test d ≡ true) → every_decl test t ≡ true
   decls-fit test f =
@@ -211,31 +235,26 @@ module _ (t : Source) (h : list_all own_at (bodies t) ≡ true) where
 
   bodies-built : is_built t ≡ true
   bodies-built =
-      and-both (has_no_definitions t && has_no_algebra t && has_no_channels t && has_no_invariants t) (has_no_received t)
-      (and-both (has_no_definitions t && has_no_algebra t && has_no_channels t) (has_no_invariants t)
-      (all-three (has_no_definitions t) (has_no_algebra t) (has_no_channels t)
-      (items-fit stands_alone (λ i f. f))
+      and-both (has_no_algebra t && has_no_channels t && has_no_invariants t) (has_no_received t)
+      (all-three (has_no_algebra t) (has_no_channels t) (has_no_invariants t)
       (and-both (every_decl is_no_algebra t) (every_location has_no_equations t) (decls-fit is_no_algebra (λ d f. (decl-fits d f).0)) (locations-fit has_no_equations (λ l f. (location-fits l f).0)))
       (all-three (every_decl is_no_channel t) (every_edge (λ e. list_all only_syncs e.uses) t) (every_item takes_no_channel t)
-      (decls-fit is_no_channel (λ d f. (decl-fits d f).1)) (edges-fit (λ e. list_all only_syncs e.uses) (λ e f. (edge-fits e f).0)) (items-fit takes_no_channel alone-takes)))
+      (decls-fit is_no_channel (λ d f. (decl-fits d f).1)) (edges-fit (λ e. list_all only_syncs e.uses) (λ e f. (edge-fits e f).0))
+      (items-fit takes_no_channel (λ i f. and-left (takes_no_channel i) (item_without i) f)))
       (decls-fit is_no_invariant (λ d f. (decl-fits d f).2)))
       (all-three (every_decl decl_without t) (every_location location_without t) (every_item item_without t)
-      (decls-fit decl_without (λ d f. (decl-fits d f).3)) (locations-fit location_without location-still) (items-fit item_without alone-still))
+      (decls-fit decl_without (λ d f. (decl-fits d f).3)) (locations-fit location_without location-still)
+      (items-fit item_without (λ i f. and-right (takes_no_channel i) (item_without i) f)))
 
 module _ (t : Source) (h : is_built t ≡ true) where
-  parts : (has_no_definitions t && has_no_algebra t && has_no_channels t && has_no_invariants t) ≡ true
-  parts = and-left (has_no_definitions t && has_no_algebra t && has_no_channels t && has_no_invariants t) (has_no_received t) h
-
-  each : (has_no_definitions t ≡ true) × (has_no_algebra t ≡ true) × (has_no_channels t ≡ true) × (has_no_invariants t ≡ true)
-  each = and-four (has_no_definitions t) (has_no_algebra t) (has_no_channels t) (has_no_invariants t) parts
+  each : (has_no_algebra t ≡ true) × (has_no_channels t ≡ true) × (has_no_invariants t ≡ true) × (has_no_received t ≡ true)
+  each = and-four (has_no_algebra t) (has_no_channels t) (has_no_invariants t) (has_no_received t) h
 
   channels : (every_decl is_no_channel t ≡ true) × (every_edge (λ e. list_all only_syncs e.uses) t ≡ true) × (every_item takes_no_channel t ≡ true)
-  channels = and-three (every_decl is_no_channel t) (every_edge (λ e. list_all only_syncs e.uses) t) (every_item takes_no_channel t) each.2
+  channels = and-three (every_decl is_no_channel t) (every_edge (λ e. list_all only_syncs e.uses) t) (every_item takes_no_channel t) each.1
 
   still : (every_decl decl_without t ≡ true) × (every_location location_without t ≡ true) × (every_item item_without t ≡ true)
-  still =
-      and-three (every_decl decl_without t) (every_location location_without t) (every_item item_without t)
-      (and-right (has_no_definitions t && has_no_algebra t && has_no_channels t && has_no_invariants t) (has_no_received t) h)
+  still = and-three (every_decl decl_without t) (every_location location_without t) (every_item item_without t) each.3
 
   -- a test that all bodies pass, of one of them
   body-passes : (test : SourceBody → Bool) → list_all (λ c. test (body_of c)) (bodies t) ≡ true → (c : Component) → Member c (bodies t) → test (body_of c) ≡ true
@@ -251,9 +270,9 @@ module _ (t : Source) (h : is_built t ≡ true) where
   decl-built c m d k =
       and-both (is_no_algebra d && is_no_channel d && is_no_invariant d) (decl_without d)
       (all-three (is_no_algebra d) (is_no_channel d) (is_no_invariant d)
-      (decl-passes is_no_algebra (and-left (every_decl is_no_algebra t) (every_location has_no_equations t) each.1) c m d k)
+      (decl-passes is_no_algebra (and-left (every_decl is_no_algebra t) (every_location has_no_equations t) each.0) c m d k)
       (decl-passes is_no_channel channels.0 c m d k)
-      (decl-passes is_no_invariant each.3 c m d k))
+      (decl-passes is_no_invariant each.2 c m d k))
       (decl-passes decl_without still.0 c m d k)
 
   location-built : (c : Component) → Member c (bodies t) → (l : LocationTree) → Member l (locs_in (body_of c)) → location_fits l ≡ true
@@ -263,13 +282,20 @@ module _ (t : Source) (h : is_built t ≡ true) where
       let syncing : list_all (λ (e : EdgeTree). list_all only_syncs e.uses) l.edges ≡ true =
       location-passes (λ l. list_all (λ (e : EdgeTree). list_all only_syncs e.uses) l.edges) channels.1 c m l k in
       all-three (is_nothing l.equations) (list_all without_received l.marked) (list_all edge_fits l.edges)
-      (location-passes has_no_equations (and-right (every_decl is_no_algebra t) (every_location has_no_equations t) each.1) c m l k)
+      (location-passes has_no_equations (and-right (every_decl is_no_algebra t) (every_location has_no_equations t) each.0) c m l k)
       without.0
       (all-from edge_fits l.edges (λ e i. edge-all e (all-member (λ (e : EdgeTree). list_all only_syncs e.uses) l.edges e syncing i) (all-member edge_without l.edges e without.2 i)))
 
+  items-built : (c : Component) → Member c (bodies t) → list_all item_own (items_in (body_of c)) ≡ true
+  items-built c m =
+      let taken = body-passes (λ b. list_all takes_no_channel (items_in b)) channels.2 c m in
+      let without = body-passes (λ b. list_all item_without (items_in b)) still.2 c m in
+      all-from item_own (items_in (body_of c)) (λ i k. and-both (takes_no_channel i) (item_without i)
+      (all-member takes_no_channel (items_in (body_of c)) i taken k) (all-member item_without (items_in (body_of c)) i without k))
+
   body-built : (c : Component) → Member c (bodies t) → own_at c ≡ true
   body-built c m =
-      and-both (list_all stands_alone (items_in (body_of c))) (inside (body_of c)) (body-passes (λ b. list_all stands_alone (items_in b)) each.0 c m)
+      and-both (list_all item_own (items_in (body_of c))) (inside (body_of c)) (items-built c m)
       (and-both (list_all decl_fits (decls_in (body_of c))) (list_all location_fits (locs_in (body_of c)))
       (all-from decl_fits (decls_in (body_of c)) (decl-built c m)) (all-from location_fits (locs_in (body_of c)) (location-built c m)))
 

@@ -1,9 +1,9 @@
 -- The forms that are built so far, item by item: as code goes through a tree.
 use Rattle.std.specs.Prelude.{◌≡◌, ℕ, Bool, true, false, ◌&&◌, Result, Ok, Err}
 use Rattle.std.specs.List.{list_all}
-use Rattle.cif_source.specs.Source.{EdgeTree, LocationTree, DeclTree, AutomatonTree, SourceItem, decl_item, component_item, definition_item, instance_item, SourceBody, group_body, automaton_body, Source, no_source, source}
-use Rattle.cif_image.specs.Received.{without_received, updates_without, decl_without}
-use Rattle.cif_image.specs.Built.{is_nothing, only_syncs, is_no_algebra, is_no_channel, is_no_invariant}
+use Rattle.cif_source.specs.Source.{EdgeTree, LocationTree, DeclTree, ParamTree, AutomatonTree, SourceItem, decl_item, component_item, definition_item, instance_item, SourceBody, group_body, automaton_body, Source, no_source, source}
+use Rattle.cif_image.specs.Received.{without_received, updates_without, decl_without, param_without}
+use Rattle.cif_image.specs.Built.{is_nothing, only_syncs, is_no_algebra, is_no_channel, is_no_channel_param, is_no_invariant}
 
 -- neither an input, an algebraic variable, an equation nor an invariant, an event that is no channel, and no `?` in it
 abbrev pub decl_fits : DeclTree → Bool
@@ -20,6 +20,11 @@ location_fits l = is_nothing l.equations && list_all without_received l.marked &
 abbrev pub automaton_fits : AutomatonTree → Bool
 automaton_fits a = list_all decl_fits a.decls && list_all location_fits a.locs
 
+-- no channel, and no `?` in its type
+abbrev pub param_fits : ParamTree → Bool
+param_fits p = is_no_channel_param p && param_without p
+
+-- a definition's parameters and body fit, and no `?` stands in the arguments of an instance
 abbrev mutual
   pub items_fit : Source → Bool
   items_fit no_source = true
@@ -28,8 +33,8 @@ abbrev mutual
   pub item_fits : SourceItem → Bool
   item_fits (decl_item d) = decl_fits d
   item_fits (component_item n b) = body_fits b
-  item_fits (definition_item n ps b) = false
-  item_fits (instance_item i) = false
+  item_fits (definition_item n ps b) = list_all param_fits ps && body_fits b
+  item_fits (instance_item i) = list_all without_received i.args
 
   pub body_fits : SourceBody → Bool
   body_fits (group_body is) = items_fit is

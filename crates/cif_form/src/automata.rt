@@ -1,4 +1,4 @@
-//! What of declarations, locations and edges has no form that is built.
+//! What of declarations, parameters, locations and edges has no form that is built.
 
 ghost use Rattle.std.specs.Prelude.{map, option_map};
 ghost use Rattle.std.specs.List.{list_all};
@@ -9,9 +9,9 @@ ghost use Rattle.cif_image.specs.Received as received;
 ghost use Rattle.cif_form.specs.Forms as form;
 ghost use Rattle.cif_form.specs.Forms.{Answers};
 
-use crate::expressions::{check_expr, check_updates};
+use crate::expressions::{check_expr, check_exprs, check_updates};
 use crate::places::decl_place;
-use cif_ast::{AutoBody, Chan, Decl, Edge, EventUse, Expr, Loc, LocEquation, Role, TypeUse};
+use cif_ast::{AutoBody, Chan, Decl, Edge, EventUse, Expr, Loc, LocEquation, Param, Role, TypeUse};
 
 fn check_type(ty: &TypeUse) -> Result<(), u32>
     ensures { Answers result (received.type_without (source.type_tree ty.now)) }
@@ -67,6 +67,26 @@ fn check_decls(decls: &[Decl]) -> Result<(), u32>
     Ok(())
 }
 
+fn check_param(param: &Param) -> Result<(), u32>
+    ensures { Answers result (form.param_fits (source.param_tree param.now)) }
+{
+    match param {
+        Param::Event { chan: Chan::No, .. } | Param::Location { .. } => Ok(()),
+        Param::Alg { ty, name: _ } => check_type(ty),
+        Param::Event { name, .. } => Err(name.at),
+    }
+}
+
+/// Parameters of a definition: events that are no channels, values and locations.
+pub fn check_params(params: &[Param]) -> Result<(), u32>
+    ensures { Answers result (list_all form.param_fits (map source.param_tree params.now)) }
+{
+    for param in params {
+        check_param(param)?;
+    }
+    Ok(())
+}
+
 fn check_use(used: &EventUse) -> Result<(), u32>
     ensures { Answers result (only_syncs (source.use_tree used.now)) }
 {
@@ -85,20 +105,11 @@ fn check_uses(uses: &[EventUse]) -> Result<(), u32>
     Ok(())
 }
 
-fn check_predicates(all: &[Expr]) -> Result<(), u32>
-    ensures { Answers result (list_all received.without_received (map view all.now)) }
-{
-    for predicate in all {
-        check_expr(predicate)?;
-    }
-    Ok(())
-}
-
 fn check_edge(edge: &Edge) -> Result<(), u32>
     ensures { Answers result (form.edge_fits (source.edge_tree edge.now)) }
 {
     check_uses(edge.uses.as_slice())?;
-    check_predicates(edge.guards.as_slice())?;
+    check_exprs(edge.guards.as_slice())?;
     check_updates(edge.updates.as_slice())
 }
 
@@ -124,7 +135,7 @@ fn check_location(loc: &Loc) -> Result<(), u32>
     ensures { Answers result (form.location_fits (source.location_tree loc.now)) }
 {
     check_equations(loc.equations.as_slice())?;
-    check_predicates(loc.marked.as_slice())?;
+    check_exprs(loc.marked.as_slice())?;
     check_edges(loc.edges.as_slice())
 }
 

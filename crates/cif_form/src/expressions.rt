@@ -1,10 +1,22 @@
 //! Where `?` stands in expressions and updates.
 
+ghost use Rattle.std.specs.Prelude.{map};
+ghost use Rattle.std.specs.List.{list_all};
 ghost use Rattle.cif_ast.specs.View.{view, view_form, view_exprs, view_terms, view_factors, view_branches, view_update, view_updates, view_update_branches};
 ghost use Rattle.cif_image.specs.Received as received;
 ghost use Rattle.cif_form.specs.Forms.{Answers};
 
 use cif_ast::{Branch, Expr, Factor, Form, Term, Update, UpdateBranch};
+
+/// Expressions without `?`, or the byte of one.
+pub fn check_exprs(all: &[Expr]) -> Result<(), u32>
+    ensures { Answers result (list_all received.without_received (map view all.now)) }
+{
+    for expr in all {
+        check_expr(expr)?;
+    }
+    Ok(())
+}
 
 /// An expression without `?`, or the byte of one.
 #[cycle(expressions)]

@@ -7,7 +7,8 @@ ghost use Rattle.cif_image.specs.Built.{is_built};
 ghost use Rattle.cif_form.specs.Forms as form;
 ghost use Rattle.cif_form.specs.Forms.{Answers};
 
-use crate::automata::{check_automaton, check_decl};
+use crate::automata::{check_automaton, check_decl, check_params};
+use crate::expressions::check_exprs;
 use cif_ast::{Body, Item, Spec};
 
 #[cycle(forms)]
@@ -27,8 +28,11 @@ fn check_item(item: &Item) -> Result<(), u32>
     match item {
         Item::Decl(decl) => check_decl(decl),
         Item::Comp(component) => check_body(&component.body),
-        Item::Def(definition) => Err(definition.name.at),
-        Item::Inst(instance) => Err(instance.name.at),
+        Item::Def(definition) => {
+            check_params(definition.params.as_slice())?;
+            check_body(&definition.body)
+        }
+        Item::Inst(instance) => check_exprs(instance.args.as_slice()),
     }
 }
 
@@ -42,8 +46,8 @@ fn check_items(items: &[Item]) -> Result<(), u32>
     Ok(())
 }
 
-/// The byte of a thing that has no form for which programs are written so far: a definition, an instance, an input, an algebraic
-/// variable, an equation, an invariant, a channel, a use of an event that sends or receives, or a `?`. It is the first, but for
+/// The byte of a thing that has no form for which programs are written so far: an input, an algebraic variable, an equation, an
+/// invariant, a channel, also as a parameter, a use of an event that sends or receives, or a `?`. It is the first, but for
 /// the parts of a location and of an edge: a location's equations come before its predicates, and an edge's events before its
 /// guards and updates. `None` where there is no such thing. The time is linear in the tree.
 #[tactic(auto, using(crate::proofs::FormLaws::fitting, crate::proofs::FormLaws::misfitting))]

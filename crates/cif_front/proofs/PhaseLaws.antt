@@ -66,6 +66,12 @@ module _ (t : Source) where
   before_instances : KeepsScoping t → types.KeepsKinds t → KeepsBefore t instances
   before_instances names types r = kept-in 2 (λ h. names) (λ h. types) (λ h. absurd (omega (arith, h))) (λ h. absurd (omega (arith, h))) (λ h. absurd (omega (arith, h))) r
 
+  pub source_kept : (s : Scopes) → AreScopesOf t s → types.KeepsKinds t → insts.KeepsInstances t → KeepsSource t
+  source_kept s names types objects = record { names = names.rules; kinds = types; objects = objects }
+
+  before_algebraic : KeepsSource t → KeepsBefore t algebraic
+  before_algebraic kept r = kept-in 3 (λ h. kept.names) (λ h. kept.kinds) (λ h. kept.objects) (λ h. absurd (omega (arith, h))) (λ h. absurd (omega (arith, h))) r
+
   -- ---- names
 
   pub scope_due : (e : ScopeErr) → ScopeDue t e → IsDueOf t (scope_refusal e)
@@ -92,15 +98,10 @@ module _ (t : Source) where
   inst_due s names typed (inst.AlphabetLacks at) h = record { broken = h; first_phase = before_instances names.rules typed }
   inst_due s names typed (inst.TooManyObjects count) h = record { broken = h; first_phase = before_instances names.rules typed }
   inst_due s names typed (inst.ConstantRange at) h = record { broken = h; first_phase = before_instances names.rules typed }
+  inst_due s names typed (inst.TooLarge nodes depth) h = record { broken = h.1; first_phase = before_algebraic (source_kept s names typed h.0) }
   inst_due s names typed inst.Memory h = tt
 
   -- ---- the net
-
-  pub source_kept : (s : Scopes) → AreScopesOf t s → types.KeepsKinds t → insts.KeepsInstances t → KeepsSource t
-  source_kept s names types objects = record { names = names.rules; kinds = types; objects = objects }
-
-  before_algebraic : KeepsSource t → KeepsBefore t algebraic
-  before_algebraic kept r = kept-in 3 (λ h. kept.names) (λ h. kept.kinds) (λ h. kept.objects) (λ h. absurd (omega (arith, h))) (λ h. absurd (omega (arith, h))) r
 
   before_choices : KeepsSource t → algs.KeepsAlgebraic (net_of_source t) → KeepsBefore t choices
   before_choices kept plain r = kept-in 4 (λ h. kept.names) (λ h. kept.kinds) (λ h. kept.objects) (λ h. plain) (λ h. absurd (omega (arith, h))) r

@@ -58,6 +58,7 @@ inst_refusal inst.Memory = refusal.Memory
 inst_refusal (inst.AlphabetLacks at) = refusal.Inst (inst.AlphabetLacks at)
 inst_refusal (inst.TooManyObjects count) = refusal.Inst (inst.TooManyObjects count)
 inst_refusal (inst.ConstantRange at) = refusal.Inst (inst.ConstantRange at)
+inst_refusal (inst.TooLarge nodes depth) = refusal.Inst (inst.TooLarge nodes depth)
 
 abbrev pub alg_refusal : AlgErr → Refusal
 alg_refusal alg.Memory = refusal.Memory
@@ -91,6 +92,7 @@ abbrev pub inst_rule : InstErr → Option rule.Refusal
 inst_rule (inst.AlphabetLacks at) = Some (rule.alphabet_lacks at)
 inst_rule (inst.TooManyObjects count) = Some (rule.too_many_objects count)
 inst_rule (inst.ConstantRange at) = Some (rule.constant_range at)
+inst_rule (inst.TooLarge nodes depth) = Some (rule.too_large nodes depth)
 inst_rule inst.Memory = None
 
 abbrev pub alg_rule : AlgErr → Option rule.Refusal

@@ -1,5 +1,5 @@
 -- The net of a source of the forms built so far is one that programs are written for.
-use Rattle.std.proofs.Common.{◌≡◌, Bool, true, false, sym, ap, ◌∙◌}
+use Rattle.std.proofs.Common.{◌≡◌, Bool, true, false, ap, ◌∙◌}
 use Rattle.std.specs.Prelude.{◌&&◌, length, nat_eq}
 use Rattle.std.specs.List.{list_all}
 use Rattle.grammar.specs.Pieces.{Text}
@@ -29,4 +29,4 @@ built-silent t built =
 pub read-shallow : (text : Text) (t : Source) → ReadsAsBuilt text t → is_shallow (net_of_source t) ≡ true
 read-shallow text t h =
     ap (λ u. is_shallow (net_of_source u)) h.is
-    ∙ shallow-nets h.tree (tree_shallow text h.tree h.read) (ap is_built (sym h.is) ∙ h.built)
+    ∙ shallow-nets h.tree (tree_shallow text h.tree h.read)

@@ -1,12 +1,12 @@
 -- Which forms of small sources are built, each test by computation.
 use Rattle.std.proofs.Common.{◌≡◌, true, false, [], ◌∷◌, Some, None, refl}
 use Rattle.std.specs.Prelude.{codes}
-use Rattle.cif_ast.specs.Tree.{no_updates}
+use Rattle.cif_ast.specs.Tree.{node, truth, named, negation, no_updates}
 use Rattle.cif_ast.specs.declared.declarations.Class.TheVariants as class
-use Rattle.cif_source.specs.Source.{no_type, syncs, event_decl, decl_item, component_item, group_body, automaton_body, Source}
-use Rattle.cif_source.proofs.Terms.{word, dotted, event_use, edge_by, place, behaviour, source_list}
+use Rattle.cif_source.specs.Source.{bool_type, no_type, syncs, event_decl, const_decl, event_param, alg_param, location_param, decl_item, component_item, definition_item, instance_item, group_body, automaton_body, Source}
+use Rattle.cif_source.proofs.Terms.{word, single, dotted, event_use, edge_by, place, behaviour, instance_named, source_list}
 use Rattle.cif_source.proofs.Rows.{two_classes, counter, invariant, frames}
-use Rattle.cif_image.specs.Built.{has_no_definitions, has_no_algebra, has_no_channels, has_no_invariants, has_no_received, is_built}
+use Rattle.cif_image.specs.Built.{has_no_algebra, has_no_channels, has_no_invariants, has_no_received, is_built}
 use Rattle.cif_image.proofs.Trees.{channel, circular, classless, fixed, monitored, never, passing, reading, safe_division, swap}
 
 two_classes_is_built : is_built two_classes ≡ true
@@ -48,16 +48,34 @@ safe_division_is_built = refl
 fixed_is_built : is_built fixed ≡ true
 fixed_is_built = refl
 
--- definitions and instances
-frames_has_definitions : has_no_definitions frames ≡ false
-frames_has_definitions = refl
+-- definitions and instances, with parameters and arguments of each sort
 
-frames_is_not_built : is_built frames ≡ false
-frames_is_not_built = refl
+-- controllable e; const bool k = true; p: D(e, not k, m.s); plant m: location s: initial; end automaton def D(controllable c; alg bool g; location l): location: initial; edge c when g, l; end
+abbrev pub instantiated : Source
+instantiated = source_list (decl_item (event_decl class.Con no_type (word (codes "e") 13))
+    ∷ decl_item (const_decl bool_type (word (codes "k") 27) (node (truth true) 31))
+    ∷ instance_item (instance_named (word (codes "p") 37) (single (word (codes "D") 40))
+    (node (named (single (word (codes "e") 42))) 42
+    ∷ node (negation (node (named (single (word (codes "k") 49))) 49)) 45
+    ∷ node (named (dotted false (word (codes "m") 52 ∷ word (codes "s") 54 ∷ []) 52)) 52
+    ∷ []))
+    ∷ component_item (word (codes "m") 64) (automaton_body (behaviour [] None None (place (Some (word (codes "s") 76)) true [] [] [] ∷ [])))
+    ∷ definition_item (word (codes "D") 106) (event_param class.Con no_type (word (codes "c") 121) ∷ alg_param bool_type (word (codes "g") 133) ∷ location_param (word (codes "l") 145) ∷ [])
+    (automaton_body (behaviour [] None None
+    (place None true [] [] (edge_by (event_use (single (word (codes "c") 173)) syncs ∷ []) (node (named (single (word (codes "g") 180))) 180 ∷ node (named (single (word (codes "l") 183))) 183 ∷ []) no_updates None
+    ∷ [])
+    ∷ [])))
+    ∷ [])
 
--- an algebraic variable, and an input
+instantiated_is_built : is_built instantiated ≡ true
+instantiated_is_built = refl
+
+-- an algebraic variable, also in a definition, and an input
 circular_has_algebra : has_no_algebra circular ≡ false
 circular_has_algebra = refl
+
+frames_has_algebra : has_no_algebra frames ≡ false
+frames_has_algebra = refl
 
 reading_has_algebra : has_no_algebra reading ≡ false
 reading_has_algebra = refl
@@ -82,12 +100,8 @@ passing_has_a_channel = refl
 passing_receives : has_no_received passing ≡ false
 passing_receives = refl
 
--- parameters and arguments without these
-frames_has_no_channels : has_no_channels frames ≡ true
-frames_has_no_channels = refl
-
-frames_receives_nothing : has_no_received frames ≡ true
-frames_receives_nothing = refl
+passing_is_not_built : is_built passing ≡ false
+passing_is_not_built = refl
 
 -- invariants
 invariant_has_invariants : has_no_invariants invariant ≡ false

@@ -1,7 +1,7 @@
 -- The forms of a source that are built so far. Each test names one form that is not built yet, and is about bodies as written.
 use Rattle.std.specs.Prelude.{Bool, true, false, ◌&&◌, List, [], ◌∷◌}
 use Rattle.std.specs.List.{list_all}
-use Rattle.cif_source.specs.Source.{ChannelTree, no_type, void_type, value_type, syncs, sends, receives, UseTree, EdgeTree, LocationTree, DeclTree, event_decl, alg_decl, input_decl, equation_decl, invariant_decl, ParamTree, event_param, SourceItem, decl_item, component_item, definition_item, instance_item, SourceBody, Source}
+use Rattle.cif_source.specs.Source.{ChannelTree, no_type, void_type, value_type, syncs, sends, receives, UseTree, EdgeTree, LocationTree, DeclTree, event_decl, alg_decl, input_decl, equation_decl, invariant_decl, ParamTree, event_param, SourceItem, definition_item, SourceBody, Source}
 use Rattle.cif_source.specs.Components.{body_of}
 use Rattle.cif_source.specs.Objects.{bodies, items_in, decls_in, locs_in}
 use Rattle.cif_image.specs.Received.{decl_without, location_without, item_without}
@@ -26,17 +26,6 @@ every_edge test t = every_location (λ l. list_all test l.edges) t
 abbrev pub is_nothing : {A : Type 0} → List A → Bool
 is_nothing [] = true
 is_nothing (x ∷ xs) = false
-
--- ---- definitions and instances
-
-abbrev pub stands_alone : SourceItem → Bool
-stands_alone (decl_item d) = true
-stands_alone (component_item n b) = true
-stands_alone (definition_item n ps b) = false
-stands_alone (instance_item i) = false
-
-abbrev pub has_no_definitions : Source → Bool
-has_no_definitions t = every_item stands_alone t
 
 -- ---- channels
 
@@ -96,6 +85,7 @@ has_no_received t = every_decl decl_without t && every_location location_without
 
 -- ---- all
 
--- groups and automata with events, locations and edges, discrete variables, constants, types, guards, updates and marking predicates
+-- groups, automata, definitions and instances with events, locations and edges, discrete variables, constants, types, guards,
+-- updates and marking predicates
 abbrev pub is_built : Source → Bool
-is_built t = has_no_definitions t && has_no_algebra t && has_no_channels t && has_no_invariants t && has_no_received t
+is_built t = has_no_algebra t && has_no_channels t && has_no_invariants t && has_no_received t

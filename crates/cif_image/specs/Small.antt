@@ -1,5 +1,5 @@
 -- Sources whose numbers, literals and assigned names are few enough for the numbers of a net.
-use Rattle.std.specs.Prelude.{ℕ, ◌<◌, ◌^◌, List, length}
+use Rattle.std.specs.Prelude.{◌<◌, ◌^◌, List, length}
 use Rattle.cif_ast.specs.Tree.{Tree}
 use Rattle.cif_ast.specs.Throughout.{HoldsInTree, HoldsInUpdateTrees}
 use Rattle.cif_ast.specs.SmallNumbers.{AreFewLiterals, small_parts}

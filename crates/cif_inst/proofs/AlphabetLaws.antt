@@ -9,22 +9,23 @@ use Rattle.cif_system.proofs.Distinct.{member-map}
 use Rattle.cif_source.specs.Source.{AutomatonTree, automaton_body, Source}
 use Rattle.cif_source.specs.Components.{Component, body_of, params_of}
 use Rattle.cif_source.specs.Lookup.{denotes}
-use Rattle.cif_source.specs.Objects.{bodies, EventEdge, event_edges, events, number_in}
+use Rattle.cif_source.specs.Objects.{components_of, EventEdge, event_edges, events}
 use Rattle.cif_source.specs.Uses.{uses, event_asked, asking, param_uses, body_uses, decl_uses, location_uses}
 use Rattle.cif_source.specs.Step.{event_at, role_of}
 use Rattle.cif_system.specs.System.{syncing}
 use Rattle.cif_system.specs.Step.{same_role}
 use Rattle.cif_rules.specs.InstanceRules.{synchronised_name}
 use Rattle.cif_image.specs.Flat.{event_number, named_events, alphabet_in, alphabet_of, monitored_in, monitored_events, net_edge}
-use Rattle.cif_image.proofs.EdgeLaws.{is_some, number-found}
-use Rattle.cif_image.proofs.NamedLaws.{LeadsToEvent, leads, event-number, event-below}
-use Rattle.cif_image.proofs.FormLaws.{no-definitions, way-syncs}
-use Rattle.cif_inst.proofs.BuiltLaws.{Syncs}
-use Rattle.cif_inst.specs.Naming.{component_at}
-use Rattle.cif_inst.specs.Alphabets.{automaton_edges, used_events, alphabet_by, alphabet_for, monitors_by, monitors_for}
-use Rattle.cif_inst.specs.declared.naming.Naming.{Naming}
-use Rattle.cif_inst.proofs.NamingLaws.{IsSound, listed, few}
-use Rattle.cif_inst.proofs.EdgeLaws.{event_of, found-events}
+use Rattle.cif_written.specs.Denoted.{DenotesEvent}
+use Rattle.cif_written.proofs.DenotedLaws.{event-names}
+use Rattle.cif_fits.proofs.FormLaws.{way-syncs}
+use Rattle.cif_translate.specs.Looking.{component_at}
+use Rattle.cif_translate.specs.declared.looking.Looking.{Looking}
+use Rattle.cif_inst.specs.Edges.{automaton_edges}
+use Rattle.cif_inst.specs.Alphabets.{used_events, alphabet_by, alphabet_for, monitors_by, monitors_for}
+use Rattle.cif_inst.proofs.SoundLaws.{IsSound}
+use Rattle.cif_inst.proofs.EdgeLaws.{Syncs, event_of, found-events}
+use Rattle.cif_inst.proofs.ListedLaws.{used-edges}
 use Rattle.cif_inst.proofs.UseLaws.{event-use, edge-event-used}
 
 -- ---- names of events
@@ -60,20 +61,19 @@ synchronised-all (w ∷ ws) syncs =
     ∙ ap (λ xs. w.event_use.name ∷ xs) (synchronised-all ws (λ v m. syncs v (inr m)))
 
 module _ (t : Source) (h : IsSound t) where
-  used-numbered : (c : Component) → Member c (bodies t) → (nm : Name) → Member (event-use nm) (uses c) → Numbered t c nm
+  used-numbered : (c : Component) → Member c (components_of t) → (nm : Name) → Member (event-use nm) (uses c) → Numbered t c nm
   used-numbered c m nm k =
-      let l : LeadsToEvent t c nm = leads t (no-definitions t h.built) (listed t h) (few t h) h.scoping.known h.scoping.fitting c m nm k in
-      let at : event_at (denotes c nm) ≡ Some (number_in (events t) l.place l.ident.text) = event-number t (no-definitions t h.built) (listed t h) (few t h) c nm l in
-      let is : event_number c nm ≡ number_in (events t) l.place l.ident.text = ap (λ o. unwrap_or o 0) at in
+      let d : DenotesEvent t c nm = event-names t h.few h.scoping.known h.scoping.fitting h.matched c m nm k in
+      let is : event_number c nm ≡ d.event = ap (λ o. unwrap_or o 0) d.is_event in
       record {
-        number = sym (number-found (event_at (denotes c nm)) (ap is_some at));
-        below = omega (arith, is, event-below t (no-definitions t h.built) (listed t h) (few t h) c nm l);
+        number = d.is_event ∙ ap Some (sym is);
+        below = omega (arith, is, d.is_below);
       }
 
-  pub edge-numbered : (c : Component) → Member c (bodies t) → (w : EventEdge) → Member w (event_edges c) → Numbered t c w.event_use.name
+  pub edge-numbered : (c : Component) → Member c (components_of t) → (w : EventEdge) → Member w (event_edges c) → Numbered t c w.event_use.name
   edge-numbered c m w k = used-numbered c m w.event_use.name (edge-event-used c w k)
 
-  module _ (c : Component) (m : Member c (bodies t)) (a : AutomatonTree) (e : body_of c ≡ automaton_body a) where
+  module _ (c : Component) (m : Member c (components_of t)) (a : AutomatonTree) (e : body_of c ≡ automaton_body a) where
     in-body : (nm : Name) → Member (event-use nm) (body_uses c (automaton_body a)) → Numbered t c nm
     in-body nm k = used-numbered c m nm (append-right (event-use nm) (flat_map param_uses (params_of c)) (body_uses c (body_of c)) (subst (λ b. Member (event-use nm) (body_uses c b)) (sym e) k))
 
@@ -92,7 +92,7 @@ module _ (t : Source) (h : IsSound t) where
 
     synchronised-numbered : (nm : Name) → Member nm (flat_map synchronised_name (event_edges c)) → Numbered t c nm
     synchronised-numbered nm k =
-        let w = member-map use_name nm (event_edges c) (subst (Member nm) (synchronised-all (event_edges c) (way-syncs t h.built c m)) k) in
+        let w = member-map use_name nm (event_edges c) (subst (Member nm) (synchronised-all (event_edges c) (way-syncs t h.forms c m)) k) in
         subst (Numbered t c) (sym w.2) (edge-numbered c m w.0 w.1)
 
     pub alphabet-below : (x : ℕ) → Member x (alphabet_of c) → x < length (events t)
@@ -113,31 +113,34 @@ module _ (t : Source) (h : IsSound t) where
 
 -- ---- alphabets
 
-module _ (n : Naming) (k : ℕ) (t : Source) (h : IsSound t) (m : Member (component_at n k) (bodies t)) (a : AutomatonTree) (e : body_of (component_at n k) ≡ automaton_body a) (edges : automaton_edges n k a ≡ map (net_edge (component_at n k)) (event_edges (component_at n k))) where
+module _ (l : Looking) (k : ℕ) (t : Source) (h : IsSound t) (m : Member (component_at l k) (components_of t)) (a : AutomatonTree) (e : body_of (component_at l k) ≡ automaton_body a) (edges : automaton_edges l k a ≡ map (net_edge (component_at l k)) (event_edges (component_at l k))) where
   abbrev own : Component
-  own = component_at n k
+  own = component_at l k
 
-  pub alphabet-is : alphabet_of own ≡ alphabet_for n k a
+  pub used-are : used_events l k a ≡ map event_of (map (net_edge own) (event_edges own))
+  used-are = used-edges l k a ∙ ap (map event_of) edges
+
+  pub alphabet-is : alphabet_of own ≡ alphabet_for l k a
   alphabet-is =
       ap (alphabet_in own) e
       ∙ (elim a.alphabet as (λ o. ((nm : Name) → Member nm (unwrap_or o []) → Numbered t own nm)
-      → named_events own (elim o [ None ↦ flat_map synchronised_name (event_edges own) | Some nms ↦ nms ]) ≡ alphabet_by n k o (used_events n k a)) [
-        | None ↦ λ u. found-events own (event_edges own) (way-syncs t h.built own m) (λ w x. (edge-numbered t h own m w x).number) ∙ sym (ap (map event_of) edges)
+      → named_events own (elim o [ None ↦ flat_map synchronised_name (event_edges own) | Some nms ↦ nms ]) ≡ alphabet_by l k o (used_events l k a)) [
+        | None ↦ λ u. found-events own (event_edges own) (way-syncs t h.forms own m) (λ w x. (edge-numbered t h own m w x).number) ∙ sym used-are
         | Some nms ↦ λ u. named-are own nms (λ nm x. (u nm x).number)
       ]) (alphabet-numbered t h own m a e)
 
-  pub monitors-are : monitored_in own (body_of own) ≡ monitors_for n k a
+  pub monitors-are : monitored_in own (body_of own) ≡ monitors_for l k a
   monitors-are =
       ap (monitored_in own) e
       ∙ named a.monitor (monitor-numbered t h own m a e)
     where
-      named : (o : Option (List Name)) → ((nm : Name) → Member nm (unwrap_or o []) → Numbered t own nm) → monitored_events own o ≡ monitors_by n k o (alphabet_for n k a)
+      named : (o : Option (List Name)) → ((nm : Name) → Member nm (unwrap_or o []) → Numbered t own nm) → monitored_events own o ≡ monitors_by l k o (alphabet_for l k a)
       named None u = refl
       named (Some []) u = alphabet-is
       named (Some (nm ∷ nms)) u = named-are own (nm ∷ nms) (λ x y. (u x y).number)
 
-  pub used-below : (x : ℕ) → Member x (used_events n k a) → x < length (events t)
+  pub used-below : (x : ℕ) → Member x (used_events l k a) → x < length (events t)
   used-below x y =
-      let z = member-map event_of x (map (net_edge own) (event_edges own)) (subst (λ es. Member x (map event_of es)) edges y) in
+      let z = member-map event_of x (map (net_edge own) (event_edges own)) (subst (Member x) used-are y) in
       let w = member-map (net_edge own) z.0 (event_edges own) z.1 in
       omega (arith, z.2, ap event_of w.2, (edge-numbered t h own m w.0 w.1).below)

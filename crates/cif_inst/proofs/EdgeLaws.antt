@@ -1,18 +1,27 @@
 -- The edges that are made are those of the net of a source.
-use Rattle.std.proofs.Common.{◌≡◌, ℕ, suc, ◌+◌, Bool, true, false, cond, inl, inr, List, [], ◌∷◌, ◌++◌, length, map, find, Option, Some, None, refl, sym, ◌∙◌, ap, arith}
+use Rattle.std.proofs.Common.{◌≡◌, ℕ, suc, ◌+◌, Bool, true, false, cond, inl, inr, List, [], ◌∷◌, ◌++◌, length, map, find, append_assoc, Option, Some, None, refl, sym, ◌∙◌, ap, arith}
 use Rattle.std.specs.Prelude.{not, flat_map, filter_map, option_map, if◌then◌else◌}
 use Rattle.std.specs.List.{list_all, enumerate_from, position_or_len, cons_option}
 use Rattle.std.specs.Cmp.Lexicographic as words
 use Rattle.std.proofs.lemmas.List.{map-append}
+use Rattle.cif_ast.specs.View.{view as source_view, view_updates as source_updates}
+use Rattle.cif_ast.specs.declared.edges.Edge.{Edge}
+use Rattle.cif_ast.specs.declared.edges.EventUse.{EventUse}
 use Rattle.cif_ast.specs.declared.names.Ident.{Ident}
+use Rattle.cif_term.specs.View.{view, view_updates}
+use Rattle.cif_term.specs.declared.expressions.NetExpr.{NetExpr}
+use Rattle.cif_term.specs.declared.updates.NetUpdate.{NetUpdate}
+use Rattle.cif_net.specs.declared.automata.NetEdge.{NetEdge as NetEdgeOf}
+use Rattle.cif_net.specs.declared.automata.NetRole.TheVariants as role
+use Rattle.cif_net.specs.View.{edge_tree as net_tree}
 use Rattle.cif_system.specs.Words.{Member}
 use Rattle.cif_system.specs.System.{syncing}
 use Rattle.cif_system.specs.Step.{same_role}
 use Rattle.cif_system.proofs.Lists.{false-true, some-same, none-some, find-passes}
 use Rattle.cif_system.proofs.Picks.{map-member, append-left, append-right}
 use Rattle.cif_model.specs.Net.{NetEdge}
-use Rattle.cif_source.specs.Source.{Text, UseTree, EdgeTree, LocationTree, DeclTree, type_decl, enum_decl, event_decl, const_decl, alg_decl, input_decl, disc_decl, equation_decl, invariant_decl, marked_decl, AutomatonTree, automaton_body, Source}
-use Rattle.cif_source.specs.Components.{Component, scope_of, same_text, body_entries, decl_entries, location_entry, entry_named, Entry, Entries, declared, literal, location, inner, definition, instance, parameter}
+use Rattle.cif_source.specs.Source.{Text, syncs, ParamTree, use_tree, edge_tree, UseTree, EdgeTree, LocationTree, DeclTree, type_decl, enum_decl, event_decl, const_decl, alg_decl, input_decl, disc_decl, equation_decl, invariant_decl, marked_decl, AutomatonTree, automaton_body, Source}
+use Rattle.cif_source.specs.Components.{Component, scope_of, same_text, param_name, param_entries, body_entries, decl_entries, location_entry, entry_named, Entry, Entries, declared, literal, location, inner, definition, instance, parameter}
 use Rattle.cif_source.specs.Objects.{locs_of, EventEdge, event_edges, edges_of_uses}
 use Rattle.cif_source.specs.Lookup.{denotes}
 use Rattle.cif_source.specs.Step.{is_named, role_of, end_of, event_at}
@@ -30,10 +39,10 @@ use Rattle.cif_image.proofs.BodyLaws.{other-name}
 use Rattle.cif_model.proofs.Passing.{all-member}
 use Rattle.cif_image.proofs.SystemLaws.{map-map}
 use Rattle.cif_image.proofs.NumberLaws.{all-joined}
-use Rattle.cif_inst.specs.Naming.{place_in, place_at, target_place, component_at}
-use Rattle.cif_inst.proofs.BuiltLaws.{Syncs}
+use Rattle.cif_translate.specs.Looking.{component_at}
+use Rattle.cif_translate.specs.declared.looking.Looking.{Looking}
+use Rattle.cif_inst.specs.Targets.{place_in, place_at, target_place}
 use Rattle.cif_inst.specs.Edges.{sync_edge, end_place, uses_edges, locations_edges}
-use Rattle.cif_inst.specs.declared.naming.Naming.{Naming}
 
 -- ---- the place of a target
 
@@ -174,51 +183,71 @@ decl-no_location (marked_decl p) = refl
 pub decls-no_location : (ds : List DeclTree) → list_all (entry_passes is_no_location) (flat_map decl_entries ds) ≡ true
 decls-no_location ds = all-flat (entry_passes is_no_location) decl_entries ds decl-no_location
 
-pub automaton-place : (a : AutomatonTree) (x : Text) → has_twice (names (body_entries (automaton_body a))) ≡ false → place_of (entry_named x (body_entries (automaton_body a))) (length a.locs) ≡ position_or_len (is_named x) a.locs
-automaton-place a x single =
-    let decls = flat_map decl_entries a.decls in
-    let locs = filter_map location_entry (enumerate_from 0 a.locs) in
-    ap (λ o. place_of (option_map (λ (y : Ident × Entry). y.1) o) (length a.locs)) (find-append (λ (y : Ident × Entry). same_text y.0.text x) decls locs)
-    ∙ (elim (find (λ y. same_text y.0.text x) (flat_map decl_entries a.decls)) as (λ o. find (λ y. same_text y.0.text x) (flat_map decl_entries a.decls) ≡ o
-    → place_of (option_map (λ (y : Ident × Entry). y.1) (or_rest o (find (λ y. same_text y.0.text x) (filter_map location_entry (enumerate_from 0 a.locs))))) (length a.locs) ≡ position_or_len (is_named x) a.locs) [
-      | None ↦ λ h. first-named x a.locs
+params-no_location : (xs : List (ℕ × ParamTree)) → list_all (entry_passes is_no_location) (map (λ (x : ℕ × ParamTree). (param_name x.1, parameter x.0 x.1)) xs) ≡ true
+params-no_location [] = refl
+params-no_location (x ∷ xs) = params-no_location xs
+
+-- behind entries that are no locations a name of a location has its place
+placed-behind : (es : Entries) (ls : List LocationTree) (x : Text) → list_all (entry_passes is_no_location) es ≡ true → has_twice (names (es ++ filter_map location_entry (enumerate_from 0 ls))) ≡ false
+    → place_of (entry_named x (es ++ filter_map location_entry (enumerate_from 0 ls))) (length ls) ≡ position_or_len (is_named x) ls
+placed-behind es ls x none single =
+    ap (λ o. place_of (option_map (λ (y : Ident × Entry). y.1) o) (length ls)) (find-append (λ (y : Ident × Entry). same_text y.0.text x) es (filter_map location_entry (enumerate_from 0 ls)))
+    ∙ (elim (find (λ y. same_text y.0.text x) es) as (λ o. find (λ y. same_text y.0.text x) es ≡ o
+    → place_of (option_map (λ (y : Ident × Entry). y.1) (or_rest o (find (λ y. same_text y.0.text x) (filter_map location_entry (enumerate_from 0 ls))))) (length ls) ≡ position_or_len (is_named x) ls) [
+      | None ↦ λ h. first-named x ls
       | Some y ↦ λ h.
-          let here = found-entry x (flat_map decl_entries a.decls) y h in
-          not-location y.1 (length a.locs) (all-member (entry_passes is_no_location) (flat_map decl_entries a.decls) y (decls-no_location a.decls) here.0)
+          let here = found-entry x es y h in
+          not-location y.1 (length ls) (all-member (entry_passes is_no_location) es y none here.0)
           ∙ no-location y here
     ]) refl
   where
-    no-location : (y : Ident × Entry) → Member y (flat_map decl_entries a.decls) × (y.0.text ≡ x) → length a.locs ≡ position_or_len (is_named x) a.locs
+    no-location : (y : Ident × Entry) → Member y es × (y.0.text ≡ x) → length ls ≡ position_or_len (is_named x) ls
     no-location y here =
-        (elim (find (λ y. same_text y.0.text x) (filter_map location_entry (enumerate_from 0 a.locs))) as (λ o. find (λ y. same_text y.0.text x) (filter_map location_entry (enumerate_from 0 a.locs)) ≡ o → length a.locs ≡ position_or_len (is_named x) a.locs) [
-          | None ↦ λ h. sym (ap (λ o. place_of (option_map (λ (y : Ident × Entry). y.1) o) (length a.locs)) h) ∙ first-named x a.locs
+        (elim (find (λ y. same_text y.0.text x) (filter_map location_entry (enumerate_from 0 ls))) as (λ o. find (λ y. same_text y.0.text x) (filter_map location_entry (enumerate_from 0 ls)) ≡ o → length ls ≡ position_or_len (is_named x) ls) [
+          | None ↦ λ h. sym (ap (λ o. place_of (option_map (λ (y : Ident × Entry). y.1) o) (length ls)) h) ∙ first-named x ls
           | Some z ↦ λ h.
-              let there = found-entry x (filter_map location_entry (enumerate_from 0 a.locs)) z h in
-              absurd (apart-names (flat_map decl_entries a.decls) (filter_map location_entry (enumerate_from 0 a.locs)) y z single here.0 there.0 (here.1 ∙ sym there.1))
+              let there = found-entry x (filter_map location_entry (enumerate_from 0 ls)) z h in
+              absurd (apart-names es (filter_map location_entry (enumerate_from 0 ls)) y z single here.0 there.0 (here.1 ∙ sym there.1))
         ]) refl
 
+-- in the scope of an automaton, of which a definition may have parameters
+pub automaton-place : (ps : List ParamTree) (a : AutomatonTree) (x : Text) → has_twice (names (param_entries ps ++ body_entries (automaton_body a))) ≡ false
+    → place_of (entry_named x (param_entries ps ++ body_entries (automaton_body a))) (length a.locs) ≡ position_or_len (is_named x) a.locs
+automaton-place ps a x single =
+    let before : Entries = param_entries ps ++ flat_map decl_entries a.decls in
+    let joined : before ++ filter_map location_entry (enumerate_from 0 a.locs) ≡ param_entries ps ++ body_entries (automaton_body a) =
+    append_assoc (param_entries ps) (flat_map decl_entries a.decls) (filter_map location_entry (enumerate_from 0 a.locs)) in
+    ap (λ es. place_of (entry_named x es) (length a.locs)) (sym joined)
+    ∙ placed-behind before a.locs x
+    (all-joined (entry_passes is_no_location) (param_entries ps) (flat_map decl_entries a.decls) (params-no_location (enumerate_from 0 ps)) (decls-no_location a.decls))
+    (ap (λ es. has_twice (names es)) joined ∙ single)
+
 -- ---- edges
+
+-- it neither sends nor receives
+abbrev pub Syncs : EventEdge → Type 0
+Syncs w = w.event_use.role ≡ syncs
 
 abbrev at_use : ℕ → EdgeTree → UseTree → EventEdge
 at_use from e u = record { from = from; event_use = u; edge = e }
 
-module _ (n : Naming) (k : ℕ) where
+module _ (l : Looking) (k : ℕ) where
   abbrev pub own : Component
-  own = component_at n k
+  own = component_at l k
 
   -- targets lead where the source says
   abbrev pub TargetsAre : ℕ → Type 0
-  TargetsAre count = (x : Ident) → target_place n.scopes.now k x count ≡ position_or_len (is_named x.text) (locs_of own)
+  TargetsAre count = (x : Ident) → target_place l k x count ≡ position_or_len (is_named x.text) (locs_of own)
 
-  end-is : (count from : ℕ) (u : UseTree) (e : EdgeTree) → TargetsAre count → end_place n k from count e.target ≡ end_of own (at_use from e u)
+  end-is : (count from : ℕ) (u : UseTree) (e : EdgeTree) → TargetsAre count → end_place l k from count e.target ≡ end_of own (at_use from e u)
   end-is count from u e targets = target e.target
     where
-      target : (o : Option Ident) → end_place n k from count o ≡ (elim o [ None ↦ from | Some x ↦ position_or_len (is_named x.text) (locs_of own) ])
+      target : (o : Option Ident) → end_place l k from count o ≡ (elim o [ None ↦ from | Some x ↦ position_or_len (is_named x.text) (locs_of own) ])
       target None = refl
       target (Some x) = targets x
 
-  sync-is : (w : EventEdge) → Syncs w → sync_edge n k w.from (end_of own w) w.edge w.event_use ≡ net_edge own w
-  sync-is w r = let path : net_edge own w ≡ sync_edge n k w.from (end_of own w) w.edge w.event_use = λ i. record {
+  sync-is : (w : EventEdge) → Syncs w → sync_edge l k w.from (end_of own w) w.edge w.event_use ≡ net_edge own w
+  sync-is w r = let path : net_edge own w ≡ sync_edge l k w.from (end_of own w) w.edge w.event_use = λ i. record {
     event = event_number own w.event_use.name;
     role = role_of (r i);
     from = w.from;
@@ -229,30 +258,30 @@ module _ (n : Naming) (k : ℕ) where
     places = value_places w;
   } in sym path
 
-  uses-are : (count from : ℕ) (e : EdgeTree) → TargetsAre count → ((w : EventEdge) → Member w (edges_of_uses from e) → Syncs w) → uses_edges n k from count e ≡ map (net_edge own) (edges_of_uses from e)
-  uses-are count from e targets syncs =
-      sym (map-map (net_edge own) (at_use from e) (sync_edge n k from (end_place n k from count e.target) e) e.uses (λ u m.
-      sym (ap (λ to. sync_edge n k from to e u) (end-is count from u e targets) ∙ sync-is (at_use from e u) (syncs (at_use from e u) (map-member (at_use from e) u e.uses m)))))
+  uses-are : (count from : ℕ) (e : EdgeTree) → TargetsAre count → ((w : EventEdge) → Member w (edges_of_uses from e) → Syncs w) → uses_edges l k from count e ≡ map (net_edge own) (edges_of_uses from e)
+  uses-are count from e targets sync =
+      sym (map-map (net_edge own) (at_use from e) (sync_edge l k from (end_place l k from count e.target) e) e.uses (λ u m.
+      sym (ap (λ to. sync_edge l k from to e u) (end-is count from u e targets) ∙ sync-is (at_use from e u) (sync (at_use from e u) (map-member (at_use from e) u e.uses m)))))
 
-  edges-are : (count from : ℕ) (es : List EdgeTree) → TargetsAre count → ((w : EventEdge) → Member w (flat_map (edges_of_uses from) es) → Syncs w) → flat_map (uses_edges n k from count) es ≡ map (net_edge own) (flat_map (edges_of_uses from) es)
-  edges-are count from [] targets syncs = refl
-  edges-are count from (e ∷ es) targets syncs =
-      ap (λ xs. xs ++ flat_map (uses_edges n k from count) es) (uses-are count from e targets (λ w m. syncs w (append-left w (edges_of_uses from e) (flat_map (edges_of_uses from) es) m)))
-      ∙ ap (λ xs. map (net_edge own) (edges_of_uses from e) ++ xs) (edges-are count from es targets (λ w m. syncs w (append-right w (edges_of_uses from e) (flat_map (edges_of_uses from) es) m)))
+  edges-are : (count from : ℕ) (es : List EdgeTree) → TargetsAre count → ((w : EventEdge) → Member w (flat_map (edges_of_uses from) es) → Syncs w) → flat_map (uses_edges l k from count) es ≡ map (net_edge own) (flat_map (edges_of_uses from) es)
+  edges-are count from [] targets sync = refl
+  edges-are count from (e ∷ es) targets sync =
+      ap (λ xs. xs ++ flat_map (uses_edges l k from count) es) (uses-are count from e targets (λ w m. sync w (append-left w (edges_of_uses from e) (flat_map (edges_of_uses from) es) m)))
+      ∙ ap (λ xs. map (net_edge own) (edges_of_uses from e) ++ xs) (edges-are count from es targets (λ w m. sync w (append-right w (edges_of_uses from e) (flat_map (edges_of_uses from) es) m)))
       ∙ sym (map-append (net_edge own) (edges_of_uses from e) (flat_map (edges_of_uses from) es))
 
   abbrev edges_from : ℕ → List LocationTree → List EventEdge
   edges_from j ls = flat_map (λ (l : ℕ × LocationTree). flat_map (edges_of_uses l.0) l.1.edges) (enumerate_from j ls)
 
-  locations-are : (count j : ℕ) (ls : List LocationTree) → TargetsAre count → ((w : EventEdge) → Member w (edges_from j ls) → Syncs w) → locations_edges n k count j ls ≡ map (net_edge own) (edges_from j ls)
-  locations-are count j [] targets syncs = refl
-  locations-are count j (l ∷ ls) targets syncs =
-      ap (λ xs. xs ++ locations_edges n k count (j + 1) ls) (edges-are count j l.edges targets (λ w m. syncs w (append-left w (flat_map (edges_of_uses j) l.edges) (edges_from (j + 1) ls) m)))
-      ∙ ap (λ xs. map (net_edge own) (flat_map (edges_of_uses j) l.edges) ++ xs) (locations-are count (j + 1) ls targets (λ w m. syncs w (append-right w (flat_map (edges_of_uses j) l.edges) (edges_from (j + 1) ls) m)))
-      ∙ sym (map-append (net_edge own) (flat_map (edges_of_uses j) l.edges) (edges_from (j + 1) ls))
+  locations-are : (count j : ℕ) (xs : List LocationTree) → TargetsAre count → ((w : EventEdge) → Member w (edges_from j xs) → Syncs w) → locations_edges l k count j xs ≡ map (net_edge own) (edges_from j xs)
+  locations-are count j [] targets sync = refl
+  locations-are count j (x ∷ xs) targets sync =
+      ap (λ ys. ys ++ locations_edges l k count (j + 1) xs) (edges-are count j x.edges targets (λ w m. sync w (append-left w (flat_map (edges_of_uses j) x.edges) (edges_from (j + 1) xs) m)))
+      ∙ ap (λ ys. map (net_edge own) (flat_map (edges_of_uses j) x.edges) ++ ys) (locations-are count (j + 1) xs targets (λ w m. sync w (append-right w (flat_map (edges_of_uses j) x.edges) (edges_from (j + 1) xs) m)))
+      ∙ sym (map-append (net_edge own) (flat_map (edges_of_uses j) x.edges) (edges_from (j + 1) xs))
 
-  pub all-edges-are : (count : ℕ) → TargetsAre count → ((w : EventEdge) → Member w (event_edges own) → Syncs w) → locations_edges n k count 0 (locs_of own) ≡ map (net_edge own) (event_edges own)
-  all-edges-are count targets syncs = locations-are count 0 (locs_of own) targets syncs
+  pub all-edges-are : (count : ℕ) → TargetsAre count → ((w : EventEdge) → Member w (event_edges own) → Syncs w) → locations_edges l k count 0 (locs_of own) ≡ map (net_edge own) (event_edges own)
+  all-edges-are count targets sync = locations-are count 0 (locs_of own) targets sync
 
 -- ---- alphabets
 
@@ -261,8 +290,31 @@ event_of e = e.event
 
 pub found-events : (c : Component) (ws : List EventEdge) → ((w : EventEdge) → Member w ws → Syncs w) → ((w : EventEdge) → Member w ws → event_at (denotes c w.event_use.name) ≡ Some (event_number c w.event_use.name))
     → named_events c (flat_map synchronised_name ws) ≡ map event_of (map (net_edge c) ws)
-found-events c [] syncs numbered = refl
-found-events c (w ∷ ws) syncs numbered =
-    ap (λ r. named_events c ((if same_role syncing (role_of r) then w.event_use.name ∷ [] else []) ++ flat_map synchronised_name ws)) (syncs w (inl refl))
+found-events c [] sync numbered = refl
+found-events c (w ∷ ws) sync numbered =
+    ap (λ r. named_events c ((if same_role syncing (role_of r) then w.event_use.name ∷ [] else []) ++ flat_map synchronised_name ws)) (sync w (inl refl))
     ∙ ap (λ o. cons_option o (named_events c (flat_map synchronised_name ws))) (numbered w (inl refl))
-    ∙ ap (λ es. event_number c w.event_use.name ∷ es) (found-events c ws (λ v m. syncs v (inr m)) (λ v m. numbered v (inr m)))
+    ∙ ap (λ es. event_number c w.event_use.name ∷ es) (found-events c ws (λ v m. sync v (inr m)) (λ v m. numbered v (inr m)))
+
+-- ---- one edge more
+
+pub edge_added : (l : Looking) (k from to : ℕ) (e : Edge) (u : EventUse) (event : ℕ) (guard : NetExpr) (updates : List NetUpdate) (places : List ℕ) (before after : List NetEdgeOf)
+    → event ≡ event_number (component_at l k) u.name
+    → view guard ≡ net_guard (component_at l k) u.name.at (map source_view e.guards)
+    → view_updates updates ≡ net_updates_of (component_at l k) (source_updates e.updates)
+    → places ≡ value_places (record { from = from; event_use = use_tree u; edge = edge_tree e })
+    → after ≡ before ++ record { event = event; role = role.Sync; from = from; to = to; guard = guard; sent = None; updates = updates; places = places } ∷ []
+    → map net_tree after ≡ map net_tree before ++ sync_edge l k from to (edge_tree e) (use_tree u) ∷ []
+edge_added l k from to e u event guard updates places before after numbered guarded updated placed pushed =
+    let x : NetEdgeOf = record { event = event; role = role.Sync; from = from; to = to; guard = guard; sent = None; updates = updates; places = places } in
+    let same : net_tree x ≡ sync_edge l k from to (edge_tree e) (use_tree u) = λ i. record {
+      event = numbered i;
+      role = syncing;
+      from = from;
+      to = to;
+      guard = guarded i;
+      sent = None;
+      updates = updated i;
+      places = placed i;
+    } in
+    ap (map net_tree) pushed ∙ map-append net_tree before (x ∷ []) ∙ ap (λ y. map net_tree before ++ y ∷ []) same

@@ -11,19 +11,21 @@ use Rattle.cif_system.proofs.Distinct.{member-append, member-map}
 use Rattle.cif_model.specs.Facts.{has}
 use Rattle.cif_source.specs.Source.{UseTree, EdgeTree, LocationTree, AutomatonTree, automaton_body, Source}
 use Rattle.cif_source.specs.Components.{Component, body_of}
-use Rattle.cif_source.specs.Objects.{bodies, locs_of, locs_in, EventEdge, event_edges, edges_of_uses}
+use Rattle.cif_source.specs.Objects.{components_of, locs_of, locs_in, EventEdge, event_edges, edges_of_uses}
 use Rattle.cif_source.specs.Step.{synchronises}
 use Rattle.cif_rules.specs.InstanceRules as rules
 use Rattle.cif_rules.specs.InstanceRules.{synchronised_name, is_lacking}
 use Rattle.cif_image.specs.Flat.{event_number, net_edge}
 use Rattle.cif_image.proofs.SystemLaws.{map-map, alphabet-same}
 use Rattle.cif_image.proofs.RuleLaws.{member-any}
-use Rattle.cif_image.proofs.FormLaws.{way-syncs}
-use Rattle.cif_inst.specs.Naming.{component_at}
-use Rattle.cif_inst.specs.Alphabets.{name_places, use_place, edge_places, location_places, automaton_edges, used_events, alphabet_for, monitors_by, monitors_for, is_outside, first_failing, or_later, automaton_lacks}
-use Rattle.cif_inst.specs.declared.naming.Naming.{Naming}
-use Rattle.cif_inst.proofs.NamingLaws.{IsSound}
+use Rattle.cif_fits.proofs.FormLaws.{way-syncs}
+use Rattle.cif_translate.specs.Looking.{component_at}
+use Rattle.cif_translate.specs.declared.looking.Looking.{Looking}
+use Rattle.cif_inst.specs.Edges.{automaton_edges}
+use Rattle.cif_inst.specs.Alphabets.{name_places, use_place, edge_places, location_places, used_events, alphabet_for, monitors_by, monitors_for, is_outside, first_failing, or_later, automaton_lacks}
+use Rattle.cif_inst.proofs.SoundLaws.{IsSound}
 use Rattle.cif_inst.proofs.EdgeLaws.{event_of}
+use Rattle.cif_inst.proofs.ListedLaws.{used-edges}
 use Rattle.cif_inst.proofs.AlphabetLaws.{use_name, synchronised-all, Numbered, edge-numbered, monitor-numbered, alphabet-is}
 
 -- ---- the first that fails
@@ -98,23 +100,24 @@ asked_names c = flat_map synchronised_name (event_edges c) ++ rules.monitored_in
 abbrev pub LacksAt : ℕ → Component → Type 0
 LacksAt at c = Any (λ (nm : Name). (nm.at ≡ at) × IsTrue (is_lacking c nm)) (asked_names c)
 
-module _ (n : Naming) (k : ℕ) (t : Source) (h : IsSound t) (m : Member (component_at n k) (bodies t)) (a : AutomatonTree) (e : body_of (component_at n k) ≡ automaton_body a) (edges : automaton_edges n k a ≡ map (net_edge (component_at n k)) (event_edges (component_at n k))) where
+module _ (l : Looking) (k : ℕ) (t : Source) (h : IsSound t) (m : Member (component_at l k) (components_of t)) (a : AutomatonTree) (e : body_of (component_at l k) ≡ automaton_body a) (edges : automaton_edges l k a ≡ map (net_edge (component_at l k)) (event_edges (component_at l k))) where
   abbrev own : Component
-  own = component_at n k
+  own = component_at l k
 
-  outside : (nm : Name) → Numbered t own nm → is_lacking own nm ≡ is_outside (alphabet_for n k a) (event_number own nm)
+  outside : (nm : Name) → Numbered t own nm → is_lacking own nm ≡ is_outside (alphabet_for l k a) (event_number own nm)
   outside nm g =
       ap (λ o. elim o [ None ↦ false | Some x ↦ not (synchronises x own) ]) g.number
-      ∙ ap not (sym (alphabet-same own (event_number own nm)) ∙ ap (λ es. has es (event_number own nm)) (alphabet-is n k t h m a e edges))
+      ∙ ap not (sym (alphabet-same own (event_number own nm)) ∙ ap (λ es. has es (event_number own nm)) (alphabet-is l k t h m a e edges))
 
   -- ---- its edges
 
   abbrev edge_names : List Name
   edge_names = map use_name (event_edges own)
 
-  used-are : used_events n k a ≡ map (event_number own) edge_names
+  used-are : used_events l k a ≡ map (event_number own) edge_names
   used-are =
-      ap (map event_of) edges
+      used-edges l k a
+      ∙ ap (map event_of) edges
       ∙ map-map event_of (net_edge own) (λ w. event_number own (use_name w)) (event_edges own) (λ w x. refl)
       ∙ sym (map-map (event_number own) use_name (λ w. event_number own (use_name w)) (event_edges own) (λ w x. refl))
 
@@ -126,26 +129,26 @@ module _ (n : Naming) (k : ℕ) (t : Source) (h : IsSound t) (m : Member (compon
 
   names-are : asked_names own ≡ edge_names ++ unwrap_or a.monitor []
   names-are =
-      ap (λ xs. xs ++ rules.monitored_in (body_of own)) (synchronised-all (event_edges own) (way-syncs t h.built own m))
+      ap (λ xs. xs ++ rules.monitored_in (body_of own)) (synchronised-all (event_edges own) (way-syncs t h.forms own m))
       ∙ ap (λ b. edge_names ++ rules.monitored_in b) e
 
   edge-name-numbered : (nm : Name) → Member nm edge_names → Numbered t own nm
   edge-name-numbered nm x = let w = member-map use_name nm (event_edges own) x in subst (Numbered t own) (sym w.2) (edge-numbered t h own m w.0 w.1)
 
   abbrev fails : ℕ → Bool
-  fails = is_outside (alphabet_for n k a)
+  fails = is_outside (alphabet_for l k a)
 
-  edge-failing : first_failing fails (used_events n k a) (flat_map location_places a.locs) ≡ first_failing fails (map (event_number own) edge_names) (name_places edge_names)
+  edge-failing : first_failing fails (used_events l k a) (flat_map location_places a.locs) ≡ first_failing fails (map (event_number own) edge_names) (name_places edge_names)
   edge-failing = λ i. first_failing fails (used-are i) (places-are i)
 
   -- ---- what it monitors
 
-  monitor-told : (o : Option (List Name)) (es : List ℕ) (at : ℕ) → first_failing fails (monitors_by n k o es) (name_places (unwrap_or o [])) ≡ Some at → (nm : Name) × Member nm (unwrap_or o []) × (nm.at ≡ at) × (fails (event_number own nm) ≡ true)
+  monitor-told : (o : Option (List Name)) (es : List ℕ) (at : ℕ) → first_failing fails (monitors_by l k o es) (name_places (unwrap_or o [])) ≡ Some at → (nm : Name) × Member nm (unwrap_or o []) × (nm.at ≡ at) × (fails (event_number own nm) ≡ true)
   monitor-told None es at g = absurd (none-some at g)
   monitor-told (Some []) es at g = absurd (none-some at g)
   monitor-told (Some (nm ∷ nms)) es at g = first-told fails (event_number own) (nm ∷ nms) at g
 
-  monitor-kept : (o : Option (List Name)) (es : List ℕ) → first_failing fails (monitors_by n k o es) (name_places (unwrap_or o [])) ≡ None → (nm : Name) → Member nm (unwrap_or o []) → fails (event_number own nm) ≡ false
+  monitor-kept : (o : Option (List Name)) (es : List ℕ) → first_failing fails (monitors_by l k o es) (name_places (unwrap_or o [])) ≡ None → (nm : Name) → Member nm (unwrap_or o []) → fails (event_number own nm) ≡ false
   monitor-kept None es g nm x = absurd x
   monitor-kept (Some []) es g nm x = absurd x
   monitor-kept (Some (y ∷ nms)) es g nm x = none-fails fails (event_number own) (y ∷ nms) g nm x
@@ -155,22 +158,22 @@ module _ (n : Naming) (k : ℕ) (t : Source) (h : IsSound t) (m : Member (compon
   lacking-there : (nm : Name) (at : ℕ) → Member nm (edge_names ++ unwrap_or a.monitor []) → Numbered t own nm → nm.at ≡ at → fails (event_number own nm) ≡ true → LacksAt at own
   lacking-there nm at x g place out = member-any (λ (nm : Name). (nm.at ≡ at) × IsTrue (is_lacking own nm)) nm (asked_names own) (subst (Member nm) (sym names-are) x) (place, outside nm g ∙ out)
 
-  pub automaton-told : (at : ℕ) → automaton_lacks n k a ≡ Some at → LacksAt at own
+  pub automaton-told : (at : ℕ) → automaton_lacks l k a ≡ Some at → LacksAt at own
   automaton-told at g =
-      elim (or-told (first_failing fails (used_events n k a) (flat_map location_places a.locs)) (first_failing fails (monitors_for n k a) (name_places (unwrap_or a.monitor []))) at g) [
+      elim (or-told (first_failing fails (used_events l k a) (flat_map location_places a.locs)) (first_failing fails (monitors_for l k a) (name_places (unwrap_or a.monitor []))) at g) [
         | inl w ↦
             let x = first-told fails (event_number own) edge_names at (sym edge-failing ∙ w) in
             lacking-there x.0 at (append-left x.0 edge_names (unwrap_or a.monitor []) x.1) (edge-name-numbered x.0 x.1) x.2 x.3
         | inr w ↦
-            let x = monitor-told a.monitor (alphabet_for n k a) at w in
+            let x = monitor-told a.monitor (alphabet_for l k a) at w in
             lacking-there x.0 at (append-right x.0 edge_names (unwrap_or a.monitor []) x.1) (monitor-numbered t h own m a e x.0 x.1) x.2 x.3
       ]
 
-  pub automaton-kept : automaton_lacks n k a ≡ None → (nm : Name) → Member nm (asked_names own) → is_lacking own nm ≡ false
+  pub automaton-kept : automaton_lacks l k a ≡ None → (nm : Name) → Member nm (asked_names own) → is_lacking own nm ≡ false
   automaton-kept g nm x =
-      let first = or-first (first_failing fails (used_events n k a) (flat_map location_places a.locs)) (first_failing fails (monitors_for n k a) (name_places (unwrap_or a.monitor []))) g in
-      let second = or-second (first_failing fails (used_events n k a) (flat_map location_places a.locs)) (first_failing fails (monitors_for n k a) (name_places (unwrap_or a.monitor []))) g in
+      let first = or-first (first_failing fails (used_events l k a) (flat_map location_places a.locs)) (first_failing fails (monitors_for l k a) (name_places (unwrap_or a.monitor []))) g in
+      let second = or-second (first_failing fails (used_events l k a) (flat_map location_places a.locs)) (first_failing fails (monitors_for l k a) (name_places (unwrap_or a.monitor []))) g in
       elim (member-append nm edge_names (unwrap_or a.monitor []) (subst (Member nm) names-are x)) [
         | inl w ↦ outside nm (edge-name-numbered nm w) ∙ none-fails fails (event_number own) edge_names (sym edge-failing ∙ first) nm w
-        | inr w ↦ outside nm (monitor-numbered t h own m a e nm w) ∙ monitor-kept a.monitor (alphabet_for n k a) second nm w
+        | inr w ↦ outside nm (monitor-numbered t h own m a e nm w) ∙ monitor-kept a.monitor (alphabet_for l k a) second nm w
       ]

@@ -1,8 +1,10 @@
-pub mod BuiltLaws
+pub mod SoundLaws
+pub mod CalledLaws
 pub mod RowLaws
-pub mod SlotLaws
-pub mod NamingLaws
+pub mod EventLaws
 pub mod EdgeLaws
+pub mod ListedLaws
+pub mod MeasureLaws
 pub mod UseLaws
 pub mod MarkLaws
 pub mod AlphabetLaws
@@ -10,8 +12,9 @@ pub mod LackLaws
 pub mod AutomatonLaws
 pub mod TellLaws
 pub mod RowAutoLaws
-pub mod LookingLaws
 pub mod VariableLaws
 pub mod RuleLaws
 pub mod NetLaws
 pub mod AutoLaws
+pub mod OutlineLaws
+pub mod SizeLaws

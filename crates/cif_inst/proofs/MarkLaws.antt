@@ -8,11 +8,11 @@ use Rattle.std.proofs.lemmas.Option.{unwrap_or-slice_get}
 use Rattle.cif_system.specs.Words.{Member}
 use Rattle.cif_system.proofs.Picks.{and-left, and-right}
 use Rattle.cif_model.specs.Facts.{has}
-use Rattle.cif_inst.specs.Naming.{slot_number, source_for}
-use Rattle.cif_inst.specs.Alphabets.{is_outside, first_failing, marked, is_unmarked, AreMarks}
-use Rattle.cif_inst.specs.declared.naming.Naming.{Naming}
+use Rattle.cif_translate.specs.Looking.{source_for}
+use Rattle.cif_translate.specs.declared.looking.Looking.{Looking}
+use Rattle.cif_inst.specs.Alphabets.{is_outside, first_failing, marked, mark_of, is_unmarked, AreMarks}
 use Rattle.cif_source.specs.Objects.{events}
-use Rattle.std.specs.Prelude.{Some, slice_get}
+use Rattle.std.specs.Prelude.{slice_get}
 
 -- ---- one mark
 
@@ -27,9 +27,6 @@ same-number a =
       | true ↦ λ e. refl
       | false ↦ λ e. absurd (let g : a ≢ a = grind (arith, nat_tests) in g refl)
     ]) refl
-
-abbrev mark_of : List ℕ → ℕ → ℕ
-mark_of ms e = slot_number (Some ms) e
 
 mark-at : (ms : List ℕ) (x e mark : ℕ) → e < length ms → nat_eq (mark_of (slice_set ms x mark) e) mark ≡ (nat_eq e x || nat_eq (mark_of ms e) mark)
 mark-at ms x e mark h =
@@ -129,19 +126,19 @@ same-position p q (x ∷ xs) h =
 pub same-failing : (p q : ℕ → Bool) (xs ps : List ℕ) → ((x : ℕ) → Member x xs → p x ≡ q x) → first_failing p xs ps ≡ first_failing q xs ps
 same-failing p q xs ps h = ap (slice_get ps) (same-position p q xs h)
 
-pub next_marks : (n : Naming) (k mark : ℕ) (es ms new : List ℕ) → mark ≡ k + 1 → new ≡ marked mark es ms → AreMarks n k ms → AreMarks n mark new
-next_marks n k mark es ms new next is h =
-    subst (λ x. AreMarks n x new) (sym next)
-    (subst (AreMarks n (k + 1)) (sym (is ∙ ap (λ x. marked x es ms) next)) (record {
+pub next_marks : (l : Looking) (k mark : ℕ) (es ms new : List ℕ) → mark ≡ k + 1 → new ≡ marked mark es ms → AreMarks l k ms → AreMarks l mark new
+next_marks l k mark es ms new next is h =
+    subst (λ x. AreMarks l x new) (sym next)
+    (subst (AreMarks l (k + 1)) (sym (is ∙ ap (λ x. marked x es ms) next)) (record {
       every = marked-length (k + 1) es ms ∙ h.every;
       small = marked-small (k + 1) es ms (more-small k (k + 1) ms (omega arith) h.small);
     }))
 
-pub later_marks : (n : Naming) (k : ℕ) (ms : List ℕ) → AreMarks n k ms → AreMarks n (k + 1) ms
-later_marks n k ms h = record { every = h.every; small = more-small k (k + 1) ms (omega arith) h.small }
+pub later_marks : (l : Looking) (k : ℕ) (ms : List ℕ) → AreMarks l k ms → AreMarks l (k + 1) ms
+later_marks l k ms h = record { every = h.every; small = more-small k (k + 1) ms (omega arith) h.small }
 
-pub first_marks : (n : Naming) (count : ℕ) (ms : List ℕ) → count ≡ length (events (source_for n)) → ms ≡ replicate count 0 → AreMarks n 0 ms
-first_marks n count ms as_many is = subst (AreMarks n 0) (sym is) (record { every = replicated count ∙ as_many; small = zeros-small count })
+pub first_marks : (l : Looking) (count : ℕ) (ms : List ℕ) → count ≡ length (events (source_for l)) → ms ≡ replicate count 0 → AreMarks l 0 ms
+first_marks l count ms as_many is = subst (AreMarks l 0) (sym is) (record { every = replicated count ∙ as_many; small = zeros-small count })
   where
     replicated : (c : ℕ) → length {A = ℕ} (replicate c 0) ≡ c
     replicated zero = refl

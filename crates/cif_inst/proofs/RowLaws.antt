@@ -1,195 +1,220 @@
--- Rows are the bodies of a source without definitions, and their objects and events are the source's.
-use Rattle.std.proofs.Common.{◌≡◌, ℕ, suc, ◌+◌, true, inl, inr, Some, List, [], ◌∷◌, ◌++◌, length, map, refl, sym, ◌∙◌, ap, subst, arith, append_assoc}
-use Rattle.std.specs.Prelude.{flat_map, filter, sum, slice_get}
-use Rattle.std.specs.List.{list_all, enumerate_from}
-use Rattle.std.proofs.lemmas.List.{length-append, map-append}
-use Rattle.std.proofs.lemmas.List.Sums.{sum_by-cons, sum-map}
+-- A row is that of a component: its prefix is its path, and what is inside is its body.
+use Rattle.std.proofs.Common.{◌≡◌, ℕ, zero, suc, ◌+◌, ◌≤◌, ◌<◌, List, [], ◌∷◌, ◌++◌, length, map, take, Option, Some, None, refl, sym, ◌∙◌, ap, subst, arith, append_assoc}
+use Rattle.std.specs.Prelude.{flat_map, slice_get, Result, IfOk}
+use Rattle.std.proofs.lemmas.List.{map-append}
 use Rattle.cif_ast.specs.declared.names.Ident.{Ident}
-use Rattle.cif_system.specs.Words.{Member}
-use Rattle.cif_system.proofs.Lists.{false-true, map-length}
-use Rattle.cif_system.proofs.Picks.{and-left, and-right}
-use Rattle.cif_model.specs.Net.{no_net_chan}
-use Rattle.cif_model.proofs.Passing.{both-pass}
-use Rattle.cif_source.specs.Source.{Text, no_type, void_type, value_type, UseTree, EdgeTree, LocationTree, DeclTree, type_decl, enum_decl, event_decl, const_decl, alg_decl, input_decl, disc_decl, equation_decl, invariant_decl, marked_decl, decl_item, component_item, definition_item, instance_item, SourceBody, group_body, automaton_body, Source, no_source, source, list_of_items}
-use Rattle.cif_source.specs.Components.{Component, whole, part, body_of, Path, path_of}
-use Rattle.cif_source.specs.Objects.{bodies, bodies_in, bodies_under, items_in, item_decls, decls_in, decls_of, locs_in, EventEdge, edges_of_uses, components_of, is_event, events, Declared}
-use Rattle.cif_source.specs.Step.{class_of}
-use Rattle.cif_rules.specs.InstanceRules.{decl_objects, component_objects}
-use Rattle.cif_scope.specs.Tables.{IsBody}
-use Rattle.cif_image.specs.Built.{stands_alone, has_no_definitions, is_no_channel, is_built}
-use Rattle.cif_image.specs.Flat.{dotted, net_event}
-use Rattle.cif_image.proofs.WalkLaws.{is_written_out, body_objects}
-use Rattle.cif_image.proofs.NumberLaws.{kept-all, append-kept}
-use Rattle.cif_image.proofs.FormLaws.{no-definitions, decl-channel}
-use Rattle.cif_inst.specs.Rows.{RowTree, rows_in, rows_from, rows_of}
-use Rattle.cif_inst.specs.Objects as objects
-use Rattle.cif_inst.specs.Events as events
+use Rattle.cif_system.proofs.Lists.{some-same, none-some, map-length, slice_get-below}
+use Rattle.cif_source.specs.Source.{Text, Source}
+use Rattle.cif_source.specs.Components.{Component, whole, part, blank, copy, as_written, body_of, scope_of, stands_in, Path, path_of, Entry}
+use Rattle.cif_source.specs.Objects.{bodies, components_of}
+use Rattle.cif_scope.specs.declared.scope.Scope.{Scope}
+use Rattle.cif_scope.specs.declared.scope.ScopeName.{ScopeName}
+use Rattle.cif_scope.specs.Looks.{names_in, names_at}
+use Rattle.cif_scope.specs.Tables.{IsBody, IsScope, IsName}
+use Rattle.cif_scope.specs.Written.{WrittenBody, inside_of, body_of_written, written_bodies}
+use Rattle.cif_scope.proofs.Places.{beside-at, beside-length}
+use Rattle.cif_scope.proofs.BodyLaws.{scope-written}
+use Rattle.cif_scope.proofs.LookLaws.{get-map}
+use Rattle.cif_scope.proofs.DefinitionLaws.{IsWritten, bodies-written}
+use Rattle.cif_components.specs.declared.components.Component.{Component as Numbered}
+use Rattle.cif_components.specs.declared.components.Place.{Place}
+use Rattle.cif_components.specs.declared.components.Components.{Components}
+use Rattle.cif_components.specs.Numbers.{IsNumber, IsComponent, StandsAt, AreComponentsOf}
+use Rattle.cif_components.proofs.FindChildren.{row-for, stands-before, standing-back, standing_of}
+use Rattle.cif_image.specs.Flat.{dotted}
+use Rattle.cif_translate.specs.Looking.{component_of}
+use Rattle.cif_inst.specs.Rows.{RowTree, inner, prefix_of, row_for, rows_of, body_number, place_of, stands_at, body_or, body_in, AreBodiesOf}
+use Rattle.cif_inst.specs.Views.{row_tree}
+use Rattle.cif_inst.specs.declared.rows.Bodies.{Bodies}
+use Rattle.cif_inst.specs.declared.rows.Row.{Row}
+use Rattle.cif_inst.proofs.CalledLaws.{path-standing}
+use Rattle.cif_inst.proofs.SoundLaws.{component-is, body-numbered}
 
 -- ---- prefixes
 
 -- each name with a dot behind it
-abbrev pub prefix_of : Path → Text
-prefix_of p = flat_map (λ x. x ++ 46 ∷ []) p
+abbrev dots : Path → Text
+dots p = flat_map (λ x. x ++ 46 ∷ []) p
 
-pub prefix-step : (p : Path) (x : Text) → prefix_of (p ++ x ∷ []) ≡ (prefix_of p ++ x) ++ 46 ∷ []
-prefix-step [] x = append-empty (x ++ 46 ∷ [])
+append-empty : (xs : Text) → xs ++ [] ≡ xs
+append-empty [] = refl
+append-empty (y ∷ ys) = ap (λ zs. y ∷ zs) (append-empty ys)
+
+pub dots-step : (p : Path) (x : Text) → dots (p ++ x ∷ []) ≡ (dots p ++ x) ++ 46 ∷ []
+dots-step [] x = append-empty (x ++ 46 ∷ [])
+dots-step (y ∷ p) x =
+    ap (λ z. (y ++ 46 ∷ []) ++ z) (dots-step p x)
+    ∙ sym (append_assoc (y ++ 46 ∷ []) (dots p ++ x) (46 ∷ []))
+    ∙ ap (λ z. z ++ 46 ∷ []) (sym (append_assoc (y ++ 46 ∷ []) (dots p) x))
+
+pub dots-dotted : (p : Path) (x : Text) → dotted (p ++ x ∷ []) ≡ dots p ++ x
+dots-dotted [] x = refl
+dots-dotted (y ∷ []) x = sym (append_assoc y (46 ∷ []) x) ∙ ap (λ z. z ++ x) (sym (append-empty (y ++ 46 ∷ [])))
+dots-dotted (y ∷ z ∷ p) x =
+    ap (λ w. y ++ 46 ∷ w) (dots-dotted (z ∷ p) x)
+    ∙ sym (append_assoc y (46 ∷ []) (dots (z ∷ p) ++ x))
+    ∙ sym (append_assoc (y ++ 46 ∷ []) (dots (z ∷ p)) x)
+
+-- ---- the first elements of a list
+
+take-next : {A : Type 0} (xs : List A) (k : ℕ) (x : A) → slice_get xs k ≡ Some x → take (k + 1) xs ≡ take k xs ++ x ∷ []
+take-next xs k x h = ap (λ j. take j xs) (let e : k + 1 ≡ suc k = omega arith in e) ∙ next xs k h
   where
-    append-empty : (xs : Text) → xs ++ [] ≡ xs
-    append-empty [] = refl
-    append-empty (y ∷ ys) = ap (λ zs. y ∷ zs) (append-empty ys)
-prefix-step (y ∷ p) x =
-    ap (λ z. (y ++ 46 ∷ []) ++ z) (prefix-step p x)
-    ∙ sym (append_assoc (y ++ 46 ∷ []) (prefix_of p ++ x) (46 ∷ []))
-    ∙ ap (λ z. z ++ 46 ∷ []) (sym (append_assoc (y ++ 46 ∷ []) (prefix_of p) x))
+    next : {A : Type 0} {x : A} (xs : List A) (k : ℕ) → slice_get xs k ≡ Some x → take (suc k) xs ≡ take k xs ++ x ∷ []
+    next {x = x} [] k h = absurd (none-some x h)
+    next {x = x} (y ∷ xs) zero h = ap (λ z. z ∷ []) (some-same y x h)
+    next (y ∷ xs) (suc k) h = ap (λ l. y ∷ l) (next xs k h)
 
-pub prefix-dotted : (p : Path) (x : Text) → dotted (p ++ x ∷ []) ≡ prefix_of p ++ x
-prefix-dotted [] x = refl
-prefix-dotted (y ∷ []) x = sym (append_assoc y (46 ∷ []) x) ∙ ap (λ z. z ++ x) (sym (append-empty (y ++ 46 ∷ [])))
-  where
-    append-empty : (xs : Text) → xs ++ [] ≡ xs
-    append-empty [] = refl
-    append-empty (z ∷ zs) = ap (λ ws. z ∷ ws) (append-empty zs)
-prefix-dotted (y ∷ z ∷ p) x =
-    ap (λ w. y ++ 46 ∷ w) (prefix-dotted (z ∷ p) x)
-    ∙ sym (append_assoc y (46 ∷ []) (prefix_of (z ∷ p) ++ x))
-    ∙ sym (append_assoc (y ++ 46 ∷ []) (prefix_of (z ∷ p)) x)
+take-past : {A : Type 0} (xs : List A) (k : ℕ) → length xs ≤ k → take k xs ≡ xs
+take-past [] zero h = refl
+take-past [] (suc k) h = refl
+take-past (x ∷ xs) zero h = absurd (omega (arith, h))
+take-past (x ∷ xs) (suc k) h = ap (λ l. x ∷ l) (take-past xs k (omega (arith, h)))
 
--- ---- rows
+-- an early element stands in the beginning
+take-early : {A : Type 0} (xs : List A) (k j : ℕ) (x : A) → j < k → slice_get xs j ≡ Some x → slice_get (take k xs) j ≡ Some x
+take-early [] k j x l h = absurd (none-some x h)
+take-early (y ∷ xs) zero j x l h = absurd (omega (arith, l))
+take-early (y ∷ xs) (suc k) zero x l h = h
+take-early (y ∷ xs) (suc k) (suc j) x l h = take-early xs k j x (omega (arith, l)) h
 
-abbrev pub row_for : Component → RowTree
-row_for c = (prefix_of (path_of c), body_of c)
+get-mapped : {A B : Type 0} (f : A → B) (xs : List A) (k : ℕ) (y : B) → slice_get (map f xs) k ≡ Some y → (x : A) × (slice_get xs k ≡ Some x) × (f x ≡ y)
+get-mapped f [] k y h = absurd (none-some y h)
+get-mapped f (x ∷ xs) zero y h = (x, refl, some-same (f x) y h)
+get-mapped f (x ∷ xs) (suc k) y h = get-mapped f xs k y h
 
-mutual
-  rows-in : (is : Source) (c : Component) → list_all stands_alone (list_of_items is) ≡ true → list_all is_written_out (bodies_in c is) ≡ true → rows_in (prefix_of (path_of c)) is ≡ map row_for (bodies_in c is)
-  rows-in no_source c h g = refl
-  rows-in (source (decl_item d) is) c h g = rows-in is c h g
-  rows-in (source (definition_item m ps b) is) c h g = absurd (false-true refl h)
-  rows-in (source (instance_item i) is) c h g = absurd (false-true refl h)
-  rows-in (source (component_item m b) is) c h g =
-      let own : list_all stands_alone (items_in b) ≡ true = and-left (list_all stands_alone (items_in b)) (list_all is_written_out (bodies_under (part c m b) b ++ bodies_in c is)) g in
-      let rest = both-pass is_written_out (bodies_under (part c m b) b) (bodies_in c is) (and-right (list_all stands_alone (items_in b)) (list_all is_written_out (bodies_under (part c m b) b ++ bodies_in c is)) g) in
-      ap (λ p. rows_from p b ++ rows_in (prefix_of (path_of c)) is) (sym (prefix-step (path_of c) m.text))
-      ∙ ap (λ rs. rs ++ rows_in (prefix_of (path_of c)) is) (rows-under b c m own rest.0)
-      ∙ ap (λ rs. map row_for (part c m b ∷ bodies_under (part c m b) b) ++ rs) (rows-in is c h rest.1)
-      ∙ sym (map-append row_for (part c m b ∷ bodies_under (part c m b) b) (bodies_in c is))
+-- ---- components by their numbers
 
-  rows-under : (b : SourceBody) (c : Component) (m : Ident) → list_all stands_alone (items_in b) ≡ true → list_all is_written_out (bodies_under (part c m b) b) ≡ true
-      → rows_from (prefix_of (path_of (part c m b))) b ≡ map row_for (part c m b ∷ bodies_under (part c m b) b)
-  rows-under (group_body is) c m h g = ap (λ rs. row_for (part c m (group_body is)) ∷ rs) (rows-in is (part c m (group_body is)) h g)
-  rows-under (automaton_body a) c m h g = refl
+body-written : (c : Component) → body_of (as_written c) ≡ body_of c
+body-written (whole is) = refl
+body-written (part o n b) = refl
+body-written (blank o n ps b) = refl
+body-written (copy o n ps b g i) = refl
 
-pub rows-are : (t : Source) → has_no_definitions t ≡ true → rows_of t ≡ map row_for (bodies t)
-rows-are t h =
-    ap (λ rs. row_for (whole t) ∷ rs)
-    (rows-in t (whole t) (and-left (list_all stands_alone (list_of_items t)) (list_all is_written_out (bodies_in (whole t) t)) h) (and-right (list_all stands_alone (list_of_items t)) (list_all is_written_out (bodies_in (whole t) t)) h))
+-- what stands under a name of g
+record Stands (t : Source) (b : Bodies) (k : ℕ) (q : Place) : Type 0 where
+  giver : Component
+  is_number : IsNumber t q.component giver
+  before : q.component < k
+  scope : Scope
+  is_scope : slice_get b.scopes.now.table.scopes (body_number b.components.now.all q.component) ≡ Some scope
+  name : ScopeName
+  is_name : slice_get scope.names q.slot ≡ Some name
+  prefix : prefix_of (component_of t k) ≡ inner (prefix_of giver) name.name
 
--- ---- the bodies from one on
+module _ (t : Source) (b : Bodies) (h : AreBodiesOf t b) where
+  abbrev all : List Numbered
+  all = b.components.now.all
 
-module _ (t : Source) where
-  -- the components are the bodies from k on
-  abbrev pub From : List Component → ℕ → Type 0
-  From cs k = (j : ℕ) (c : Component) → slice_get cs j ≡ Some c → slice_get (bodies t) (k + j) ≡ Some c
+  numbered : (k : ℕ) (c : Component) → IsNumber t k c → (r : Numbered) × (slice_get all k ≡ Some r) × IsComponent t c r
+  numbered k c own = row-for t b.scopes.now h.scopes h.components.few all h.components.all k c own
 
-  pub from-next : (c : Component) (cs : List Component) (k : ℕ) → From (c ∷ cs) k → From cs (k + 1)
-  from-next c cs k at j x g = subst (λ i. slice_get (bodies t) i ≡ Some x) (let e : k + suc j ≡ k + 1 + j = omega arith in e) (at (suc j) x g)
+  its-body : (k : ℕ) (c : Component) → IsNumber t k c → IsBody t (body_number all k) (as_written c)
+  its-body = body-numbered t all h.components.all
 
-  pub from-here : (c : Component) (cs : List Component) (k : ℕ) → From (c ∷ cs) k → IsBody t k c
-  from-here c cs k at = subst (λ j. slice_get (bodies t) j ≡ Some c) (let e : k + 0 ≡ k = omega arith in e) (at 0 c refl)
+  inside-is : (k : ℕ) (c : Component) → IsNumber t k c → body_in (map body_of_written b.written.now) (body_number all k) ≡ body_of c
+  inside-is k c own =
+      let w = beside-at IsWritten (bodies t) (written_bodies t) (body_number all k) (as_written c) (bodies-written t) (its-body k c own) in
+      ap (λ (ws : List WrittenBody). body_in ws (body_number all k)) h.written ∙ ap body_or w.1 ∙ sym w.2.1 ∙ body-written c
 
-  pub all-bodies : From (bodies t) 0
-  all-bodies j c g = subst (λ i. slice_get (bodies t) i ≡ Some c) (let e : j ≡ 0 + j = omega arith in e) g
+  scope-for : (k : ℕ) (c : Component) → IsNumber t k c → (s : Scope) × (slice_get b.scopes.now.table.scopes (body_number all k) ≡ Some s) × IsScope t (as_written c) s
+  scope-for k c own = beside-at (IsScope t) (bodies t) b.scopes.now.table.scopes (body_number all k) (as_written c) h.scopes.numbers.table (its-body k c own)
 
--- ---- objects
+  -- a component that stands in none is the specification
+  root-prefix : (c : Component) → StandsAt t c None → prefix_of c ≡ []
+  root-prefix (whole is) s = refl
+  root-prefix (part o n x) s = absurd (none-some s.0 s.1)
+  root-prefix (blank o n ps x) s = absurd s
+  root-prefix (copy o n ps x g i) s = absurd (none-some s.0 s.1)
 
-decls-counted : (ds : List DeclTree) → objects.decls_count ds ≡ sum (map decl_objects ds)
-decls-counted [] = refl
-decls-counted (d ∷ ds) = omega (arith, decls-counted ds, sum-map decl_objects (d ∷ ds), sum_by-cons decl_objects d ds, sum-map decl_objects ds)
+  parent : (d g : Component) (e : Entry) → standing_of d ≡ Some (g, e) → stands_in d ≡ Some g
+  parent (whole is) g e s = absurd (none-some (g, e) s)
+  parent (part o n x) g e s = ap (λ (y : Component × Entry). Some y.0) (some-same _ (g, e) s)
+  parent (blank o n ps x) g e s = absurd (none-some (g, e) s)
+  parent (copy o n ps x q i) g e s = ap (λ (y : Component × Entry). Some y.0) (some-same _ (g, e) s)
 
-items-counted : (is : Source) → objects.items_count is ≡ sum (map decl_objects (flat_map item_decls (list_of_items is)))
-items-counted no_source = refl
-items-counted (source (decl_item d) is) =
-    let ds = flat_map item_decls (list_of_items is) in
-    omega (arith, items-counted is, sum-map decl_objects (d ∷ ds), sum_by-cons decl_objects d ds, sum-map decl_objects ds)
-items-counted (source (component_item n b) is) = omega (arith, items-counted is)
-items-counted (source (definition_item n ps b) is) = omega (arith, items-counted is)
-items-counted (source (instance_item j) is) = omega (arith, items-counted is)
+  module _ (k : ℕ) (below : k < length (components_of t)) where
+    abbrev own : Component
+    own = component_of t k
 
-edges-counted : (k : ℕ) (es : List EdgeTree) → objects.edges_count es ≡ length (flat_map (edges_of_uses k) es)
-edges-counted k [] = refl
-edges-counted k (e ∷ es) = omega (arith, edges-counted k es, length-append (edges_of_uses k e) (flat_map (edges_of_uses k) es), map-length {B = EventEdge} (λ (u : UseTree). record { from = k; event_use = u; edge = e }) e.uses)
+    stands : (q : Place) → StandsAt t own (Some q) → Stands t b k q
+    stands q s =
+        let x = standing-back t own q s in
+        let scope = scope-for q.component x.0 x.3 in
+        let names = scope.2.names in
+        let n = beside-at (IsName t (as_written x.0)) (scope_of (as_written x.0)) scope.0.names q.slot (x.4.0, x.1) names (ap (λ es. slice_get es q.slot) (scope-written x.0) ∙ x.4.1) in
+        record {
+          giver = x.0;
+          is_number = x.3;
+          before = stands-before t b.scopes.now h.scopes h.components.few all h.components.all q.component k x.0 own x.3 (component-is t k below) (parent own x.0 x.1 x.2);
+          scope = scope.0;
+          is_scope = scope.1;
+          name = n.0;
+          is_name = n.1;
+          prefix =
+              ap dots (path-standing own x.0 x.1 x.4.0 q.slot x.2 x.4.1)
+              ∙ dots-step (path_of x.0) x.4.0.text
+              ∙ ap (λ (m : Ident). inner (prefix_of x.0) m) (sym n.2.0);
+        }
 
-locations-counted : (k : ℕ) (ls : List LocationTree) → objects.locations_count ls ≡ length ls + length (flat_map (λ (l : ℕ × LocationTree). flat_map (edges_of_uses l.0) l.1.edges) (enumerate_from k ls))
-locations-counted k [] = refl
-locations-counted k (l ∷ ls) =
-    omega (arith, locations-counted (k + 1) ls, edges-counted k l.edges, length-append (flat_map (edges_of_uses k) l.edges) (flat_map (λ (l : ℕ × LocationTree). flat_map (edges_of_uses l.0) l.1.edges) (enumerate_from (k + 1) ls)))
+    standing : StandsAt t own (stands_at all k)
+    standing = let x = numbered k own (component-is t k below) in subst (StandsAt t own) (sym (ap place_of x.1)) x.2.stands
 
--- the objects of a body
-abbrev objects_in : SourceBody → ℕ
-objects_in b = 1 + sum (map decl_objects (decls_in b)) + length (locs_in b) + length (flat_map (λ (l : ℕ × LocationTree). flat_map (edges_of_uses l.0) l.1.edges) (enumerate_from 0 (locs_in b)))
+    placed : (q : Place) → stands_at all k ≡ Some q → Stands t b k q
+    placed q is = stands q (subst (StandsAt t own) is standing)
 
-body-counted : (b : SourceBody) → objects.body_count b ≡ objects_in b
-body-counted (group_body is) = omega (arith, items-counted is)
-body-counted (automaton_body a) = omega (arith, decls-counted a.decls, locations-counted 0 a.locs)
+    -- the row of the component in which it stands is there, if those before are
+    there : (rows : List Row) (q : Place) → map row_tree rows ≡ map row_for (take k (components_of t)) → (s : Stands t b k q) → (r : Row) × (slice_get rows q.component ≡ Some r) × (row_tree r ≡ row_for s.giver)
+    there rows q are s =
+        let early : slice_get (map row_for (take k (components_of t))) q.component ≡ Some (row_for s.giver) =
+        get-map row_for (take k (components_of t)) q.component s.giver (take-early (components_of t) k q.component s.giver s.before s.is_number) in
+        get-mapped row_tree rows q.component (row_for s.giver) (ap (λ xs. slice_get xs q.component) are ∙ early)
 
-component-counted : (c : Component) → objects.body_count (body_of c) ≡ component_objects c
-component-counted c = body-counted (body_of c)
+    pub row_before : (rows : List Row) (q : Place) → map row_tree rows ≡ map row_for (take k (components_of t)) → stands_at all k ≡ Some q → q.component < length rows
+    row_before rows q are is = let r = there rows q are (placed q is) in slice_get-below rows q.component r.0 r.1
 
-rows-counted : (cs : List Component) → objects.rows_count (map row_for cs) ≡ sum (map component_objects cs)
-rows-counted [] = refl
-rows-counted (c ∷ cs) = omega (arith, component-counted c, rows-counted cs, sum-map component_objects (c ∷ cs), sum_by-cons component_objects c cs, sum-map component_objects cs)
+    pub scope_there : (q : Place) → stands_at all k ≡ Some q → body_number all q.component < length b.scopes.now.table.scopes
+    scope_there q is = let s = placed q is in slice_get-below b.scopes.now.table.scopes (body_number all q.component) s.scope s.is_scope
 
-pub objects-are : (t : Source) → has_no_definitions t ≡ true → objects.rows_count (rows_of t) ≡ body_objects t
-objects-are t h = ap objects.rows_count (rows-are t h) ∙ rows-counted (bodies t)
+    pub name_there : (q : Place) → stands_at all k ≡ Some q → q.slot < length (names_at b.scopes.now.table (body_number all q.component))
+    name_there q is =
+        let s = placed q is in
+        subst (λ (o : Option Scope). q.slot < length (names_in o)) (sym s.is_scope) (slice_get-below s.scope.names q.slot s.name s.is_name)
 
--- ---- events
+    -- the prefix is made from that of the component in which it stands
+    pub prefix_told : {E : Type 0} (rows : List Row) (q : Place) (p : Result Text E) → map row_tree rows ≡ map row_for (take k (components_of t)) → stands_at all k ≡ Some q
+        → ((x : Row) (n : ScopeName) → slice_get rows q.component ≡ Some x → slice_get (names_at b.scopes.now.table (body_number all q.component)) q.slot ≡ Some n → IfOk p (λ y. y ≡ inner x.prefix n.name))
+        → IfOk p (λ y. y ≡ prefix_of own)
+    prefix_told rows q p are is made =
+        let s = placed q is in
+        let row = there rows q are s in
+        subst (λ (z : Text). IfOk p (λ y. y ≡ z)) (ap (λ (x : RowTree). inner x.0 s.name.name) row.2 ∙ sym s.prefix)
+        (made row.0 s.name row.1 (ap (λ (o : Option Scope). slice_get (names_in o) q.slot) s.is_scope ∙ s.is_name))
 
-abbrev own_events : Component → List Declared
-own_events c = map (λ d. (c, d)) (filter is_event (decls_of c))
+    -- and the specification has none
+    pub prefix_root : stands_at all k ≡ None → [] ≡ prefix_of own
+    prefix_root is = sym (root-prefix own (subst (StandsAt t own) is standing))
 
-one-event : (c : Component) (d : DeclTree) → is_no_channel d ≡ true → events.decl_events (prefix_of (path_of c)) d ≡ map net_event (map (λ d. (c, d)) (filter is_event (d ∷ [])))
-one-event c (event_decl k no_type n) h = ap (λ x. record { path = x; class = class_of k; chan = no_net_chan } ∷ []) (sym (prefix-dotted (path_of c) n.text))
-one-event c (event_decl k void_type n) h = absurd (false-true refl h)
-one-event c (event_decl k (value_type ty) n) h = absurd (false-true refl h)
-one-event c (type_decl n ty) h = refl
-one-event c (enum_decl n ls) h = refl
-one-event c (const_decl ty n e) h = refl
-one-event c (alg_decl ty n e) h = refl
-one-event c (input_decl ty n) h = refl
-one-event c (disc_decl ty n e) h = refl
-one-event c (equation_decl q) h = refl
-one-event c (invariant_decl i) h = refl
-one-event c (marked_decl p) h = refl
+    -- one row more
+    pub row_pushed : (rows more : List Row) (row : Row) → map row_tree rows ≡ map row_for (take k (components_of t)) → more ≡ rows ++ row ∷ [] → row_tree row ≡ row_for own
+        → map row_tree more ≡ map row_for (take (k + 1) (components_of t))
+    row_pushed rows more row are pushed is =
+        ap (map row_tree) pushed
+        ∙ map-append row_tree rows (row ∷ [])
+        ∙ (λ i. are i ++ is i ∷ [])
+        ∙ sym (ap (map row_for) (take-next (components_of t) k own (component-is t k below)) ∙ map-append row_for (take k (components_of t)) (own ∷ []))
 
-decls-events : (c : Component) (ds : List DeclTree) → ((d : DeclTree) → Member d ds → is_no_channel d ≡ true) → events.decls_events (prefix_of (path_of c)) ds ≡ map net_event (map (λ d. (c, d)) (filter is_event ds))
-decls-events c [] h = refl
-decls-events c (d ∷ ds) h =
-    ap (λ xs. xs ++ events.decls_events (prefix_of (path_of c)) ds) (one-event c d (h d (inl refl)))
-    ∙ ap (λ xs. map net_event (map (λ d. (c, d)) (filter is_event (d ∷ []))) ++ xs) (decls-events c ds (λ x m. h x (inr m)))
-    ∙ sym (map-append net_event (map (λ d. (c, d)) (filter is_event (d ∷ []))) (map (λ d. (c, d)) (filter is_event ds)))
-    ∙ ap (map net_event) (sym (map-append (λ d. (c, d)) (filter is_event (d ∷ [])) (filter is_event ds)))
-    ∙ ap (λ xs. map net_event (map (λ d. (c, d)) xs)) (sym (append-kept is_event (d ∷ []) ds))
+    pub row_made : (row : Row) → row.prefix ≡ prefix_of own → inside_of row.inside ≡ body_in (map body_of_written b.written.now) (body_number all k) → row_tree row ≡ row_for own
+    row_made row prefix inside = λ i. (prefix i, (inside ∙ inside-is k own (component-is t k below)) i)
 
-items-decls : (p : Text) (is : Source) → events.items_events p is ≡ events.decls_events p (flat_map item_decls (list_of_items is))
-items-decls p no_source = refl
-items-decls p (source (decl_item d) is) = ap (λ xs. events.decl_events p d ++ xs) (items-decls p is)
-items-decls p (source (component_item n b) is) = items-decls p is
-items-decls p (source (definition_item n ps b) is) = items-decls p is
-items-decls p (source (instance_item j) is) = items-decls p is
+-- ---- all rows
 
-body-decls : (p : Text) (b : SourceBody) → events.body_events p b ≡ events.decls_events p (decls_in b)
-body-decls p (group_body is) = items-decls p is
-body-decls p (automaton_body a) = refl
+module _ (t : Source) (cs : Components) (are : AreComponentsOf t cs) (n end : ℕ) (counted : n ≡ length cs.all) (ends : end ≡ n) where
+  as-many : end ≡ length (components_of t)
+  as-many = ends ∙ counted ∙ beside-length (IsComponent t) (components_of t) cs.all are.all
 
-rows-events : (cs : List Component) → ((c : Component) → Member c cs → (d : DeclTree) → Member d (decls_of c) → is_no_channel d ≡ true) → events.rows_events (map row_for cs) ≡ map net_event (flat_map own_events cs)
-rows-events [] h = refl
-rows-events (c ∷ cs) h =
-    ap (λ xs. xs ++ events.rows_events (map row_for cs)) (body-decls (prefix_of (path_of c)) (body_of c) ∙ decls-events c (decls_of c) (h c (inl refl)))
-    ∙ ap (λ xs. map net_event (own_events c) ++ xs) (rows-events cs (λ x m. h x (inr m)))
-    ∙ sym (map-append net_event (own_events c) (flat_map own_events cs))
+  pub number_below : (k : ℕ) → k < end → k < length (components_of t)
+  number_below k below = subst (λ m. k < m) as-many below
 
-pub events-are : (t : Source) → is_built t ≡ true → components_of t ≡ bodies t → events.rows_events (rows_of t) ≡ map net_event (events t)
-events-are t built listed =
-    ap events.rows_events (rows-are t (no-definitions t built))
-    ∙ rows-events (bodies t) (decl-channel t built)
-    ∙ ap (map net_event) (sym (kept-all (bodies t)))
-    ∙ ap (λ cs. map net_event (filter (λ (d : Declared). is_event d.1) (flat_map (λ c. map (λ d. (c, d)) (decls_of c)) cs))) (sym listed)
+  pub rows_whole : (rows : List Row) (k : ℕ) → end ≤ k → map row_tree rows ≡ map row_for (take k (components_of t)) → map row_tree rows ≡ rows_of t
+  rows_whole rows k past made = made ∙ ap (map row_for) (take-past (components_of t) k (subst (λ m. m ≤ k) as-many past))

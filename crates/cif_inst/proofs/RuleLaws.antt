@@ -7,18 +7,19 @@ use Rattle.cif_system.specs.System.{Role, syncing, sending, receiving}
 use Rattle.cif_system.specs.Step.{same_role}
 use Rattle.cif_source.specs.Source.{Source}
 use Rattle.cif_source.specs.Components.{Component}
-use Rattle.cif_source.specs.Objects.{bodies, automata, components_of, event_edges}
+use Rattle.cif_source.specs.Objects.{automata, components_of, event_edges}
 use Rattle.cif_source.specs.Step.{role_of, denotes_event, synchronises, has_role, has_edge}
 use Rattle.cif_rules.specs.InstanceRules.{role_count, RoleMixedDue, ConstantRangeDue, FaultyConstant, LeavesRange, LongBound, EmptyRange}
 use Rattle.cif_constants.specs.Constants.{BoundsDue}
 use Rattle.cif_scope.specs.Scopes.{KeepsScoping}
 use Rattle.cif_types.specs.Kinds.{KeepsKinds}
 use Rattle.cif_image.specs.WellFormed.{unknown, duplicate, wrong_kind, definition_cycle, mismatch, not_constant, initials, not_own, assigned_twice, equations, alphabet_lacks, role_mixed, too_many_objects, constant_range, alg_cycle, zero_divisor, too_wide, invariant_reads_input, invariant_false, too_large, too_many_choices, algebraic, KeepsBefore}
-use Rattle.cif_image.proofs.FormLaws.{any-member, way-syncs}
+use Rattle.cif_image.proofs.StandingLaws.{any-member}
 use Rattle.cif_image.proofs.RuleLaws.{member-any}
 use Rattle.cif_inst.specs.Net.{KeepsInstances}
-use Rattle.cif_inst.proofs.NamingLaws.{IsSound}
-use Rattle.cif_inst.proofs.UseLaws.{automaton-body}
+use Rattle.cif_fits.proofs.FormLaws.{way-syncs}
+use Rattle.cif_inst.proofs.SoundLaws.{IsSound}
+use Rattle.cif_inst.proofs.UseLaws.{automaton-listed}
 
 -- ---- roles
 
@@ -35,14 +36,14 @@ one-role s b c h g = subst (λ x. length (filter (λ y. y) (s ∷ x ∷ c ∷ []
 
 module _ (t : Source) (h : IsSound t) where
   -- no edge has another role
-  no-edge : (p : Role) → same_role p syncing ≡ false → (e : ℕ) (a : Component) → Member a (bodies t) → has_edge p e a ≡ false
+  no-edge : (p : Role) → same_role p syncing ≡ false → (e : ℕ) (a : Component) → Member a (components_of t) → has_edge p e a ≡ false
   no-edge p other e a m =
-      none-passes (has_role p e a) (event_edges a) (λ w k. ap (λ r. same_role p (role_of r) && denotes_event e a w.event_use.name) (way-syncs t h.built a m w k) ∙ ap (λ b. b && denotes_event e a w.event_use.name) other)
+      none-passes (has_role p e a) (event_edges a) (λ w k. ap (λ r. same_role p (role_of r) && denotes_event e a w.event_use.name) (way-syncs t h.forms a m w k) ∙ ap (λ b. b && denotes_event e a w.event_use.name) other)
 
   pub no-roles : (at : ℕ) → RoleMixedDue t at → ⊥
   no-roles at due =
       let a = any-member _ (automata t) due in
-      let m : Member a.0 (bodies t) = automaton-body t h a.0 a.1 in
+      let m : Member a.0 (components_of t) = automaton-listed t a.0 a.1 in
       let e = a.2.1.0 in
       let few : role_count e a.0 ≤ 1 = one-role (synchronises e a.0) (has_edge sending e a.0) (has_edge receiving e a.0) (no-edge sending refl e a.0 m) (no-edge receiving refl e a.0 m) in
       absurd (omega (arith, few, a.2.1.1))

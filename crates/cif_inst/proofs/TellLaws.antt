@@ -6,70 +6,66 @@ use Rattle.cif_system.specs.Words.{Member}
 use Rattle.cif_system.proofs.Lists.{false-true, none-some, slice_get-below, filter-member, filter-passes}
 use Rattle.cif_source.specs.Source.{SourceBody, group_body, automaton_body}
 use Rattle.cif_source.specs.Components.{Component, body_of}
-use Rattle.cif_source.specs.Objects.{components_of, bodies, automata, is_automaton}
+use Rattle.cif_source.specs.Objects.{components_of, automata, is_automaton}
 use Rattle.cif_rules.specs.InstanceRules.{is_lacking, AlphabetLacksDue}
-use Rattle.cif_scope.specs.Tables.{IsBody}
+use Rattle.cif_components.specs.Numbers.{IsNumber}
 use Rattle.cif_image.proofs.RuleLaws.{member-any}
-use Rattle.cif_image.proofs.FormLaws.{any-member, no-definitions}
-use Rattle.cif_inst.specs.Rows.{RowTree, rows_of}
-use Rattle.cif_inst.specs.Naming.{source_for, component_at, or_whole, AreNamesOf}
-use Rattle.cif_inst.specs.Autos.{body_lacks, rows_lacks}
-use Rattle.cif_inst.specs.declared.naming.Naming.{Naming}
-use Rattle.cif_inst.proofs.RowLaws.{row_for, rows-are, From, from-here, from-next, all-bodies}
-use Rattle.cif_inst.proofs.NamingLaws.{listed}
-use Rattle.cif_inst.proofs.UseLaws.{automaton-body}
+use Rattle.cif_image.proofs.StandingLaws.{any-member}
+use Rattle.cif_translate.specs.Looking.{or_whole, source_for, component_at}
+use Rattle.cif_translate.specs.declared.looking.Looking.{Looking}
+use Rattle.cif_inst.specs.Names.{AreBuiltNames}
+use Rattle.cif_inst.specs.Rows.{RowTree, row_for, rows_of}
+use Rattle.cif_inst.specs.Alphabets.{body_lacks, rows_lacks}
+use Rattle.cif_inst.proofs.SoundLaws.{component-listed, From, from-here, from-next, all-components}
+use Rattle.cif_inst.proofs.UseLaws.{automaton-listed}
 use Rattle.cif_inst.proofs.LackLaws.{LacksAt, asked_names, or-told, or-first, or-second, automaton-told, automaton-kept}
-use Rattle.cif_inst.proofs.AutomatonLaws.{sound, home, edges}
+use Rattle.cif_inst.proofs.AutomatonLaws.{sound, edges}
 
-module _ (n : Naming) (h : AreNamesOf n) where
-  body-told : (k : ℕ) → k < length (bodies (source_for n)) → (b : SourceBody) → body_of (component_at n k) ≡ b → (at : ℕ) → body_lacks n k b ≡ Some at → (is_automaton b ≡ true) × LacksAt at (component_at n k)
+module _ (l : Looking) (h : AreBuiltNames l) where
+  body-told : (k : ℕ) → k < length (components_of (source_for l)) → (b : SourceBody) → body_of (component_at l k) ≡ b → (at : ℕ) → body_lacks l k b ≡ Some at → (is_automaton b ≡ true) × LacksAt at (component_at l k)
   body-told k below (group_body is) e at g = absurd (none-some at g)
-  body-told k below (automaton_body a) e at g = (refl, automaton-told n k (source_for n) (sound n h) (home n h k below) a e (edges n h k below a e) at g)
+  body-told k below (automaton_body a) e at g = (refl, automaton-told l k (source_for l) (sound l h) (component-listed (source_for l) k below) a e (edges l h k below a e) at g)
 
-  body-kept : (k : ℕ) → k < length (bodies (source_for n)) → (b : SourceBody) → body_of (component_at n k) ≡ b → body_lacks n k b ≡ None → is_automaton b ≡ true → (nm : Name) → Member nm (asked_names (component_at n k)) → is_lacking (component_at n k) nm ≡ false
+  body-kept : (k : ℕ) → k < length (components_of (source_for l)) → (b : SourceBody) → body_of (component_at l k) ≡ b → body_lacks l k b ≡ None → is_automaton b ≡ true → (nm : Name) → Member nm (asked_names (component_at l k)) → is_lacking (component_at l k) nm ≡ false
   body-kept k below (group_body is) e g a = absurd (false-true refl a)
-  body-kept k below (automaton_body x) e g a = automaton-kept n k (source_for n) (sound n h) (home n h k below) x e (edges n h k below x e) g
+  body-kept k below (automaton_body x) e g a = automaton-kept l k (source_for l) (sound l h) (component-listed (source_for l) k below) x e (edges l h k below x e) g
 
-  rows-told : (cs : List Component) (k : ℕ) → From (source_for n) cs k → (at : ℕ) → rows_lacks n k (map row_for cs) ≡ Some at → (c : Component) × Member c cs × (is_automaton (body_of c) ≡ true) × LacksAt at c
+  rows-told : (cs : List Component) (k : ℕ) → From (source_for l) cs k → (at : ℕ) → rows_lacks l k (map row_for cs) ≡ Some at → (c : Component) × Member c cs × (is_automaton (body_of c) ≡ true) × LacksAt at c
   rows-told [] k from at g = absurd (none-some at g)
   rows-told (c ∷ cs) k from at g =
-      let here : IsBody (source_for n) k c = from-here (source_for n) c cs k from in
-      let same : component_at n k ≡ c = ap (or_whole (source_for n)) here in
-      let below : k < length (bodies (source_for n)) = slice_get-below (bodies (source_for n)) k c here in
-      elim (or-told (body_lacks n k (body_of c)) (rows_lacks n (k + 1) (map row_for cs)) at g) [
+      let here : IsNumber (source_for l) k c = from-here (source_for l) c cs k from in
+      let same : component_at l k ≡ c = ap (or_whole (source_for l)) here in
+      let below : k < length (components_of (source_for l)) = slice_get-below (components_of (source_for l)) k c here in
+      elim (or-told (body_lacks l k (body_of c)) (rows_lacks l (k + 1) (map row_for cs)) at g) [
         | inl w ↦
             let own = body-told k below (body_of c) (ap body_of same) at w in
             (c, inl refl, own.0, subst (LacksAt at) same own.1)
-        | inr w ↦ let rest = rows-told cs (k + 1) (from-next (source_for n) c cs k from) at w in (rest.0, inr rest.1, rest.2, rest.3)
+        | inr w ↦ let rest = rows-told cs (k + 1) (from-next (source_for l) c cs k from) at w in (rest.0, inr rest.1, rest.2, rest.3)
       ]
 
-  rows-kept : (cs : List Component) (k : ℕ) → From (source_for n) cs k → rows_lacks n k (map row_for cs) ≡ None → (c : Component) → Member c cs → is_automaton (body_of c) ≡ true → (nm : Name) → Member nm (asked_names c) → is_lacking c nm ≡ false
+  rows-kept : (cs : List Component) (k : ℕ) → From (source_for l) cs k → rows_lacks l k (map row_for cs) ≡ None → (c : Component) → Member c cs → is_automaton (body_of c) ≡ true → (nm : Name) → Member nm (asked_names c) → is_lacking c nm ≡ false
   rows-kept [] k from g x m a = absurd m
   rows-kept (c ∷ cs) k from g x m a =
-      let here : IsBody (source_for n) k c = from-here (source_for n) c cs k from in
-      let same : component_at n k ≡ c = ap (or_whole (source_for n)) here in
-      let below : k < length (bodies (source_for n)) = slice_get-below (bodies (source_for n)) k c here in
+      let here : IsNumber (source_for l) k c = from-here (source_for l) c cs k from in
+      let same : component_at l k ≡ c = ap (or_whole (source_for l)) here in
+      let below : k < length (components_of (source_for l)) = slice_get-below (components_of (source_for l)) k c here in
       elim m [
         | inl w ↦ λ nm y.
-            let first = or-first (body_lacks n k (body_of c)) (rows_lacks n (k + 1) (map row_for cs)) g in
+            let first = or-first (body_lacks l k (body_of c)) (rows_lacks l (k + 1) (map row_for cs)) g in
             let own = body-kept k below (body_of c) (ap body_of same) first (ap (λ y. is_automaton (body_of y)) (sym w) ∙ a) nm (subst (λ y. Member nm (asked_names y)) (w ∙ sym same) y) in
             ap (λ y. is_lacking y nm) (w ∙ sym same) ∙ own
-        | inr w ↦ rows-kept cs (k + 1) (from-next (source_for n) c cs k from) (or-second (body_lacks n k (body_of c)) (rows_lacks n (k + 1) (map row_for cs)) g) x w a
+        | inr w ↦ rows-kept cs (k + 1) (from-next (source_for l) c cs k from) (or-second (body_lacks l k (body_of c)) (rows_lacks l (k + 1) (map row_for cs)) g) x w a
       ]
 
-  rows-for : (rows : List RowTree) → rows ≡ rows_of (source_for n) → rows_lacks n 0 rows ≡ rows_lacks n 0 (map row_for (bodies (source_for n)))
-  rows-for rows r = ap (rows_lacks n 0) (r ∙ rows-are (source_for n) (no-definitions (source_for n) h.built))
-
   -- the event that is told is outside an alphabet
-  pub lacks-due : (rows : List RowTree) (at : ℕ) → rows ≡ rows_of (source_for n) → rows_lacks n 0 rows ≡ Some at → AlphabetLacksDue (source_for n) at
+  pub lacks-due : (rows : List RowTree) (at : ℕ) → rows ≡ rows_of (source_for l) → rows_lacks l 0 rows ≡ Some at → AlphabetLacksDue (source_for l) at
   lacks-due rows at r g =
-      let c = rows-told (bodies (source_for n)) 0 (all-bodies (source_for n)) at (sym (rows-for rows r) ∙ g) in
-      member-any (LacksAt at) c.0 (automata (source_for n)) (filter-member (λ c. is_automaton (body_of c)) (components_of (source_for n)) c.0 (subst (Member c.0) (sym (listed (source_for n) (sound n h))) c.1) c.2) c.3
+      let c = rows-told (components_of (source_for l)) 0 (all-components (source_for l)) at (sym (ap (rows_lacks l 0) r) ∙ g) in
+      member-any (LacksAt at) c.0 (automata (source_for l)) (filter-member (λ c. is_automaton (body_of c)) (components_of (source_for l)) c.0 c.1 c.2) c.3
 
   -- where none is told no alphabet lacks an event
-  pub lacks-none : (rows : List RowTree) → rows ≡ rows_of (source_for n) → rows_lacks n 0 rows ≡ None → (at : ℕ) → AlphabetLacksDue (source_for n) at → ⊥
+  pub lacks-none : (rows : List RowTree) → rows ≡ rows_of (source_for l) → rows_lacks l 0 rows ≡ None → (at : ℕ) → AlphabetLacksDue (source_for l) at → ⊥
   lacks-none rows r g at due =
-      let c = any-member (LacksAt at) (automata (source_for n)) due in
+      let c = any-member (LacksAt at) (automata (source_for l)) due in
       let nm = any-member (λ (x : Name). (x.at ≡ at) × IsTrue (is_lacking c.0 x)) (asked_names c.0) c.2 in
-      let home : Member c.0 (bodies (source_for n)) = automaton-body (source_for n) (sound n h) c.0 c.1 in
-      false-true (rows-kept (bodies (source_for n)) 0 (all-bodies (source_for n)) (sym (rows-for rows r) ∙ g) c.0 home (filter-passes (λ c. is_automaton (body_of c)) (components_of (source_for n)) c.0 c.1) nm.0 nm.1) nm.2.1
+      false-true (rows-kept (components_of (source_for l)) 0 (all-components (source_for l)) (sym (ap (rows_lacks l 0) r) ∙ g) c.0 (automaton-listed (source_for l) c.0 c.1) (filter-passes (λ c. is_automaton (body_of c)) (components_of (source_for l)) c.0 c.1) nm.0 nm.1) nm.2.1

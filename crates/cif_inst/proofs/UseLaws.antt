@@ -1,5 +1,5 @@
 -- The events of edges are uses of their automaton.
-use Rattle.std.proofs.Common.{inl, [], ◌++◌, refl, subst}
+use Rattle.std.proofs.Common.{inl, [], ◌++◌, refl}
 use Rattle.std.specs.Prelude.{flat_map, unwrap_or}
 use Rattle.cif_ast.specs.declared.names.Name.{Name}
 use Rattle.cif_system.specs.Words.{Member}
@@ -7,11 +7,9 @@ use Rattle.cif_system.proofs.Lists.{filter-within}
 use Rattle.cif_system.proofs.Picks.{append-left, append-right, flat_map-member}
 use Rattle.cif_source.specs.Source.{UseTree, EquationTree, EdgeTree, LocationTree, SourceBody, group_body, automaton_body, Source}
 use Rattle.cif_source.specs.Components.{Component, body_of, params_of}
-use Rattle.cif_source.specs.Objects.{components_of, bodies, automata, is_automaton, locs_of, locs_in, EventEdge, event_edges}
+use Rattle.cif_source.specs.Objects.{components_of, automata, is_automaton, locs_of, locs_in, EventEdge, event_edges}
 use Rattle.cif_source.specs.Uses.{Use, uses, event_asked, asking, param_uses, body_uses, decl_uses, location_uses, value_uses, edge_uses, event_uses, updates_uses}
-use Rattle.cif_image.proofs.FormLaws.{edge-stands, enumerated, no-definitions}
-use Rattle.cif_image.proofs.NamedLaws.{LeadsToEvent, leads}
-use Rattle.cif_inst.proofs.NamingLaws.{IsSound, listed, few}
+use Rattle.cif_image.proofs.StandingLaws.{edge-stands, enumerated}
 
 abbrev pub event-use : Name → Use
 event-use nm = record { name = nm; asks = event_asked }
@@ -39,9 +37,5 @@ edge-event-used c w m =
     append-right (event-use w.event_use.name) (flat_map param_uses (params_of c)) (body_uses c (body_of c))
     (body-used c (body_of c) e.place.1 w.event_use.name l (location-used e.place.1 w.edge w.event_use e.edge e.event_use))
 
-module _ (t : Source) (h : IsSound t) where
-  pub edge-leads : (c : Component) → Member c (bodies t) → (w : EventEdge) → Member w (event_edges c) → LeadsToEvent t c w.event_use.name
-  edge-leads c m w k = leads t (no-definitions t h.built) (listed t h) (few t h) h.scoping.known h.scoping.fitting c m w.event_use.name (edge-event-used c w k)
-
-  pub automaton-body : (c : Component) → Member c (automata t) → Member c (bodies t)
-  automaton-body c m = subst (Member c) (listed t h) (filter-within (λ c. is_automaton (body_of c)) (components_of t) c m)
+pub automaton-listed : (t : Source) (c : Component) → Member c (automata t) → Member c (components_of t)
+automaton-listed t c m = filter-within (λ c. is_automaton (body_of c)) (components_of t) c m

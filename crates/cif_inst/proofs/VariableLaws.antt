@@ -11,30 +11,29 @@ use Rattle.cif_system.specs.Words.{Member}
 use Rattle.cif_system.proofs.Picks.{append-left, append-right, map-member, flat_map-member}
 use Rattle.cif_model.specs.Net.{NetStored}
 use Rattle.cif_source.specs.Source.{Text, TypeTree, DeclTree, type_decl, enum_decl, event_decl, const_decl, alg_decl, input_decl, disc_decl, equation_decl, invariant_decl, marked_decl, decl_tree, decl_item, component_item, definition_item, instance_item, source_item, source_items, SourceBody, group_body, automaton_body, Source, no_source, source, list_of_items}
-use Rattle.cif_source.specs.Components.{Component, body_of, params_of, path_of}
-use Rattle.cif_source.specs.Objects.{components_of, bodies, item_decls, decls_in, decls_of, Declared, is_variable, variables}
+use Rattle.cif_source.specs.Components.{Component, as_written, body_of, params_of, path_of}
+use Rattle.cif_source.specs.Objects.{components_of, item_decls, decls_in, decls_of, Declared, is_variable, variables}
 use Rattle.cif_source.specs.Types.{first_of_type}
 use Rattle.cif_rules.specs.Constants.{param_types, decl_types, types_of}
 use Rattle.cif_scope.specs.Tables.{IsBody}
+use Rattle.cif_scope.specs.Written.{inside_of}
 use Rattle.cif_scope.proofs.Places.{drop-item}
 use Rattle.cif_net.specs.declared.data.Var.{Var}
 use Rattle.cif_net.specs.View.{var_tree}
-use Rattle.cif_objects.specs.Leaves.{net_type_of}
-use Rattle.cif_objects.specs.declared.types.NetTy.{NetTy}
-use Rattle.cif_image.specs.Built.{is_built}
 use Rattle.cif_image.specs.Flat.{net_stored}
 use Rattle.cif_image.specs.Types.{net_type}
 use Rattle.cif_image.proofs.NumberLaws.{append-kept}
-use Rattle.cif_image.proofs.FormLaws.{no-definitions}
-use Rattle.cif_inst.specs.Naming.{or_whole, body_at}
-use Rattle.cif_inst.specs.Rows.{rows_of}
-use Rattle.cif_inst.specs.Variables.{variable, decl_variables, decls_variables, items_variables, body_variables, rows_variables, typed_source, typed_body, AreTypesOf, StandIn}
-use Rattle.cif_inst.specs.Views.{row_tree, row_body}
+use Rattle.cif_values.specs.Types.{net_type_of}
+use Rattle.cif_values.specs.declared.types.NetTy.{NetTy}
+use Rattle.cif_translate.specs.Looking.{or_whole, component_of}
+use Rattle.cif_inst.specs.Rows.{prefix_of, row_for, rows_of, body_number}
+use Rattle.cif_inst.specs.Variables.{variable, decl_variables, decls_variables, items_variables, body_variables, rows_variables, typed_source, typed_component, AreTypesOf, StandIn}
+use Rattle.cif_inst.specs.Views.{row_tree}
 use Rattle.cif_inst.specs.declared.rows.Row.{Row}
 use Rattle.cif_inst.specs.declared.variables.Typing.{Typing}
-use Rattle.cif_inst.proofs.NamingLaws.{body-is}
+use Rattle.cif_inst.proofs.SoundLaws.{component-is, component-listed, body-numbered, From, from-here, from-next, all-components}
 use Rattle.cif_inst.proofs.RowAutoLaws.{row_below, row_written}
-use Rattle.cif_inst.proofs.RowLaws.{prefix_of, prefix-dotted, row_for, rows-are, From, from-here, from-next, all-bodies}
+use Rattle.cif_inst.proofs.RowLaws.{dots-dotted}
 
 -- ---- the variables of a source
 
@@ -47,8 +46,8 @@ own_variables c = with_decls c (filter is_variable (decls_of c))
 abbrev of_variable : Declared → Bool
 of_variable d = is_variable d.1
 
-one-variable : (c : Component) (d : DeclTree) → decl_variables c (prefix_of (path_of c)) d ≡ map net_stored (with_decls c (filter is_variable (d ∷ [])))
-one-variable c (disc_decl ty n e) = ap (λ x. record { path = x; type_of = (net_type c ty).type_of; first = first_of_type c ty e; literals = (net_type c ty).literals } ∷ []) (sym (prefix-dotted (path_of c) n.text))
+one-variable : (c : Component) (d : DeclTree) → decl_variables c (prefix_of c) d ≡ map net_stored (with_decls c (filter is_variable (d ∷ [])))
+one-variable c (disc_decl ty n e) = ap (λ x. record { path = x; type_of = (net_type c ty).type_of; first = first_of_type c ty e; literals = (net_type c ty).literals } ∷ []) (sym (dots-dotted (path_of c) n.text))
 one-variable c (event_decl k h n) = refl
 one-variable c (type_decl n ty) = refl
 one-variable c (enum_decl n ls) = refl
@@ -59,10 +58,10 @@ one-variable c (equation_decl q) = refl
 one-variable c (invariant_decl i) = refl
 one-variable c (marked_decl p) = refl
 
-decls-variables : (c : Component) (ds : List DeclTree) → decls_variables c (prefix_of (path_of c)) ds ≡ map net_stored (with_decls c (filter is_variable ds))
+decls-variables : (c : Component) (ds : List DeclTree) → decls_variables c (prefix_of c) ds ≡ map net_stored (with_decls c (filter is_variable ds))
 decls-variables c [] = refl
 decls-variables c (d ∷ ds) =
-    ap (λ xs. xs ++ decls_variables c (prefix_of (path_of c)) ds) (one-variable c d)
+    ap (λ xs. xs ++ decls_variables c (prefix_of c) ds) (one-variable c d)
     ∙ ap (λ xs. map net_stored (with_decls c (filter is_variable (d ∷ []))) ++ xs) (decls-variables c ds)
     ∙ sym (map-append net_stored (with_decls c (filter is_variable (d ∷ []))) (with_decls c (filter is_variable ds)))
     ∙ ap (map net_stored) (sym (map-append (λ d. (c, d)) (filter is_variable (d ∷ [])) (filter is_variable ds)))
@@ -82,9 +81,9 @@ body-decls c p (automaton_body a) = refl
 rows-variables : (t : Source) (cs : List Component) (k : ℕ) → From t cs k → rows_variables t k (map row_for cs) ≡ map net_stored (flat_map own_variables cs)
 rows-variables t [] k from = refl
 rows-variables t (c ∷ cs) k from =
-    let same : body_at t k ≡ c = ap (or_whole t) (from-here t c cs k from) in
-    ap (λ d. body_variables d (prefix_of (path_of c)) (body_of c) ++ rows_variables t (k + 1) (map row_for cs)) same
-    ∙ ap (λ xs. xs ++ rows_variables t (k + 1) (map row_for cs)) (body-decls c (prefix_of (path_of c)) (body_of c) ∙ decls-variables c (decls_of c))
+    let same : component_of t k ≡ c = ap (or_whole t) (from-here t c cs k from) in
+    ap (λ d. body_variables d (prefix_of c) (body_of c) ++ rows_variables t (k + 1) (map row_for cs)) same
+    ∙ ap (λ xs. xs ++ rows_variables t (k + 1) (map row_for cs)) (body-decls c (prefix_of c) (body_of c) ∙ decls-variables c (decls_of c))
     ∙ ap (λ xs. map net_stored (own_variables c) ++ xs) (rows-variables t cs (k + 1) (from-next t c cs k from))
     ∙ sym (map-append net_stored (own_variables c) (flat_map own_variables cs))
 
@@ -103,12 +102,8 @@ kept-all (c ∷ cs) =
     ∙ ap (λ xs. xs ++ filter of_variable (flat_map (λ c. with_decls c (decls_of c)) cs)) (kept-own c (decls_of c))
     ∙ ap (λ xs. own_variables c ++ xs) (kept-all cs)
 
-pub variables-are : (t : Source) → is_built t ≡ true → components_of t ≡ bodies t → rows_variables t 0 (rows_of t) ≡ map net_stored (variables t)
-variables-are t built listed =
-    ap (rows_variables t 0) (rows-are t (no-definitions t built))
-    ∙ rows-variables t (bodies t) 0 (all-bodies t)
-    ∙ ap (map net_stored) (sym (kept-all (bodies t)))
-    ∙ ap (λ cs. map net_stored (filter of_variable (flat_map (λ c. with_decls c (decls_of c)) cs))) (sym listed)
+pub variables-are : (t : Source) → rows_variables t 0 (rows_of t) ≡ map net_stored (variables t)
+variables-are t = rows-variables t (components_of t) 0 (all-components t) ∙ ap (map net_stored) (sym (kept-all (components_of t)))
 
 -- ---- one variable
 
@@ -132,18 +127,24 @@ made_added c p n ty e before after made r d pushed is same =
     on-ok r pushed (λ g. ap (map var_tree) g ∙ map-append var_tree before (made ∷ []) ∙ ap (λ (x : NetStored). map var_tree before ++ x ∷ []) same ∙ ap (λ x. map var_tree before ++ decl_variables c p x) (sym is))
 
 -- the type of a variable is one that its body writes
-pub type_written : (y : Typing) (k : ℕ) (ty : TypeTree) (n : Ident) (e : Option Tree) → StandIn y k (disc_decl ty n e ∷ []) → Member ty (types_of (typed_body y k))
+pub type_written : (y : Typing) (k : ℕ) (ty : TypeTree) (n : Ident) (e : Option Tree) → StandIn y k (disc_decl ty n e ∷ []) → Member ty (types_of (typed_component y k))
 type_written y k ty n e h =
-    append-right ty (flat_map param_types (params_of (typed_body y k))) (flat_map decl_types (decls_of (typed_body y k)))
-    (flat_map-member decl_types (disc_decl ty n e) (decls_of (typed_body y k)) ty (h.declared (disc_decl ty n e) (inl refl)) (inl refl))
+    append-right ty (flat_map param_types (params_of (typed_component y k))) (flat_map decl_types (decls_of (typed_component y k)))
+    (flat_map-member decl_types (disc_decl ty n e) (decls_of (typed_component y k)) ty (h.declared (disc_decl ty n e) (inl refl)) (inl refl))
 
-pub its_body : (y : Typing) (k : ℕ) (ds : List DeclTree) → StandIn y k ds → IsBody (typed_source y) k (typed_body y k)
-its_body y k ds h = body-is (typed_source y) k h.body
+-- and stands in a component that is written as that body
+pub its_home : (y : Typing) (k : ℕ) (ds : List DeclTree) → StandIn y k ds → Member (typed_component y k) (components_of (typed_source y))
+its_home y k ds h = component-listed (typed_source y) k h.component
+
+pub its_body : (y : Typing) (k : ℕ) (ds : List DeclTree) (body : ℕ) → StandIn y k ds → body ≡ body_number y.components.now.all k → IsBody (typed_source y) body (as_written (typed_component y k))
+its_body y k ds body h is =
+    subst (λ j. IsBody (typed_source y) j (as_written (typed_component y k))) (sym is)
+    (body-numbered (typed_source y) y.components.now.all h.types.components.all k (typed_component y k) (component-is (typed_source y) k h.component))
 
 -- ---- parts of a list
 
 stand-fewer : (y : Typing) (k : ℕ) (ds es : List DeclTree) → StandIn y k ds → ((d : DeclTree) → Member d es → Member d ds) → StandIn y k es
-stand-fewer y k ds es h within = record { types = h.types; body = h.body; declared = λ d m. h.declared d (within d m) }
+stand-fewer y k ds es h within = record { types = h.types; component = h.component; declared = λ d m. h.declared d (within d m) }
 
 at-place : {A : Type 0} (xs : List A) (i : ℕ) (x : A) → i < length xs → x ≡ get_or xs i x → Member x xs
 at-place [] i x below is = absurd (omega (arith, below))
@@ -165,25 +166,25 @@ pub stands_item : (y : Typing) (k : ℕ) (items : List Item) (i : ℕ) (item : I
     → StandIn y k (item_decls (source_item (view_item item)))
 stands_item y k items i item below is h = stand-fewer y k (flat_map item_decls (list_of_items (source_items (view_items items)))) (item_decls (source_item (view_item item))) h (item-within items i item below is)
 
-pub stands_row : (y : Typing) (rows : List Row) (place k : ℕ) (row : Row) → AreTypesOf y → is_built (typed_source y) ≡ true → map row_tree rows ≡ rows_of (typed_source y) → place < length rows → row ≡ get_or rows place row → k ≡ place
-    → StandIn y k (decls_in (row_body row.body))
-stands_row y rows place k row types built are below is same =
-    subst (λ j. StandIn y j (decls_in (row_body row.body))) (sym same)
+pub stands_row : (y : Typing) (rows : List Row) (place k : ℕ) (row : Row) → AreTypesOf y → map row_tree rows ≡ rows_of (typed_source y) → place < length rows → row ≡ get_or rows place row → k ≡ place
+    → StandIn y k (decls_in (inside_of row.inside))
+stands_row y rows place k row types are below is same =
+    subst (λ j. StandIn y j (decls_in (inside_of row.inside))) (sym same)
     (record {
       types = types;
-      body = row_below (typed_source y) (no-definitions (typed_source y) built) rows are place below;
-      declared = λ d m. subst (λ b. Member d (decls_in b)) (sym (row_written (typed_source y) (no-definitions (typed_source y) built) rows are place row below is)) m;
+      component = row_below (typed_source y) rows are place below;
+      declared = λ d m. subst (λ b. Member d (decls_in b)) (sym (row_written (typed_source y) rows are place row below is)) m;
     })
 
 -- ---- one row more
 
 pub row_added : (y : Typing) (rows : List Row) (place k : ℕ) (row : Row) (before after : List Var) (all : List NetStored) → place < length rows → row ≡ get_or rows place row → k ≡ place
-    → map var_tree after ≡ map var_tree before ++ body_variables (typed_body y k) row.prefix (row_body row.body)
+    → map var_tree after ≡ map var_tree before ++ body_variables (typed_component y k) row.prefix (inside_of row.inside)
     → map var_tree before ++ rows_variables (typed_source y) place (map row_tree (drop place rows)) ≡ all → map var_tree after ++ rows_variables (typed_source y) (place + 1) (map row_tree (drop (place + 1) rows)) ≡ all
 row_added y rows place k row before after all below is same added rest =
-    let own : List NetStored = body_variables (typed_body y place) row.prefix (row_body row.body) in
+    let own : List NetStored = body_variables (typed_component y place) row.prefix (inside_of row.inside) in
     let later : List NetStored = rows_variables (typed_source y) (place + 1) (map row_tree (drop (place + 1) rows)) in
-    ap (λ xs. xs ++ later) (added ∙ ap (λ j. map var_tree before ++ body_variables (typed_body y j) row.prefix (row_body row.body)) same)
+    ap (λ xs. xs ++ later) (added ∙ ap (λ j. map var_tree before ++ body_variables (typed_component y j) row.prefix (inside_of row.inside)) same)
     ∙ append_assoc (map var_tree before) own later
     ∙ ap (λ rs. map var_tree before ++ rows_variables (typed_source y) place (map row_tree rs)) (sym (drop-item rows place row below is))
     ∙ rest

@@ -1,22 +1,22 @@
 -- The alphabets of automata and what they monitor, by what names are looked up in, and the first event outside an alphabet.
-use Rattle.std.specs.Prelude.{◌≡◌, ℕ, Bool, true, not, nat_eq, nat_le, List, [], ◌∷◌, map, flat_map, length, Option, Some, None, slice_get, slice_set, unwrap_or}
+use Rattle.std.specs.Prelude.{◌≡◌, ℕ, ◌+◌, Bool, true, not, nat_eq, nat_le, List, [], ◌∷◌, ◌++◌, map, flat_map, length, Option, Some, None, slice_get, slice_set, unwrap_or}
 use Rattle.std.specs.List.{list_all, position_or_len}
 use Rattle.cif_ast.specs.declared.names.Name.{Name}
-use Rattle.cif_model.specs.Net.{NetEdge}
 use Rattle.cif_model.specs.Facts.{has}
-use Rattle.cif_source.specs.Source.{UseTree, EdgeTree, LocationTree, AutomatonTree}
+use Rattle.cif_source.specs.Source.{UseTree, EdgeTree, LocationTree, AutomatonTree, SourceBody, group_body, automaton_body}
 use Rattle.cif_source.specs.Objects.{events}
 use Rattle.cif_image.specs.Flat.{event_number}
-use Rattle.cif_inst.specs.Naming.{component_at, source_for, slot_number}
-use Rattle.cif_inst.specs.Edges.{locations_edges}
-use Rattle.cif_inst.specs.declared.naming.Naming.{Naming}
+use Rattle.cif_translate.specs.Looking.{component_at, source_for}
+use Rattle.cif_translate.specs.declared.looking.Looking.{Looking}
+use Rattle.cif_inst.specs.Rows.{RowTree}
+use Rattle.cif_inst.specs.declared.alphabets.Alphabet.{Alphabet}
 use Rattle.cif_inst.specs.declared.error.InstErr.{InstErr}
-use Rattle.cif_inst.specs.declared.error.InstErr.TheVariants.{AlphabetLacks, TooManyObjects, ConstantRange, Memory}
+use Rattle.cif_inst.specs.declared.error.InstErr.TheVariants.{AlphabetLacks, TooManyObjects, ConstantRange, TooLarge, Memory}
 
 -- ---- names of events
 
-abbrev pub events_named : Naming → (body : ℕ) → List Name → List ℕ
-events_named n k nms = map (event_number (component_at n k)) nms
+abbrev pub events_named : Looking → (component : ℕ) → List Name → List ℕ
+events_named l k nms = map (event_number (component_at l k)) nms
 
 abbrev pub name_places : List Name → List ℕ
 name_places nms = map (λ (nm : Name). nm.at) nms
@@ -31,30 +31,49 @@ edge_places e = map use_place e.uses
 abbrev pub location_places : LocationTree → List ℕ
 location_places l = flat_map edge_places l.edges
 
+-- the events of edges
+abbrev pub use_event : Looking → (component : ℕ) → UseTree → ℕ
+use_event l k u = event_number (component_at l k) u.name
+
+abbrev pub edge_events : Looking → (component : ℕ) → EdgeTree → List ℕ
+edge_events l k e = map (use_event l k) e.uses
+
+abbrev pub location_events : Looking → (component : ℕ) → LocationTree → List ℕ
+location_events l k x = flat_map (edge_events l k) x.edges
+
+abbrev pub used_events : Looking → (component : ℕ) → AutomatonTree → List ℕ
+used_events l k a = flat_map (location_events l k) a.locs
+
 -- ---- alphabets
 
-abbrev pub automaton_edges : Naming → (body : ℕ) → AutomatonTree → List NetEdge
-automaton_edges n k a = locations_edges n k (length a.locs) 0 a.locs
-
-abbrev pub used_events : Naming → (body : ℕ) → AutomatonTree → List ℕ
-used_events n k a = map (λ (e : NetEdge). e.event) (automaton_edges n k a)
-
 -- the declared alphabet, or else the events of the edges
-abbrev pub alphabet_by : Naming → (body : ℕ) → Option (List Name) → (used : List ℕ) → List ℕ
-alphabet_by n k None used = used
-alphabet_by n k (Some nms) used = events_named n k nms
+abbrev pub alphabet_by : Looking → (component : ℕ) → Option (List Name) → (used : List ℕ) → List ℕ
+alphabet_by l k None used = used
+alphabet_by l k (Some nms) used = events_named l k nms
 
-abbrev pub alphabet_for : Naming → (body : ℕ) → AutomatonTree → List ℕ
-alphabet_for n k a = alphabet_by n k a.alphabet (used_events n k a)
+abbrev pub alphabet_for : Looking → (component : ℕ) → AutomatonTree → List ℕ
+alphabet_for l k a = alphabet_by l k a.alphabet (used_events l k a)
 
 -- `monitor;` names no event and means all of the alphabet
-abbrev pub monitors_by : Naming → (body : ℕ) → Option (List Name) → (alphabet : List ℕ) → List ℕ
-monitors_by n k None es = []
-monitors_by n k (Some []) es = es
-monitors_by n k (Some (nm ∷ nms)) es = events_named n k (nm ∷ nms)
+abbrev pub monitors_by : Looking → (component : ℕ) → Option (List Name) → (alphabet : List ℕ) → List ℕ
+monitors_by l k None es = []
+monitors_by l k (Some []) es = es
+monitors_by l k (Some (nm ∷ nms)) es = events_named l k (nm ∷ nms)
 
-abbrev pub monitors_for : Naming → (body : ℕ) → AutomatonTree → List ℕ
-monitors_for n k a = monitors_by n k a.monitor (alphabet_for n k a)
+abbrev pub monitors_for : Looking → (component : ℕ) → AutomatonTree → List ℕ
+monitors_for l k a = monitors_by l k a.monitor (alphabet_for l k a)
+
+abbrev pub automaton_alphabet : Looking → (component : ℕ) → AutomatonTree → Alphabet
+automaton_alphabet l k a = record { events = alphabet_for l k a; monitors = monitors_for l k a; used = used_events l k a }
+
+abbrev pub body_alphabets : Looking → (component : ℕ) → SourceBody → List Alphabet
+body_alphabets l k (group_body is) = []
+body_alphabets l k (automaton_body a) = automaton_alphabet l k a ∷ []
+
+-- those of the automata of the rows from component k on
+abbrev pub rows_alphabets : Looking → ℕ → List RowTree → List Alphabet
+rows_alphabets l k [] = []
+rows_alphabets l k (r ∷ rs) = body_alphabets l k r.1 ++ rows_alphabets l (k + 1) rs
 
 -- ---- events outside
 
@@ -70,15 +89,25 @@ or_later None o = o
 or_later (Some at) o = Some at
 
 -- where an edge of the automaton, or else its `monitor`, first names an event outside the alphabet
-abbrev pub automaton_lacks : Naming → (body : ℕ) → AutomatonTree → Option ℕ
-automaton_lacks n k a = or_later (first_failing (is_outside (alphabet_for n k a)) (used_events n k a) (flat_map location_places a.locs))
-    (first_failing (is_outside (alphabet_for n k a)) (monitors_for n k a) (name_places (unwrap_or a.monitor [])))
+abbrev pub automaton_lacks : Looking → (component : ℕ) → AutomatonTree → Option ℕ
+automaton_lacks l k a = or_later (first_failing (is_outside (alphabet_for l k a)) (used_events l k a) (flat_map location_places a.locs))
+    (first_failing (is_outside (alphabet_for l k a)) (monitors_for l k a) (name_places (unwrap_or a.monitor [])))
+
+abbrev pub body_lacks : Looking → (component : ℕ) → SourceBody → Option ℕ
+body_lacks l k (group_body is) = None
+body_lacks l k (automaton_body a) = automaton_lacks l k a
+
+-- where the rows from component k on first name an event outside the alphabet
+abbrev pub rows_lacks : Looking → ℕ → List RowTree → Option ℕ
+rows_lacks l k [] = None
+rows_lacks l k (r ∷ rs) = or_later (body_lacks l k r.1) (rows_lacks l (k + 1) rs)
 
 -- the error tells this place, or that memory ran out
 abbrev pub tells : InstErr → Option ℕ → Type 0
 tells (AlphabetLacks at) o = o ≡ Some at
 tells (TooManyObjects count) o = ⊥
 tells (ConstantRange at) o = ⊥
+tells (TooLarge nodes depth) o = ⊥
 tells Memory o = Unit {0}
 
 -- ---- marks
@@ -88,10 +117,13 @@ abbrev pub marked : (mark : ℕ) → (events marks : List ℕ) → List ℕ
 marked own [] ms = ms
 marked own (e ∷ es) ms = marked own es (slice_set ms e own)
 
+abbrev pub mark_of : List ℕ → ℕ → ℕ
+mark_of ms e = unwrap_or (slice_get ms e) 0
+
 abbrev pub is_unmarked : (mark : ℕ) → (marks : List ℕ) → ℕ → Bool
-is_unmarked own ms e = not (nat_eq (slot_number (Some ms) e) own)
+is_unmarked own ms e = not (nat_eq (mark_of ms e) own)
 
 -- a mark for each event, and none above k
-pub record AreMarks (n : Naming) (k : ℕ) (marks : List ℕ) : Type 0 where
-  pub every : length marks ≡ length (events (source_for n))
+pub record AreMarks (l : Looking) (k : ℕ) (marks : List ℕ) : Type 0 where
+  pub every : length marks ≡ length (events (source_for l))
   pub small : list_all (λ m. nat_le m k) marks ≡ true

@@ -1,10 +1,12 @@
 pub mod Rows
 pub mod Views
-pub mod Objects
 pub mod Events
-pub mod Naming
+pub mod Names
+pub mod Targets
 pub mod Variables
 pub mod Edges
 pub mod Alphabets
+pub mod Measures
+pub mod Outlines
 pub mod Autos
 pub mod Net

@@ -5,13 +5,14 @@ use Rattle.cif_ast.specs.declared.names.Ident.{Ident}
 use Rattle.cif_system.specs.Words.{Member}
 use Rattle.cif_source.specs.Source.{Text, TypeTree, DeclTree, type_decl, enum_decl, event_decl, const_decl, alg_decl, input_decl, disc_decl, equation_decl, invariant_decl, marked_decl, SourceItem, decl_item, component_item, definition_item, instance_item, SourceBody, group_body, automaton_body, Source, no_source, source, source_of}
 use Rattle.cif_source.specs.Components.{Component}
-use Rattle.cif_source.specs.Objects.{bodies, decls_of}
+use Rattle.cif_source.specs.Objects.{components_of, decls_of}
 use Rattle.cif_source.specs.Types.{first_of_type}
 use Rattle.cif_rules.specs.InstanceRules.{ConstantRangeDue}
+use Rattle.cif_components.specs.Numbers.{AreComponentsOf}
 use Rattle.cif_constants.specs.Typed.{IsTyped}
 use Rattle.cif_model.specs.Net.{NetStored}
 use Rattle.cif_image.specs.Types.{net_type}
-use Rattle.cif_inst.specs.Naming.{body_at}
+use Rattle.cif_translate.specs.Looking.{component_of}
 use Rattle.cif_inst.specs.Rows.{RowTree}
 use Rattle.cif_inst.specs.declared.variables.Typing.{Typing}
 
@@ -50,10 +51,10 @@ abbrev pub body_variables : Component → Text → SourceBody → List NetStored
 body_variables c p (group_body is) = items_variables c p is
 body_variables c p (automaton_body a) = decls_variables c p a.decls
 
--- those of the rows from body k on
+-- those of the rows from component k on
 abbrev pub rows_variables : Source → ℕ → List RowTree → List NetStored
 rows_variables t k [] = []
-rows_variables t k (r ∷ rs) = body_variables (body_at t k) r.0 r.1 ++ rows_variables t (k + 1) rs
+rows_variables t k (r ∷ rs) = body_variables (component_of t k) r.0 r.1 ++ rows_variables t (k + 1) rs
 
 -- ---- what types are found in
 
@@ -61,16 +62,17 @@ rows_variables t k (r ∷ rs) = body_variables (body_at t k) r.0 r.1 ++ rows_var
 abbrev pub typed_source : Typing → Source
 typed_source y = source_of y.spec.now
 
-abbrev pub typed_body : Typing → ℕ → Component
-typed_body y k = body_at (typed_source y) k
+abbrev pub typed_component : Typing → ℕ → Component
+typed_component y k = component_of (typed_source y) k
 
--- and the values of constants lie in their ranges
+-- the components are numbered, and the values of constants lie in their ranges
 pub record AreTypesOf (y : Typing) : Type 0 where
+  pub components : AreComponentsOf (typed_source y) y.components.now
   pub typed : IsTyped (typed_source y) y.types.now y.turns
   pub ranges : (at : ℕ) → ConstantRangeDue (typed_source y) at → ⊥
 
--- the declarations stand in body k
+-- the declarations stand in component k
 pub record StandIn (y : Typing) (k : ℕ) (ds : List DeclTree) : Type 0 where
   pub types : AreTypesOf y
-  pub body : k < length (bodies (typed_source y))
-  pub declared : (d : DeclTree) → Member d ds → Member d (decls_of (typed_body y k))
+  pub component : k < length (components_of (typed_source y))
+  pub declared : (d : DeclTree) → Member d ds → Member d (decls_of (typed_component y k))

@@ -3,39 +3,47 @@
 ghost use Rattle.std.specs.Prelude.{◌≡◌, ◌+◌, ◌<◌, ◌++◌, [], None, map, flat_map, length, unwrap_or, IfOk, OnOk};
 ghost use Rattle.std.specs.Result.{IfErr};
 ghost use Rattle.std.specs.List.{position_or_len};
-ghost use Rattle.cif_source.specs.Objects.{bodies};
+ghost use Rattle.cif_source.specs.Objects.{components_of, events as events_of};
 ghost use Rattle.cif_source.specs.Components.{body_of};
 ghost use Rattle.cif_source.specs.Source as source;
+ghost use Rattle.cif_translate.specs.Looking.{AreNamesOf, source_for, component_at};
 ghost use Rattle.cif_inst.specs.Alphabets as alphabets;
-ghost use Rattle.cif_inst.specs.Naming.{AreNamesOf, source_for, component_at};
+ghost use Rattle.cif_inst.specs.Names.{AreBuiltNames};
+ghost use Rattle.cif_inst.specs.Rows.{rows_of};
+ghost use Rattle.cif_inst.specs.Views.{row_tree};
 
 use crate::error::InstErr;
-use crate::naming::{Naming, number_in};
+use crate::rows::Row;
+use crate::used::used_events;
 use cif_ast::{AutoBody, Edge, EventUse, Loc, Name};
 use cif_base::{Items, Memory};
+use cif_scope::{Inside, number};
+use cif_translate::Looking;
 use std::alloc::Global;
 
-/// The events of an alphabet, and those of them that are monitored, in the order of the text and with repetitions.
+/// The events of an alphabet, those of them that are monitored, and those of the edges, in the order of the text and with
+/// repetitions.
 #[derive(Drop)]
 pub struct Alphabet {
     pub events: Items<u32>,
     pub monitors: Items<u32>,
+    pub used: Items<u32>,
 }
 
-/// The events that names in a body denote.
+/// The events that names of a component denote.
 fn events_named(
     alloc: Global,
-    naming: &Naming,
-    body: u32,
+    looking: &Looking<'_, '_>,
+    component: u32,
     names: &[Name],
 ) -> Result<Items<u32>, Memory>
-    requires names { AreNamesOf naming.now }
-    requires body { body < length (bodies (source_for naming.now)) }
-    ensures { IfOk result (λ all. all ≡ alphabets.events_named naming.now body names.now) }
+    requires names { AreNamesOf looking.now }
+    requires component { component < length (components_of (source_for looking.now)) }
+    ensures { IfOk result (λ all. all ≡ alphabets.events_named looking.now component names.now) }
 {
     let mut all = Items::new(alloc);
     for name in names {
-        let event = naming.event(alloc, body, name)?;
+        let event = looking.event(component, name);
         all.push(event)?;
     }
     Ok(all)
@@ -84,17 +92,17 @@ fn use_places(alloc: Global, locs: &[Loc]) -> Result<Items<u32>, Memory>
 /// The declared alphabet, or else the events of the edges.
 fn alphabet_by(
     alloc: Global,
-    naming: &Naming,
-    body: u32,
+    looking: &Looking<'_, '_>,
+    component: u32,
     automaton: &AutoBody,
     used: &Items<u32>,
 ) -> Result<Items<u32>, Memory>
-    requires names { AreNamesOf naming.now }
-    requires body { body < length (bodies (source_for naming.now)) }
-    ensures { IfOk result (λ all. all ≡ alphabets.alphabet_by naming.now body automaton.now.alphabet used.now) }
+    requires names { AreNamesOf looking.now }
+    requires component { component < length (components_of (source_for looking.now)) }
+    ensures { IfOk result (λ all. all ≡ alphabets.alphabet_by looking.now component automaton.now.alphabet used.now) }
 {
     match &automaton.alphabet {
-        Some(names) => events_named(alloc, naming, body, names.as_slice()),
+        Some(names) => events_named(alloc, looking, component, names.as_slice()),
         None => used.copy(alloc),
     }
 }
@@ -102,18 +110,18 @@ fn alphabet_by(
 /// The events that are monitored, which are all of the alphabet where none is named.
 fn monitors_by(
     alloc: Global,
-    naming: &Naming,
-    body: u32,
+    looking: &Looking<'_, '_>,
+    component: u32,
     automaton: &AutoBody,
     events: &Items<u32>,
 ) -> Result<Items<u32>, Memory>
-    requires names { AreNamesOf naming.now }
-    requires body { body < length (bodies (source_for naming.now)) }
-    ensures { IfOk result (λ all. all ≡ alphabets.monitors_by naming.now body automaton.now.monitor events.now) }
+    requires names { AreNamesOf looking.now }
+    requires component { component < length (components_of (source_for looking.now)) }
+    ensures { IfOk result (λ all. all ≡ alphabets.monitors_by looking.now component automaton.now.monitor events.now) }
 {
     match &automaton.monitor {
         Some(names) if names.is_empty() => events.copy(alloc),
-        Some(names) => events_named(alloc, naming, body, names.as_slice()),
+        Some(names) => events_named(alloc, looking, component, names.as_slice()),
         None => Ok(Items::new(alloc)),
     }
 }
@@ -141,12 +149,22 @@ fn give_mark(marks: &mut Items<u32>, mark: u32, events: &[u32])
     }
 }
 
+/// The mark of an event, and 0 past the end.
+fn mark_of(marks: &Items<u32>, event: u32) -> u32
+    ensures { result ≡ alphabets.mark_of marks.now event }
+{
+    match marks.get(event as usize) {
+        Some(mark) => *mark,
+        None => 0,
+    }
+}
+
 /// The place of the first of these events that has another mark, and their number where there is none.
 fn first_unmarked(marks: &Items<u32>, mark: u32, events: &[u32]) -> usize
     ensures { result ≡ position_or_len (alphabets.is_unmarked mark marks.now) events.now }
 {
     for (place, event) in events.iter().enumerate() {
-        if number_in(marks, *event) != mark {
+        if mark_of(marks, *event) != mark {
             return place;
         }
     }
@@ -165,34 +183,64 @@ fn check_marks(marks: &Items<u32>, mark: u32, events: &[u32], places: &[u32]) ->
 }
 
 /// The alphabet of an automaton and what it monitors, or where an event outside the alphabet is named first. `own` is the
-/// number of the automaton's body, and its mark, which no automaton before it has; `used` are the events of its edges.
-pub fn alphabet_of(
+/// number of the automaton's component, and its mark, which no automaton before it has; `used` are the events of its edges.
+fn alphabet_of(
     alloc: Global,
-    naming: &Naming,
+    looking: &Looking<'_, '_>,
     own: (u32, u32),
     automaton: &AutoBody,
-    used: &Items<u32>,
+    used: Items<u32>,
     marks: &mut Items<u32>,
 ) -> Result<Alphabet, InstErr>
-    requires names { AreNamesOf naming.now }
-    requires body { own.0 < length (bodies (source_for naming.now)) }
-    requires written { body_of (component_at naming.now own.0) ≡ source.automaton_body (source.automaton_tree automaton.now) }
+    requires names { AreBuiltNames looking.now }
+    requires component { own.0 < length (components_of (source_for looking.now)) }
+    requires written { body_of (component_at looking.now own.0) ≡ source.automaton_body (source.automaton_tree automaton.now) }
     requires mark { own.1 ≡ own.0 + 1 }
-    requires used { used.now ≡ alphabets.used_events naming.now own.0 (source.automaton_tree automaton.now) }
-    requires before { alphabets.AreMarks naming.now own.0 marks.old }
-    ensures events { IfOk result (λ a. a.events ≡ alphabets.alphabet_for naming.now own.0 (source.automaton_tree automaton.now)) }
-    ensures monitors { IfOk result (λ a. a.monitors ≡ alphabets.monitors_for naming.now own.0 (source.automaton_tree automaton.now)) }
-    ensures within { IfOk result (λ a. alphabets.automaton_lacks naming.now own.0 (source.automaton_tree automaton.now) ≡ None) }
-    ensures told { IfErr result (λ e. alphabets.tells e (alphabets.automaton_lacks naming.now own.0 (source.automaton_tree automaton.now))) }
-    ensures after { OnOk result (alphabets.AreMarks naming.now own.1 marks.new) }
+    requires used { used ≡ alphabets.used_events looking.now own.0 (source.automaton_tree automaton.now) }
+    requires before { alphabets.AreMarks looking.now own.0 marks.old }
+    ensures found { IfOk result (λ a. a ≡ alphabets.automaton_alphabet looking.now own.0 (source.automaton_tree automaton.now)) }
+    ensures within { IfOk result (λ a. alphabets.automaton_lacks looking.now own.0 (source.automaton_tree automaton.now) ≡ None) }
+    ensures told { IfErr result (λ e. alphabets.tells e (alphabets.automaton_lacks looking.now own.0 (source.automaton_tree automaton.now))) }
+    ensures after { OnOk result (alphabets.AreMarks looking.now own.1 marks.new) }
 {
-    let (body, mark) = own;
-    let events = alphabet_by(alloc, naming, body, automaton, used)?;
+    let (component, mark) = own;
+    let events = alphabet_by(alloc, looking, component, automaton, &used)?;
     give_mark(marks, mark, events.as_slice());
     let places = use_places(alloc, automaton.locs.as_slice())?;
     check_marks(marks, mark, used.as_slice(), places.as_slice())?;
-    let monitors = monitors_by(alloc, naming, body, automaton, &events)?;
+    let monitors = monitors_by(alloc, looking, component, automaton, &events)?;
     let places = monitor_places(alloc, automaton)?;
     check_marks(marks, mark, monitors.as_slice(), places.as_slice())?;
-    Ok(Alphabet { events, monitors })
+    Ok(Alphabet {
+        events,
+        monitors,
+        used,
+    })
+}
+
+/// The alphabets of the automata among these components, or where an event outside one is named first. Each event has the mark
+/// of the last automaton that has it in its alphabet, so none is searched for.
+pub fn all_alphabets(
+    alloc: Global,
+    looking: &Looking<'_, '_>,
+    rows: &[Row],
+    events: usize,
+) -> Result<Items<Alphabet>, InstErr>
+    requires names { AreBuiltNames looking.now }
+    requires rows { map row_tree rows.now ≡ rows_of (source_for looking.now) }
+    requires events { events ≡ length (events_of (source_for looking.now)) }
+    ensures found { IfOk result (λ all. all ≡ alphabets.rows_alphabets looking.now 0 (map row_tree rows.now)) }
+    ensures within { IfOk result (λ all. alphabets.rows_lacks looking.now 0 (map row_tree rows.now) ≡ None) }
+    ensures told { IfErr result (λ e. alphabets.tells e (alphabets.rows_lacks looking.now 0 (map row_tree rows.now))) }
+{
+    let mut marks = Items::filled(alloc, 0, events)?;
+    let mut all = Items::new(alloc);
+    for (place, row) in rows.iter().enumerate() {
+        if let Inside::Automaton(body) = row.inside {
+            let own = (number(place)?, number(place + 1)?);
+            let used = used_events(alloc, looking, own.0, body.locs.as_slice())?;
+            all.push(alphabet_of(alloc, looking, own, body, used, &mut marks)?)?;
+        }
+    }
+    Ok(all)
 }

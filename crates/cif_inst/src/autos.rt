@@ -1,30 +1,25 @@
 //! The automata of a net.
 
-ghost use Rattle.std.specs.Prelude.{◌≡◌, ◌+◌, ◌<◌, None, map, length, IfOk, OnOk};
+ghost use Rattle.std.specs.Prelude.{◌≡◌, ◌<◌, map, length, IfOk};
 ghost use Rattle.std.specs.List.{position_or_len};
-ghost use Rattle.std.specs.Result.{IfErr};
-ghost use Rattle.cif_source.specs.Components.{body_of};
-ghost use Rattle.cif_source.specs.Objects as objects;
-ghost use Rattle.cif_source.specs.Objects.{bodies};
+ghost use Rattle.cif_source.specs.Objects.{components_of};
 ghost use Rattle.cif_source.specs.Source as source;
 ghost use Rattle.cif_image.specs.Flat.{location_name};
 ghost use Rattle.cif_net.specs.View.{auto_tree};
-ghost use Rattle.cif_net.specs.declared.automata.NetEdge.{NetEdge as DeclaredEdge};
+ghost use Rattle.cif_translate.specs.Looking.{AreNamesOf, source_for};
 ghost use Rattle.cif_inst.specs.Autos as autos;
-ghost use Rattle.cif_inst.specs.Alphabets.{automaton_lacks, tells, AreMarks};
-ghost use Rattle.cif_inst.specs.Naming.{AreNamesOf, source_for, component_at};
+ghost use Rattle.cif_inst.specs.Alphabets.{automaton_alphabet, rows_alphabets};
 ghost use Rattle.cif_inst.specs.Rows.{rows_of};
 ghost use Rattle.cif_inst.specs.Views.{row_tree};
 
-use crate::alphabets::{Alphabet, alphabet_of};
+use crate::alphabets::Alphabet;
 use crate::edges::all_edges;
-use crate::error::InstErr;
-use crate::naming::Naming;
-use crate::rows::{Row, RowBody};
+use crate::rows::Row;
 use cif_ast::{AutoBody, Loc};
 use cif_base::{Items, Memory, Text};
-use cif_net::{Auto, NetEdge};
-use cif_scope::number;
+use cif_net::Auto;
+use cif_scope::{Inside, number};
+use cif_translate::Looking;
 use std::alloc::Global;
 
 /// The name of a location, empty for one without a name.
@@ -59,17 +54,6 @@ fn first_place(locs: &[Loc]) -> usize
     locs.len()
 }
 
-/// The events of edges.
-fn edge_events(alloc: Global, edges: &[NetEdge]) -> Result<Items<u32>, Memory>
-    ensures { IfOk result (λ all. all ≡ map (λ (e : DeclaredEdge). e.event) edges.now) }
-{
-    let mut all = Items::new(alloc);
-    for edge in edges {
-        all.push(edge.event)?;
-    }
-    Ok(all)
-}
-
 /// The path of the component whose inner names have this prefix.
 fn own_path(alloc: Global, prefix: &Text) -> Result<Text, Memory>
     ensures { IfOk result (λ path. path ≡ autos.without_dot prefix.now) }
@@ -79,61 +63,49 @@ fn own_path(alloc: Global, prefix: &Text) -> Result<Text, Memory>
     Ok(path)
 }
 
-/// An automaton of the net, or where an event outside its alphabet is named first. `own` is the number of the automaton's
-/// body, and its mark, which no automaton before it has.
+/// An automaton of the net, with its alphabet.
 fn automaton(
     alloc: Global,
-    naming: &Naming,
-    own: (u32, u32),
+    looking: &Looking<'_, '_>,
+    component: u32,
     prefix: &Text,
     automaton: &AutoBody,
-    marks: &mut Items<u32>,
-) -> Result<Auto, InstErr>
-    requires names { AreNamesOf naming.now }
-    requires body { own.0 < length (bodies (source_for naming.now)) }
-    requires written { body_of (component_at naming.now own.0) ≡ source.automaton_body (source.automaton_tree automaton.now) }
-    requires mark { own.1 ≡ own.0 + 1 }
-    requires before { AreMarks naming.now own.0 marks.old }
-    ensures made { IfOk result (λ a. auto_tree a ≡ autos.auto_for naming.now own.0 prefix.now (source.automaton_tree automaton.now)) }
-    ensures within { IfOk result (λ a. automaton_lacks naming.now own.0 (source.automaton_tree automaton.now) ≡ None) }
-    ensures told { IfErr result (λ e. tells e (automaton_lacks naming.now own.0 (source.automaton_tree automaton.now))) }
-    ensures after { OnOk result (AreMarks naming.now own.1 marks.new) }
+    alphabet: &Alphabet,
+) -> Result<Auto, Memory>
+    requires names { AreNamesOf looking.now }
+    requires component { component < length (components_of (source_for looking.now)) }
+    requires alphabet { alphabet.now ≡ automaton_alphabet looking.now component (source.automaton_tree automaton.now) }
+    ensures { IfOk result (λ a. auto_tree a ≡ autos.auto_for looking.now component prefix.now (source.automaton_tree automaton.now)) }
 {
     let locs = automaton.locs.as_slice();
-    let edges = all_edges(alloc, naming, own.0, locs)?;
-    let used = edge_events(alloc, edges.as_slice())?;
-    let Alphabet { events, monitors } = alphabet_of(alloc, naming, own, automaton, &used, marks)?;
     Ok(Auto {
         path: own_path(alloc, prefix)?,
         locs: location_names(alloc, locs)?,
         first: number(first_place(locs))?,
-        alphabet: events,
-        monitors,
-        edges,
+        alphabet: alphabet.events.copy(alloc)?,
+        monitors: alphabet.monitors.copy(alloc)?,
+        edges: all_edges(alloc, looking, component, locs)?,
     })
 }
 
-/// The automata among these components, or where an event outside the alphabet of one is named first. Each event has the mark
-/// of the last automaton that has it in its alphabet, so none is searched for.
+/// The automata among these components, with their alphabets.
 pub fn all_autos(
     alloc: Global,
-    naming: &Naming,
+    looking: &Looking<'_, '_>,
     rows: &[Row],
-    events: usize,
-) -> Result<Items<Auto>, InstErr>
-    requires names { AreNamesOf naming.now }
-    requires rows { map row_tree rows.now ≡ rows_of (source_for naming.now) }
-    requires events { events ≡ length (objects.events (source_for naming.now)) }
-    ensures made { IfOk result (λ all. map auto_tree all ≡ autos.rows_autos naming.now 0 (map row_tree rows.now)) }
-    ensures within { IfOk result (λ all. autos.rows_lacks naming.now 0 (map row_tree rows.now) ≡ None) }
-    ensures told { IfErr result (λ e. tells e (autos.rows_lacks naming.now 0 (map row_tree rows.now))) }
+    alphabets: &[Alphabet],
+) -> Result<Items<Auto>, Memory>
+    requires names { AreNamesOf looking.now }
+    requires rows { map row_tree rows.now ≡ rows_of (source_for looking.now) }
+    requires alphabets { alphabets.now ≡ rows_alphabets looking.now 0 (map row_tree rows.now) }
+    ensures { IfOk result (λ all. map auto_tree all ≡ autos.rows_autos looking.now 0 (map row_tree rows.now)) }
 {
-    let mut marks = Items::filled(alloc, 0, events)?;
     let mut all = Items::new(alloc);
     for (place, row) in rows.iter().enumerate() {
-        if let RowBody::Auto(body) = row.body {
-            let own = (number(place)?, number(place + 1)?);
-            all.push(automaton(alloc, naming, own, &row.prefix, body, &mut marks)?)?;
+        if let Inside::Automaton(body) = row.inside {
+            let alphabet = &alphabets[all.len()];
+            let component = number(place)?;
+            all.push(automaton(alloc, looking, component, &row.prefix, body, alphabet)?)?;
         }
     }
     Ok(all)

@@ -1,10 +1,11 @@
 //! Why a source has no net.
 
 ghost use Rattle.std.specs.Prelude.{◌≡◌};
-ghost use Rattle.cif_inst.specs.Net.{of_constants};
+ghost use Rattle.cif_inst.specs.Net.{of_components, of_constants};
 ghost use Rattle.cif_inst.specs.declared.error.InstErr.TheVariants.{Memory as no_memory};
 
 use cif_base::Memory;
+use cif_components::ComponentsErr;
 use cif_constants::ConstErr;
 
 /// Why a source has no net, with the byte where that is, counted from 0, or that memory ran out.
@@ -18,6 +19,9 @@ pub enum InstErr {
     /// value leaves 64 bits or a divisor is 0; or its value leaves its declared range; or a bound there leaves 32 bits; or the
     /// lower bound there exceeds the upper one.
     ConstantRange { at: u32 },
+    /// With arguments in the place of their parameters, the choices of the net have more than 1,000,000 nodes, or an expression
+    /// is deeper than 100. Each count stops one past its limit.
+    TooLarge { nodes: u32, depth: u32 },
     Memory,
 }
 
@@ -26,6 +30,17 @@ impl From<Memory> for InstErr {
 
     fn from(_error: Memory) -> InstErr {
         InstErr::Memory
+    }
+}
+
+impl From<ComponentsErr> for InstErr {
+    ghost from_gives = { λ c e. e ≡ of_components c };
+
+    fn from(error: ComponentsErr) -> InstErr {
+        match error {
+            ComponentsErr::TooManyObjects { count } => InstErr::TooManyObjects { count },
+            ComponentsErr::Memory => InstErr::Memory,
+        }
     }
 }
 

@@ -1,80 +1,107 @@
 //! Making the net of a source.
 
-ghost use Rattle.std.specs.Prelude.{◌≡◌, ◌≤◌, ℕ, true, map, IfOk};
+ghost use Rattle.std.specs.Prelude.{◌≡◌, ℕ, true, map, IfOk};
 ghost use Rattle.std.specs.Result.{IfErr};
 ghost use Rattle.cif_ast.specs.Countable.{IsCountable};
 ghost use Rattle.cif_ast.specs.SmallNumbers.{HasSmallNumbers};
 ghost use Rattle.cif_source.specs.Source.{source_of};
-ghost use Rattle.cif_source.specs.Objects.{most_objects};
-ghost use Rattle.cif_rules.specs.InstanceRules.{ConstantRangeDue};
+ghost use Rattle.cif_rules.specs.InstanceRules.{ConstantRangeDue, TooManyObjectsDue};
 ghost use Rattle.cif_scope.specs.Scopes.{AreScopesOf};
 ghost use Rattle.cif_constants.specs.Constants.{HasValues};
 ghost use Rattle.cif_types.specs.Kinds.{KeepsKinds, AreKindsOf};
-ghost use Rattle.cif_net.specs.View.{net_tree};
+ghost use Rattle.cif_net.specs.View.{net_tree, event_tree};
 ghost use Rattle.cif_image.specs.Built.{is_built};
 ghost use Rattle.cif_image.specs.Represents.{Represents};
+ghost use Rattle.cif_translate.specs.Looking.{AreNamesOf, source_for};
+ghost use Rattle.cif_inst.specs.Alphabets.{rows_alphabets};
+ghost use Rattle.cif_inst.specs.Events.{rows_events};
 ghost use Rattle.cif_inst.specs.Net.{due, KeepsInstances};
-ghost use Rattle.cif_inst.specs.Objects.{rows_count};
 ghost use Rattle.cif_inst.specs.Rows.{rows_of};
 ghost use Rattle.cif_inst.specs.Views.{row_tree};
 
+use crate::alphabets::{Alphabet, all_alphabets};
 use crate::autos::all_autos;
 use crate::error::InstErr;
-use crate::events::{Events, all_events};
-use crate::naming::Naming;
-use crate::objects::{TOO_MANY, count_objects};
+use crate::events::all_events;
+use crate::measures::all_measures;
 use crate::rows::{Row, all_rows};
+use crate::sizes::check_sizes;
 use crate::variables::variables_of;
+use cif_alg::outlines_have_the_nodes_of_their_net;
 use cif_ast::Spec;
 use cif_base::Items;
+use cif_components::number_components;
 use cif_constants::{Constants, check_constants};
-use cif_net::Net;
+use cif_net::{Event, Net};
 use cif_nets::{nets_of_sources_are_nets, nets_represent_their_sources};
-use cif_objects::objects_of;
+use cif_numbers::number_objects;
+use cif_parameters::parameters;
 use cif_scope::Scopes;
 use cif_small::{counted_trees_have_small_parts, trees_have_small_arguments};
+use cif_translate::Looking;
 use cif_types::Kinds;
+use cif_values::values_of;
 use std::alloc::Global;
 
-/// The net of a source with these components and values of constants, or where an event outside an alphabet is named.
-fn net_of_constants(
+/// The alphabets of a source whose net is small enough to be made, or where an event outside one is named, or how large the net is.
+/// The rule on alphabets is asked first.
+fn alphabets_of(
     alloc: Global,
-    spec: &Spec,
-    scopes: &Scopes,
+    looking: &Looking<'_, '_>,
     rows: &[Row],
-    constants: &Constants,
-) -> Result<Net, InstErr>
-    requires scopes { AreScopesOf (source_of spec.now) scopes.now }
-    requires kinds { KeepsKinds (source_of spec.now) }
-    requires forms { is_built (source_of spec.now) ≡ true }
-    requires countable { IsCountable spec.now }
-    requires small { HasSmallNumbers spec.now }
-    requires rows { map row_tree rows.now ≡ rows_of (source_of spec.now) }
-    requires few { rows_count (map row_tree rows.now) ≤ most_objects }
-    requires values { HasValues (source_of spec.now) scopes.now constants.now.numbers constants.now.values }
-    requires ranges { (at : ℕ) → ConstantRangeDue (source_of spec.now) at → ⊥ }
-    ensures represents { IfOk result (λ n. Represents (net_tree n) (source_of spec.now)) }
-    ensures none { IfOk result (λ n. KeepsInstances (source_of spec.now)) }
-    ensures refused { IfErr result (λ e. due (source_of spec.now) e) }
+    events: &[Event],
+) -> Result<Items<Alphabet>, InstErr>
+    requires names { AreNamesOf looking.now }
+    requires kinds { KeepsKinds (source_for looking.now) }
+    requires forms { is_built (source_for looking.now) ≡ true }
+    requires countable { IsCountable looking.now.spec.now }
+    requires small { HasSmallNumbers looking.now.spec.now }
+    requires few { (count : ℕ) → TooManyObjectsDue (source_for looking.now) count → ⊥ }
+    requires ranges { (at : ℕ) → ConstantRangeDue (source_for looking.now) at → ⊥ }
+    requires rows { map row_tree rows.now ≡ rows_of (source_for looking.now) }
+    requires events { map event_tree events.now ≡ rows_events (map row_tree rows.now) }
+    ensures found { IfOk result (λ all. all ≡ rows_alphabets looking.now 0 (map row_tree rows.now)) }
+    ensures none { IfOk result (λ all. KeepsInstances (source_for looking.now)) }
+    ensures refused { IfErr result (λ e. due (source_for looking.now) e) }
 {
-    let Events { all, numbers } = all_events(alloc, rows)?;
-    let events = all.len();
-    let objects = objects_of(alloc, spec, scopes, constants)?;
-    let naming = Naming {
-        spec,
-        scopes,
-        numbers: numbers.as_slice(),
-        objects: objects.as_slice(),
-    };
-    let autos = all_autos(alloc, &naming, rows, events)?;
-    let vars = variables_of(alloc, spec, scopes, rows, constants)?;
+    let count = looking.numbers.total().events as usize;
+    let alphabets = all_alphabets(alloc, looking, rows, count)?;
+    let measures = all_measures(alloc, looking, rows)?;
+    counted_trees_have_small_parts();
+    trees_have_small_arguments();
+    nets_of_sources_are_nets();
+    outlines_have_the_nodes_of_their_net();
+    check_sizes(alloc, alphabets.as_slice(), events, measures.as_slice())?;
+    Ok(alphabets)
+}
+
+/// The net of a source whose constants have these values, or where an event outside an alphabet is named, or how large the net is.
+fn net_of(alloc: Global, looking: &Looking<'_, '_>, constants: &Constants) -> Result<Net, InstErr>
+    requires names { AreNamesOf looking.now }
+    requires kinds { KeepsKinds (source_for looking.now) }
+    requires forms { is_built (source_for looking.now) ≡ true }
+    requires countable { IsCountable looking.now.spec.now }
+    requires small { HasSmallNumbers looking.now.spec.now }
+    requires few { (count : ℕ) → TooManyObjectsDue (source_for looking.now) count → ⊥ }
+    requires values { HasValues (source_for looking.now) looking.now.scopes.now constants.now.numbers constants.now.values }
+    requires ranges { (at : ℕ) → ConstantRangeDue (source_for looking.now) at → ⊥ }
+    ensures represents { IfOk result (λ n. Represents (net_tree n) (source_for looking.now)) }
+    ensures none { IfOk result (λ n. KeepsInstances (source_for looking.now)) }
+    ensures refused { IfErr result (λ e. due (source_for looking.now) e) }
+{
+    let components = all_rows(alloc, looking.spec, looking.scopes, looking.components)?;
+    let rows = components.as_slice();
+    let events = all_events(alloc, rows)?;
+    let alphabets = alphabets_of(alloc, looking, rows, events.as_slice())?;
+    let autos = all_autos(alloc, looking, rows, alphabets.as_slice())?;
+    let vars = variables_of(alloc, looking, rows, constants)?;
     counted_trees_have_small_parts();
     trees_have_small_arguments();
     nets_of_sources_are_nets();
     nets_represent_their_sources();
     Ok(Net {
         autos,
-        events: all,
+        events,
         inputs: Items::new(alloc),
         vars,
         algs: Items::new(alloc),
@@ -83,25 +110,7 @@ fn net_of_constants(
     })
 }
 
-/// The net of a source with these components, or the rule on alphabets or constants that it breaks.
-fn net_of_rows(alloc: Global, spec: &Spec, scopes: &Scopes, rows: &[Row]) -> Result<Net, InstErr>
-    requires scopes { AreScopesOf (source_of spec.now) scopes.now }
-    requires kinds { KeepsKinds (source_of spec.now) }
-    requires forms { is_built (source_of spec.now) ≡ true }
-    requires countable { IsCountable spec.now }
-    requires small { HasSmallNumbers spec.now }
-    requires rows { map row_tree rows.now ≡ rows_of (source_of spec.now) }
-    requires few { rows_count (map row_tree rows.now) ≤ most_objects }
-    ensures represents { IfOk result (λ n. Represents (net_tree n) (source_of spec.now)) }
-    ensures none { IfOk result (λ n. KeepsInstances (source_of spec.now)) }
-    ensures refused { IfErr result (λ e. due (source_of spec.now) e) }
-{
-    let constants = check_constants(alloc, spec, scopes)?;
-    net_of_constants(alloc, spec, scopes, rows, &constants)
-}
-
 /// The net of a source of the forms that are built so far, or the rule on instances that it breaks.
-#[tactic(auto, using(crate::proofs::NetLaws::few_rows, crate::proofs::NetLaws::too_many))]
 pub fn instantiate(
     alloc: Global,
     spec: &Spec,
@@ -117,12 +126,18 @@ pub fn instantiate(
     ensures none { IfOk result (λ n. KeepsInstances (source_of spec.now)) }
     ensures refused { IfErr result (λ e. due (source_of spec.now) e) }
 {
-    let rows = all_rows(alloc, spec)?;
-    let count = count_objects(rows.as_slice());
-    if count >= TOO_MANY {
-        return Err(InstErr::TooManyObjects {
-            count: TOO_MANY as u32,
-        });
-    }
-    net_of_rows(alloc, spec, scopes, rows.as_slice())
+    let components = number_components(alloc, spec, scopes)?;
+    let constants = check_constants(alloc, spec, scopes, &components)?;
+    let numbers = number_objects(alloc, spec, scopes, &components)?;
+    let values = values_of(alloc, spec, scopes, &components, &constants)?;
+    let given = parameters(alloc, spec, scopes, &components)?;
+    let looking = Looking {
+        spec,
+        scopes,
+        components: &components,
+        numbers: &numbers,
+        values: values.as_slice(),
+        given: given.as_slice(),
+    };
+    net_of(alloc, &looking, &constants)
 }

@@ -1,5 +1,6 @@
-//! The flat net of a CIF source: names are numbers there, and every component has its path (CIF 3 language reference,
-//! "Groups", "Automata", "Synchronization", "Discrete variables").
+//! The flat net of a CIF source: names are numbers there, and every component has its path, an instance of a definition as well as
+//! one that is written where it stands (CIF 3 language reference, "Groups", "Automata", "Component definition and
+//! instantiation", "Synchronization", "Discrete variables").
 #![tactic(auto)]
 
 mod alphabets;
@@ -8,9 +9,12 @@ mod edges;
 mod error;
 mod events;
 mod instantiating;
-mod naming;
-mod objects;
+mod measures;
+mod outlines;
 mod rows;
+mod sizes;
+mod targets;
+mod used;
 mod variables;
 
 pub use error::InstErr;

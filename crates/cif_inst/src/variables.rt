@@ -1,49 +1,55 @@
 //! The discrete variables of all components, with their types and first values (CIF 3 language reference, "Discrete
 //! variables").
 
-ghost use Rattle.std.specs.Prelude.{◌≡◌, ℕ, true, ◌∷◌, ◌++◌, [], map, flat_map, option_map, IfOk, OnOk};
+ghost use Rattle.std.specs.Prelude.{◌≡◌, ℕ, ◌∷◌, ◌++◌, [], map, flat_map, option_map, IfOk, OnOk};
 ghost use Rattle.cif_ast.specs.View.{view, view_item, view_items};
-ghost use Rattle.cif_source.specs.Source.{source_of, type_tree, disc_decl, decl_tree, source_item, source_items, list_of_items};
+ghost use Rattle.cif_source.specs.Source.{type_tree, disc_decl, decl_tree, source_item, source_items, list_of_items};
 ghost use Rattle.cif_source.specs.Objects.{decls_in, item_decls};
+ghost use Rattle.cif_rules.specs.BodyRules.{NotConstantDue};
 ghost use Rattle.cif_rules.specs.InstanceRules.{ConstantRangeDue};
-ghost use Rattle.cif_scope.specs.Scopes.{AreNumbered};
-ghost use Rattle.cif_constants.specs.Constants.{IsFlat, HasValues};
+ghost use Rattle.cif_scope.specs.Written.{inside_of};
+ghost use Rattle.cif_constants.specs.Constants.{HasValues};
 ghost use Rattle.cif_net.specs.View.{var_tree};
-ghost use Rattle.cif_image.specs.Built.{is_built};
+ghost use Rattle.cif_translate.specs.Looking.{AreNamesOf, source_for};
 ghost use Rattle.cif_inst.specs.Rows.{rows_of};
 ghost use Rattle.cif_inst.specs.Variables as variables;
-ghost use Rattle.cif_inst.specs.Views.{row_tree, row_body};
+ghost use Rattle.cif_inst.specs.Views.{row_tree};
 
-use crate::rows::{Row, RowBody};
+use crate::rows::{Row, body_number};
 use cif_ast::{Decl, Expr, Ident, Item, Spec, TypeUse};
 use cif_base::{Items, Memory, Text};
+use cif_components::Components;
 use cif_constants::{Constants, Types, declarations, turns};
 use cif_net::Var;
-use cif_objects::{first_value, type_of};
-use cif_scope::{Scopes, number};
+use cif_scope::{Inside, number};
+use cif_translate::Looking;
+use cif_values::{first_value, type_of};
 use std::alloc::Global;
 
-/// What the types of a source are found in. `turns` is one more than the source has declarations.
+/// What the types of a source are found in. `turns` is one more than the
+/// components of the source have declarations.
 #[derive(Clone, Copy)]
 pub struct Typing<'a> {
     pub spec: &'a Spec,
+    pub components: &'a Components,
     pub types: &'a Types<'a>,
     pub turns: usize,
 }
 
-/// The variable that a body declares with this name, type and first value.
+/// The variable that a component declares with this name, type and first value.
 fn variable(
     alloc: Global,
     typing: &Typing,
-    body: u32,
+    component: u32,
     prefix: &Text,
     name: &Ident,
     ty: &TypeUse,
     value: &Option<Expr>,
 ) -> Result<Var, Memory>
-    requires { variables.StandIn typing.now body (disc_decl (type_tree ty.now) name.now (option_map view value.now) ∷ []) }
-    ensures { IfOk result (λ v. var_tree v ≡ variables.variable (variables.typed_body typing.now body) prefix.now name.now (type_tree ty.now) (option_map view value.now)) }
+    requires { variables.StandIn typing.now component (disc_decl (type_tree ty.now) name.now (option_map view value.now) ∷ []) }
+    ensures { IfOk result (λ v. var_tree v ≡ variables.variable (variables.typed_component typing.now component) prefix.now name.now (type_tree ty.now) (option_map view value.now)) }
 {
+    let body = body_number(typing.components, component);
     let found = type_of(alloc, typing.types, typing.turns, body, ty)?;
     let first = first_value(typing.types, typing.turns, body, ty, value)?;
     let mut path = prefix.copy(alloc)?;
@@ -60,17 +66,17 @@ fn variable(
 fn add_decl(
     alloc: Global,
     typing: &Typing,
-    body: u32,
+    component: u32,
     prefix: &Text,
     decl: &Decl,
     all: &mut Items<Var>,
 ) -> Result<(), Memory>
-    requires { variables.StandIn typing.now body (decl_tree decl.now ∷ []) }
-    ensures { OnOk result (map var_tree all.new ≡ map var_tree all.old ++ variables.decl_variables (variables.typed_body typing.now body) prefix.now (decl_tree decl.now)) }
+    requires { variables.StandIn typing.now component (decl_tree decl.now ∷ []) }
+    ensures { OnOk result (map var_tree all.new ≡ map var_tree all.old ++ variables.decl_variables (variables.typed_component typing.now component) prefix.now (decl_tree decl.now)) }
 {
     match decl {
         Decl::Disc { ty, name, value } => {
-            let made = variable(alloc, typing, body, prefix, name, ty, value)?;
+            let made = variable(alloc, typing, component, prefix, name, ty, value)?;
             all.push(made)
         }
         Decl::TypeName { .. }
@@ -88,16 +94,16 @@ fn add_decl(
 fn add_decls(
     alloc: Global,
     typing: &Typing,
-    body: u32,
+    component: u32,
     prefix: &Text,
     decls: &[Decl],
     all: &mut Items<Var>,
 ) -> Result<(), Memory>
-    requires { variables.StandIn typing.now body (map decl_tree decls.now) }
-    ensures { OnOk result (map var_tree all.new ≡ map var_tree all.old ++ variables.decls_variables (variables.typed_body typing.now body) prefix.now (map decl_tree decls.now)) }
+    requires { variables.StandIn typing.now component (map decl_tree decls.now) }
+    ensures { OnOk result (map var_tree all.new ≡ map var_tree all.old ++ variables.decls_variables (variables.typed_component typing.now component) prefix.now (map decl_tree decls.now)) }
 {
     for decl in decls {
-        add_decl(alloc, typing, body, prefix, decl, all)?;
+        add_decl(alloc, typing, component, prefix, decl, all)?;
     }
     Ok(())
 }
@@ -105,16 +111,16 @@ fn add_decls(
 fn add_item(
     alloc: Global,
     typing: &Typing,
-    body: u32,
+    component: u32,
     prefix: &Text,
     item: &Item,
     all: &mut Items<Var>,
 ) -> Result<(), Memory>
-    requires { variables.StandIn typing.now body (item_decls (source_item (view_item item.now))) }
-    ensures { OnOk result (map var_tree all.new ≡ map var_tree all.old ++ variables.item_variables (variables.typed_body typing.now body) prefix.now (source_item (view_item item.now))) }
+    requires { variables.StandIn typing.now component (item_decls (source_item (view_item item.now))) }
+    ensures { OnOk result (map var_tree all.new ≡ map var_tree all.old ++ variables.item_variables (variables.typed_component typing.now component) prefix.now (source_item (view_item item.now))) }
 {
     match item {
-        Item::Decl(decl) => add_decl(alloc, typing, body, prefix, decl, all),
+        Item::Decl(decl) => add_decl(alloc, typing, component, prefix, decl, all),
         Item::Comp(_) | Item::Def(_) | Item::Inst(_) => Ok(()),
     }
 }
@@ -122,16 +128,16 @@ fn add_item(
 fn add_items(
     alloc: Global,
     typing: &Typing,
-    body: u32,
+    component: u32,
     prefix: &Text,
     items: &[Item],
     all: &mut Items<Var>,
 ) -> Result<(), Memory>
-    requires { variables.StandIn typing.now body (flat_map item_decls (list_of_items (source_items (view_items items.now)))) }
-    ensures { OnOk result (map var_tree all.new ≡ map var_tree all.old ++ variables.items_variables (variables.typed_body typing.now body) prefix.now (source_items (view_items items.now))) }
+    requires { variables.StandIn typing.now component (flat_map item_decls (list_of_items (source_items (view_items items.now)))) }
+    ensures { OnOk result (map var_tree all.new ≡ map var_tree all.old ++ variables.items_variables (variables.typed_component typing.now component) prefix.now (source_items (view_items items.now))) }
 {
     for item in items {
-        add_item(alloc, typing, body, prefix, item, all)?;
+        add_item(alloc, typing, component, prefix, item, all)?;
     }
     Ok(())
 }
@@ -140,18 +146,18 @@ fn add_items(
 fn add_row(
     alloc: Global,
     typing: &Typing,
-    body: u32,
+    component: u32,
     row: &Row,
     all: &mut Items<Var>,
 ) -> Result<(), Memory>
-    requires { variables.StandIn typing.now body (decls_in (row_body row.now.body)) }
-    ensures { OnOk result (map var_tree all.new ≡ map var_tree all.old ++ variables.body_variables (variables.typed_body typing.now body) row.now.prefix (row_body row.now.body)) }
+    requires { variables.StandIn typing.now component (decls_in (inside_of row.now.inside)) }
+    ensures { OnOk result (map var_tree all.new ≡ map var_tree all.old ++ variables.body_variables (variables.typed_component typing.now component) row.now.prefix (inside_of row.now.inside)) }
 {
-    match row.body {
-        RowBody::Group(items) => add_items(alloc, typing, body, &row.prefix, items, all),
-        RowBody::Auto(automaton) => {
+    match row.inside {
+        Inside::Group(items) => add_items(alloc, typing, component, &row.prefix, items, all),
+        Inside::Automaton(automaton) => {
             let decls = automaton.decls.as_slice();
-            add_decls(alloc, typing, body, &row.prefix, decls, all)
+            add_decls(alloc, typing, component, &row.prefix, decls, all)
         }
     }
 }
@@ -159,7 +165,6 @@ fn add_row(
 /// The variables of these components.
 fn all_variables(alloc: Global, typing: &Typing, rows: &[Row]) -> Result<Items<Var>, Memory>
     requires types { variables.AreTypesOf typing.now }
-    requires forms { is_built (variables.typed_source typing.now) ≡ true }
     requires rows { map row_tree rows.now ≡ rows_of (variables.typed_source typing.now) }
     ensures { IfOk result (λ all. map var_tree all ≡ variables.rows_variables (variables.typed_source typing.now) 0 (map row_tree rows.now)) }
 {
@@ -173,29 +178,28 @@ fn all_variables(alloc: Global, typing: &Typing, rows: &[Row]) -> Result<Items<V
 /// The variables of a source with these components and values of constants.
 pub fn variables_of(
     alloc: Global,
-    spec: &Spec,
-    scopes: &Scopes,
+    looking: &Looking<'_, '_>,
     rows: &[Row],
     constants: &Constants,
 ) -> Result<Items<Var>, Memory>
-    requires numbers { AreNumbered (source_of spec.now) scopes.now }
-    requires flat { IsFlat (source_of spec.now) }
-    requires values { HasValues (source_of spec.now) scopes.now constants.now.numbers constants.now.values }
-    requires ranges { (at : ℕ) → ConstantRangeDue (source_of spec.now) at → ⊥ }
-    requires forms { is_built (source_of spec.now) ≡ true }
-    requires rows { map row_tree rows.now ≡ rows_of (source_of spec.now) }
-    ensures { IfOk result (λ all. map var_tree all ≡ variables.rows_variables (source_of spec.now) 0 (map row_tree rows.now)) }
+    requires names { AreNamesOf looking.now }
+    requires constancy { (at : ℕ) → NotConstantDue (source_for looking.now) at → ⊥ }
+    requires values { HasValues (source_for looking.now) looking.now.scopes.now constants.now.numbers constants.now.values }
+    requires ranges { (at : ℕ) → ConstantRangeDue (source_for looking.now) at → ⊥ }
+    requires rows { map row_tree rows.now ≡ rows_of (source_for looking.now) }
+    ensures { IfOk result (λ all. map var_tree all ≡ variables.rows_variables (source_for looking.now) 0 (map row_tree rows.now)) }
 {
-    let declared = declarations(alloc, spec)?;
+    let declared = declarations(alloc, looking.spec)?;
     let types = Types {
-        scopes,
+        scopes: looking.scopes,
         constants,
         rows: declared.as_slice(),
     };
     let typing = Typing {
-        spec,
+        spec: looking.spec,
+        components: looking.components,
         types: &types,
-        turns: turns(alloc, spec)?,
+        turns: turns(alloc, looking.spec, looking.components)?,
     };
     all_variables(alloc, &typing, rows)
 }

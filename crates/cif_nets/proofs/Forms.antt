@@ -8,7 +8,7 @@ use Rattle.cif_source.specs.Source.{syncs, UseTree, EdgeTree, LocationTree, Sour
 use Rattle.cif_source.specs.Components.{Component, body_of}
 use Rattle.cif_source.specs.Objects.{components_of, locs_of, automata, is_automaton, EventEdge, event_edges}
 use Rattle.cif_rules.specs.BodyRules.{edges_of}
-use Rattle.cif_image.proofs.FormLaws.{edge-stands, enumerated}
+use Rattle.cif_image.proofs.StandingLaws.{edge-stands, enumerated}
 use Rattle.cif_fits.proofs.FormLaws.{use-syncs}
 use Rattle.cif_nets.proofs.Sound.{IsSound}
 

@@ -16,9 +16,10 @@ use Rattle.cif_source.specs.Components.{Component, as_written, body_of}
 use Rattle.cif_source.specs.Objects.{components_of, automata, is_automaton, locs_of, EventEdge, event_edges, events, variables, is_variable, Declared, declarations, decls_of}
 use Rattle.cif_source.specs.Step.{end_of, first_place, role_of}
 use Rattle.cif_rules.specs.BodyRules.{targets_of_all}
-use Rattle.cif_fits.specs.Forms.{HasForms, HasSmallArguments}
+use Rattle.cif_fits.specs.Forms.{HasSmallArguments}
 use Rattle.cif_fits.proofs.SoundLaws as fits
 use Rattle.cif_fits.proofs.TypeLaws.{type-fits}
+use Rattle.cif_image.specs.Built.{is_built}
 use Rattle.cif_image.specs.Flat.{net_of_source, net_auto, net_edge, net_event, net_stored, event_number, location_name, alphabet_of, monitored_in, sent_tree, net_updates_of, variable_number}
 use Rattle.cif_image.specs.Translation.{net_of, net_guard}
 use Rattle.cif_image.specs.Small.{HasSmallParts}
@@ -189,8 +190,8 @@ module _ (t : Source) (h : IsSound t) (s : fits.IsSound t) (small : HasSmallPart
       (autos-apart t h)
 
 -- the net of a source is a net, where its expressions keep their kinds
-pub net-stands : (t : Source) → HasForms t → KeepsBefore t algebraic → HasSmallParts t → HasSmallArguments t → KeepExpressions t → is_net (net_of_source t) ≡ true
-net-stands t forms keeps small few kept =
-    let s : fits.IsSound t = fits.sound t forms keeps small few in
-    sound-net t (record { forms = forms; keeps = keeps }) s small
+pub net-stands : (t : Source) → is_built t ≡ true → KeepsBefore t algebraic → HasSmallParts t → HasSmallArguments t → KeepExpressions t → is_net (net_of_source t) ≡ true
+net-stands t built keeps small few kept =
+    let s : fits.IsSound t = fits.sound t built keeps small few in
+    sound-net t (record { forms = s.forms; keeps = keeps }) s small
     (record { types = λ c m x k v. (type-fits t s (net_of_source t) c m x k v).same; expressions = kept })

@@ -15,11 +15,11 @@ use Rattle.cif_source.specs.Source.{int_type, range_type, no_type, syncs, event_
 use Rattle.cif_source.specs.Components.{Component, whole, part, copy}
 use Rattle.cif_source.specs.Objects.{automata}
 use Rattle.cif_source.proofs.Terms.{word, single, dotted, event_use, edge_by, place, behaviour, instance_named, source_list}
+use Rattle.cif_image.specs.Built.{is_built}
 use Rattle.cif_image.specs.Flat.{net_of_source, event_number}
 use Rattle.cif_image.specs.Translation.{net_of, net_guard}
 use Rattle.cif_image.specs.Represents.{Represents}
 use Rattle.cif_image.proofs.RepresentsLaws.{apart-differ, all-found, net-represents}
-use Rattle.cif_fits.specs.Forms.{HasForms}
 
 -- controllable e, f; const int k = 2; a: D(e, 1, m.r); b: D(f, k + 1, m.s); automaton m: location r: initial; edge e goto s; location s; end automaton def D(controllable c; alg int p; location l): disc int[0..9] n = 0; location: initial; edge c when l, n < p do n := n + p; end
 abbrev name_at : List ℕ → ℕ → Tree
@@ -72,9 +72,9 @@ b = copy (whole twice) (word (codes "D") 153) d_params d_body (whole twice) b_it
 its_automata : automata twice ≡ a ∷ b ∷ part (whole twice) (word (codes "m") 84) moving ∷ []
 its_automata = refl
 
--- it has the forms, though it has a definition
-its_forms : HasForms twice
-its_forms = record { no_algebra = refl; no_channels = refl; no_invariants = refl; no_received = refl }
+-- it has the forms that are built
+its_forms : is_built twice ≡ true
+its_forms = refl
 
 its_net_is_a_net : is_net (net_of_source twice) ≡ true
 its_net_is_a_net = refl

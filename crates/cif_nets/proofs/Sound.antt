@@ -15,7 +15,7 @@ use Rattle.cif_image.proofs.DistinctLaws.{ScopesAreSingle}
 use Rattle.cif_image.proofs.SingleLaws.{scopes-single}
 use Rattle.cif_written.proofs.Alike.{body-written}
 use Rattle.cif_written.proofs.Bodies.{components-written}
-use Rattle.cif_fits.specs.Forms.{HasForms}
+use Rattle.cif_fits.proofs.FormLaws.{HasForms}
 
 -- an edge of a component is one of its body as written
 pub edge-written : (c : Component) (e : EdgeTree) → Member e (edges_of c) → Member e (edges_of (as_written c))

@@ -21,11 +21,11 @@ use Rattle.cif_rules.specs.BodyRules.{initial_count}
 use Rattle.cif_image.proofs.KeptLaws.{or-right}
 use Rattle.cif_image.proofs.NumberLaws.{all-joined}
 use Rattle.cif_image.proofs.RuleLaws.{member-any}
-use Rattle.cif_image.proofs.FormLaws.{edge-stands, enumerated}
+use Rattle.cif_image.proofs.StandingLaws.{edge-stands, enumerated}
 use Rattle.cif_written.proofs.Alike.{twice, body-written, params-written}
 use Rattle.cif_written.proofs.RuleLaws.{own-same, initial-one}
 use Rattle.cif_fits.proofs.NameLaws.{mapped-member}
-use Rattle.cif_image.proofs.NamedLaws.{position-below}
+use Rattle.cif_image.proofs.PositionLaws.{position-below}
 use Rattle.cif_nets.proofs.Sound.{IsSound, known, sorts, begun, as-body}
 use Rattle.cif_nets.proofs.Tests.{one-any, true-else}
 

@@ -17,7 +17,7 @@ use Rattle.cif_image.specs.Built.{is_no_channel, is_no_invariant, is_no_algebra}
 use Rattle.cif_image.specs.Flat.{net_of_source, net_auto, net_edge, net_event, net_stored, net_alg, net_exclusions, net_invariants, location_name}
 use Rattle.cif_image.proofs.RuleLaws.{declaration-cases, within-or-past, all-from}
 use Rattle.cif_image.proofs.NumberLaws.{append-kept}
-use Rattle.cif_image.proofs.FormLaws.{flat-nothing}
+use Rattle.cif_image.proofs.StandingLaws.{flat-nothing}
 use Rattle.cif_fits.proofs.FormLaws.{decl-algebra, decl-channel, decl-invariant}
 use Rattle.cif_nets.proofs.Sound.{IsSound, sizes}
 use Rattle.cif_nets.proofs.Tests.{filter-nothing}

@@ -3,18 +3,19 @@
 ghost use Rattle.std.specs.Prelude.{◌≡◌, true};
 ghost use Rattle.cif_model.specs.Facts.{is_net};
 ghost use Rattle.cif_source.specs.Source.{Source};
+ghost use Rattle.cif_image.specs.Built.{is_built};
 ghost use Rattle.cif_image.specs.Flat.{net_of_source};
 ghost use Rattle.cif_image.specs.Represents.{Represents};
 ghost use Rattle.cif_image.specs.Small.{HasSmallParts};
 ghost use Rattle.cif_image.specs.WellFormed.{KeepsBefore, algebraic};
-ghost use Rattle.cif_fits.specs.Forms.{HasForms, HasSmallArguments};
+ghost use Rattle.cif_fits.specs.Forms.{HasSmallArguments};
 
 use cif_fits::{conditions_keep_their_kind, expressions_keep_their_kinds, guards_keep_their_kind};
 
-/// Where a source of the forms built so far, with definitions, keeps its rules, and its numbers are small, what its net names is
+/// Where a source of the forms built so far keeps its rules, and its numbers are small, what its net names is
 /// there, each expression has its kind, and so on.
 pub fn nets_of_sources_are_nets()
-    ensures { (t : Source) → HasForms t → KeepsBefore t algebraic → HasSmallParts t → HasSmallArguments t →
+    ensures { (t : Source) → is_built t ≡ true → KeepsBefore t algebraic → HasSmallParts t → HasSmallArguments t →
         is_net (net_of_source t) ≡ true }
 {
     expressions_keep_their_kinds();
@@ -24,6 +25,6 @@ pub fn nets_of_sources_are_nets()
 
 /// Where it keeps its rules, its net has its choices, its steps and its outputs.
 pub fn nets_represent_their_sources()
-    ensures { (t : Source) → HasForms t → KeepsBefore t algebraic →
+    ensures { (t : Source) → is_built t ≡ true → KeepsBefore t algebraic →
         Represents (net_of_source t) t }
 {}

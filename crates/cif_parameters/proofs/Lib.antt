@@ -1,6 +1,6 @@
 mod ListLaws
 mod StripLaws
-mod EarlyLaws
+pub mod EarlyLaws
 mod PassedLaws
 mod TargetLaws
 mod FollowLaws

@@ -10,13 +10,13 @@ use Rattle.cif_system.proofs.Distinct.{member-map, member-flat_map}
 use Rattle.cif_model.specs.Net.{NetEdge, NetAuto}
 use Rattle.cif_model.specs.Exprs.{all_edges}
 use Rattle.cif_source.specs.Source.{Source, source_of}
-use Rattle.cif_source.specs.Components.{Component, body_of}
+use Rattle.cif_source.specs.Components.{Component, body_of, as_written}
 use Rattle.cif_source.specs.Objects.{components_of, automata, is_automaton, event_edges, EventEdge, locs_of}
-use Rattle.cif_image.specs.Built.{is_built}
 use Rattle.cif_image.specs.Flat.{net_of_source, net_auto, net_edge}
 use Rattle.cif_image.proofs.RuleLaws.{all-from}
-use Rattle.cif_image.proofs.FormLaws.{edge-stands, enumerated, no-definitions}
-use Rattle.cif_flat.proofs.Walk.{component-body}
+use Rattle.cif_image.proofs.StandingLaws.{edge-stands, enumerated}
+use Rattle.cif_written.proofs.Alike.{body-written}
+use Rattle.cif_written.proofs.Bodies.{components-written}
 use Rattle.cif_nesting.specs.Nesting.{updates_depth, most_nesting, is_shallow}
 use Rattle.cif_shallow.proofs.DepthLaws.{updates-as-deep}
 use Rattle.cif_shallow.proofs.BodyLaws.{IsShallowBody, bodies-shallow}
@@ -41,6 +41,8 @@ module _ (t : Source) (shallow : (c : Component) → Member c (components_of t) 
       let c = member-map net_auto a.0 (automata t) a.1 in
       le-leb (updates_depth x.updates) most_nesting (omega (arith, auto-shallow c.0 c.1 x (subst (λ (y : NetAuto). Member x y.edges) c.2 a.2))))
 
-pub shallow-nets : (spec : Spec) → IsShallow spec → is_built (source_of spec) ≡ true → is_shallow (net_of_source (source_of spec)) ≡ true
-shallow-nets spec shallow built =
-    net-shallow (source_of spec) (λ c m. bodies-shallow (view_items spec.items) shallow.forms c (component-body (source_of spec) (no-definitions (source_of spec) built) c m))
+-- a component has the body of it as written, which is one of the specification
+pub shallow-nets : (spec : Spec) → IsShallow spec → is_shallow (net_of_source (source_of spec)) ≡ true
+shallow-nets spec shallow =
+    net-shallow (source_of spec) (λ c m. subst IsShallowBody (body-written c)
+    (bodies-shallow (view_items spec.items) shallow.forms (as_written c) (components-written (source_of spec) c m)))

@@ -1,3 +1,5 @@
+pub mod EntryLaws
+pub mod ObjectLaws
 pub mod NameLaws
 pub mod PlaceLaws
 pub mod ListLaws

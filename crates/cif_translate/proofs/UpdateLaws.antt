@@ -1,15 +1,15 @@
 -- Updates and their branches, as lists.
 use Rattle.std.proofs.Common.{◌≡◌, ℕ, ◌≤◌, List, [], ◌∷◌, ◌++◌, length, drop, map, refl, ap, ◌∙◌, arith}
-use Rattle.cif_ast.specs.Tree.{Tree, UpdateTrees, no_updates, updates, UpdateBranches, no_update_branches, update_branches}
+use Rattle.cif_ast.specs.Tree.{Tree, Trees, no_trees, trees, UpdateTrees, no_updates, updates, UpdateBranches, no_update_branches, update_branches}
 use Rattle.cif_ast.specs.View.{view, trees_of, view_exprs, view_updates, view_update_branches}
 use Rattle.cif_ast.specs.declared.expressions.Expr.{Expr}
 use Rattle.cif_ast.specs.declared.edges.Update.{Update}
 use Rattle.cif_ast.specs.declared.edges.UpdateBranch.{UpdateBranch}
 use Rattle.cif_source.specs.Source.{list_of_trees}
 use Rattle.cif_source.specs.Components.{Component}
-use Rattle.cif_term.specs.Tree.{NetExpr, NetUpdate, NetUpdates, net_updates, net_update_branches}
+use Rattle.cif_term.specs.Tree.{NetExpr, net_exprs, NetUpdate, NetUpdates, net_updates, net_update_branches}
 use Rattle.cif_term.specs.View.{updates_of, update_branches_of}
-use Rattle.cif_image.specs.Translation.{net_list, net_guard, conjunction}
+use Rattle.cif_image.specs.Translation.{net_exprs_of, net_name, net_of, net_list, net_guard, conjunction}
 use Rattle.cif_image.specs.Flat.{net_updates_of, net_update_of, net_update_branches_of}
 use Rattle.cif_translate.proofs.ListLaws.{ended}
 
@@ -37,7 +37,11 @@ pub branches_ended : (c : Component) (made : List (NetExpr × NetUpdates)) (all 
     → made ++ made_branches c (view_update_branches (drop i all)) ≡ made_branches c (view_update_branches all) → update_branches_of made ≡ net_update_branches_of c (view_update_branches all)
 branches_ended c made all i h e = ap update_branches_of (ended made (λ xs. made_branches c (view_update_branches xs)) all i h refl e) ∙ branches_made c (view_update_branches all)
 
-pub trees_listed : (ts : List Tree) → list_of_trees (trees_of ts) ≡ ts
+pub exprs_listed : (c : Component) (es : Trees) → net_exprs_of (net_name c) es ≡ net_list c (list_of_trees es)
+exprs_listed c no_trees = refl
+exprs_listed c (trees e es) = ap (net_exprs (net_of c e)) (exprs_listed c es)
+
+trees_listed : (ts : List Tree) → list_of_trees (trees_of ts) ≡ ts
 trees_listed [] = refl
 trees_listed (t ∷ ts) = ap (λ xs. t ∷ xs) (trees_listed ts)
 

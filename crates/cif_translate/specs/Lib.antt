@@ -1,3 +1,4 @@
 pub mod Objects
 pub mod Looking
+pub mod ReadsNames
 pub mod Places

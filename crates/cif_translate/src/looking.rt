@@ -1,122 +1,178 @@
-//! What the names of expressions stand for.
+//! What the names of components stand for.
 
-ghost use Rattle.std.specs.Prelude.{◌≡◌, ◌<◌, Some, length, IfOk};
-ghost use Rattle.cif_source.specs.Objects.{bodies};
-ghost use Rattle.cif_term.specs.View as net;
-ghost use Rattle.cif_image.specs.Flat.{variable_number};
-ghost use Rattle.cif_image.specs.Translation.{net_name};
+ghost use Rattle.std.specs.Prelude.{◌≡◌, ◌<◌, length, map};
+ghost use Rattle.cif_source.specs.Components as source;
+ghost use Rattle.cif_source.specs.Objects.{components_of};
+ghost use Rattle.cif_scope.specs.Scopes.{IsEntry};
+ghost use Rattle.cif_scope.specs.Tables.{IsBody, IsWhat};
+ghost use Rattle.cif_components.specs.Numbers.{IsNumber};
+ghost use Rattle.cif_image.specs.Flat.{event_number, variable_number};
+ghost use Rattle.cif_parameters.specs.Following.{given_at};
+ghost use Rattle.cif_parameters.specs.Given.{given_items};
 ghost use Rattle.cif_translate.specs.Objects as objects;
+ghost use Rattle.cif_translate.specs.Objects.{Means, StandsFor};
 ghost use Rattle.cif_translate.specs.Looking as looks;
 
-use crate::objects::Object;
+use crate::objects::{Meaning, Object, Value};
 use cif_ast::{Name, Spec};
-use cif_base::{Boxed, Items, Memory};
-use cif_scope::{Looked, Scopes};
-use cif_term::{NetExpr, NetForm};
-use std::alloc::Global;
+use cif_base::Items;
+use cif_components::{Components, Place};
+use cif_numbers::{Counted, Numbered, Numbers};
+use cif_parameters::Given;
+use cif_scope::{Scopes, Sort, What};
 
-/// What names are looked up in: the scopes of a source, and for each body and each name that it declares what the name stands
-/// for.
+/// What names are looked up in: the scopes of a source, its components, the numbers of what they declare, the value of each constant
+/// by its body and its slot there, and what the parameters of each component stand for.
 #[derive(Clone, Copy)]
-pub struct Looking<'a> {
-    pub spec: &'a Spec,
-    pub scopes: &'a Scopes,
-    pub objects: &'a [Items<Object>],
+pub struct Looking<'a, 'b> {
+    pub spec: &'b Spec,
+    pub scopes: &'b Scopes,
+    pub components: &'b Components,
+    pub numbers: &'b Numbers,
+    pub values: &'b [Items<Value>],
+    pub given: &'b [Vec<Given<'a>>],
 }
 
-fn object_in(slots: &Items<Object>, slot: u32) -> Object
-    ensures { result ≡ objects.object_in (Some slots.now) slot }
+/// The value in a slot of a body.
+fn value_at(table: &[Items<Value>], body: u32, slot: u32) -> Value
+    ensures { result ≡ objects.value_at table.now body slot }
 {
-    match slots.get(slot as usize) {
-        Some(object) => *object,
-        None => Object::Nothing,
+    let none = Value::Number(0);
+    let Some(values) = table.get(body as usize) else {
+        return none;
+    };
+    match values.get(slot as usize) {
+        Some(value) => *value,
+        None => none,
     }
 }
 
-fn object_at(table: &[Items<Object>], found: Looked) -> Object
-    ensures { result ≡ objects.looked_object table.now found }
+fn is_constant(sort: Sort) -> bool
+    ensures { result ≡ objects.is_constant sort }
 {
-    match found {
-        Looked::At(body, slot) => match table.get(body as usize) {
-            Some(slots) => object_in(slots, slot),
+    matches!(sort, Sort::Constant)
+}
+
+/// What has a number in the net.
+fn object_with(numbered: Option<Numbered>) -> Object
+    ensures { result ≡ objects.numbered_object numbered }
+{
+    let Some(Numbered { among, number }) = numbered else {
+        return Object::Nothing;
+    };
+    match among {
+        Counted::Event => Object::Event(number),
+        Counted::Input => Object::Input(number),
+        Counted::Variable => Object::Var(number),
+        Counted::Algebraic => Object::Alg(number),
+    }
+}
+
+/// The number of an event.
+fn event_of(meaning: &Meaning<'_>) -> u32
+    ensures { result ≡ objects.meant_event meaning.now }
+{
+    match meaning {
+        Meaning::Object(Object::Event(number)) => *number,
+        _ => 0,
+    }
+}
+
+/// The number of a variable.
+fn variable_of(meaning: &Meaning<'_>) -> u32
+    ensures { result ≡ objects.meant_variable meaning.now }
+{
+    match meaning {
+        Meaning::Object(Object::Var(number)) => *number,
+        _ => 0,
+    }
+}
+
+impl<'a, 'b> Looking<'a, 'b> {
+    /// What stands at a place of which it is known what it is, by the body of the component there.
+    fn object_as(&self, body: u32, place: Place, what: What) -> Object
+        ensures { (c : source.Component) (e : source.Entry) → looks.AreNamesOf self.now →
+            IsNumber (looks.source_for self.now) place.component c → IsEntry c e place.slot →
+            IsBody (looks.source_for self.now) body (source.as_written c) →
+            IsWhat (looks.source_for self.now) (source.as_written c) e what → StandsFor c e result }
+    {
+        match what {
+            What::Literal(number) => Object::Known(Value::Number(i64::from(number))),
+            What::Location(number) => Object::Location {
+                auto: self.numbers.automaton(place.component),
+                place: number,
+            },
+            What::Declared(sort) => {
+                if is_constant(sort) {
+                    Object::Known(value_at(self.values, body, place.slot))
+                } else {
+                    object_with(self.numbers.declared(self.scopes, self.components, place))
+                }
+            }
+            What::Component(_) | What::Definition(_, _) | What::Instance(_) | What::Parameter(_) =>
+                Object::Nothing,
+        }
+    }
+
+    /// What stands at a place.
+    fn object(&self, place: Place) -> Object
+        ensures { (c : source.Component) (e : source.Entry) → looks.AreNamesOf self.now →
+            IsNumber (looks.source_for self.now) place.component c → IsEntry c e place.slot → StandsFor c e result }
+    {
+        let Some(component) = self.components.get(place.component) else {
+            return Object::Nothing;
+        };
+        match self.scopes.what(component.body, place.slot) {
+            Some(what) => self.object_as(component.body, place, what),
             None => Object::Nothing,
-        },
-        Looked::Missing | Looked::Blocked => Object::Nothing,
+        }
     }
-}
 
-fn form_of(object: Object) -> NetForm
-    ensures { net.view_form result ≡ objects.object_form object }
-{
-    match object {
-        Object::Constant(value) => NetForm::Int(value),
-        Object::Truth(value) => NetForm::Bool(value),
-        Object::Var(number) => NetForm::Var(number),
-        Object::Input(number) => NetForm::Input(number),
-        Object::Alg(number) => NetForm::Alg(number),
-        Object::Location { auto, place } => NetForm::Loc { auto, place },
-        Object::Nothing => NetForm::Int(0),
-    }
-}
-
-fn variable_of(object: Object) -> u32
-    ensures { result ≡ objects.object_variable object }
-{
-    match object {
-        Object::Var(number) => number,
-        Object::Constant(_)
-        | Object::Truth(_)
-        | Object::Input(_)
-        | Object::Alg(_)
-        | Object::Location { .. }
-        | Object::Nothing => 0,
-    }
-}
-
-impl<'a> Looking<'a> {
-    /// What a name in a body stands for.
-    fn object(&self, body: u32, name: &Name) -> Object
-        ensures { result ≡ looks.object_for self.now body name.now }
+    /// What is given for the parameter of an instance that stands at a place; nothing where something else stands there.
+    fn argument(&self, place: Place) -> Option<Given<'a>>
+        ensures { result ≡ given_at (map given_items self.now.given.now) place }
     {
-        object_at(self.objects, self.scopes.look(true, body, name))
+        let of_component = self.given.get(place.component as usize)?;
+        let given = of_component.get(place.slot as usize)?;
+        Some(*given)
     }
 
-    /// What stands for a name of a body, at a place.
-    pub(crate) fn name_at(
-        &self,
-        alloc: Global,
-        body: u32,
-        name: &Name,
-        at: u32,
-    ) -> Result<Boxed<NetExpr>, Memory>
-        ensures { IfOk result (λ e. net.view e ≡ looks.name_at self.now body name.now at) }
-    {
-        let form = form_of(self.object(body, name));
-        Boxed::new(alloc, NetExpr { form, at })
-    }
-
-    /// What a name in a body stands for, as an expression at a place: the value of a constant or a literal, a variable, an
-    /// input, an algebraic variable or a location.
-    pub fn named(
-        &self,
-        alloc: Global,
-        body: u32,
-        name: &Name,
-        at: u32,
-    ) -> Result<Boxed<NetExpr>, Memory>
+    /// What a name of a component stands for.
+    pub fn meaning(&self, component: u32, name: &Name) -> Meaning<'a>
         requires names { looks.AreNamesOf self.now }
-        requires body { body < length (bodies (looks.source_for self.now)) }
-        ensures { IfOk result (λ e. net.view e ≡ net_name (looks.component_at self.now body) name.now at) }
+        requires component { component < length (components_of (looks.source_for self.now)) }
+        ensures { Means (looks.source_for self.now) (looks.component_at self.now component) name.now result }
     {
-        self.name_at(alloc, body, name, at)
+        let Some(place) = self.components.find(self.scopes, component, name) else {
+            return Meaning::Object(Object::Nothing);
+        };
+        match self.argument(place) {
+            None => Meaning::Object(self.object(place)),
+            Some(Given::Named(declared)) => Meaning::Object(self.object(declared)),
+            Some(Given::Value { giver, value, at }) => Meaning::Given {
+                parameter: place,
+                giver,
+                value,
+                at,
+            },
+        }
     }
 
-    /// The number of the variable that a name in a body denotes, and 0 where it denotes none.
-    pub fn variable(&self, body: u32, name: &Name) -> u32
+    /// The number of the event that a name of a component denotes, and 0 where it denotes none.
+    pub fn event(&self, component: u32, name: &Name) -> u32
         requires names { looks.AreNamesOf self.now }
-        requires body { body < length (bodies (looks.source_for self.now)) }
-        ensures { result ≡ variable_number (looks.component_at self.now body) name.now }
+        requires component { component < length (components_of (looks.source_for self.now)) }
+        ensures { result ≡ event_number (looks.component_at self.now component) name.now }
     {
-        variable_of(self.object(body, name))
+        event_of(&self.meaning(component, name))
+    }
+
+    /// The number of the variable that a name of a component denotes, and 0 where it denotes none.
+    pub fn variable(&self, component: u32, name: &Name) -> u32
+        requires names { looks.AreNamesOf self.now }
+        requires component { component < length (components_of (looks.source_for self.now)) }
+        ensures { result ≡ variable_number (looks.component_at self.now component) name.now }
+    {
+        variable_of(&self.meaning(component, name))
     }
 }

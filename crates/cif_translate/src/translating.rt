@@ -1,8 +1,8 @@
-//! The expressions, guards and sent values of a body.
+//! The expressions, guards and sent values of a component.
 
 ghost use Rattle.std.specs.Prelude.{◌≡◌, ◌<◌, length, map, option_map, IfOk};
 ghost use Rattle.cif_ast.specs.View.{view, view_exprs};
-ghost use Rattle.cif_source.specs.Objects.{bodies};
+ghost use Rattle.cif_source.specs.Objects.{components_of};
 ghost use Rattle.cif_source.specs.Source.{list_of_trees, role_tree};
 ghost use Rattle.cif_term.specs.View as net;
 ghost use Rattle.cif_image.specs.Translation.{net_of, net_list, net_guard, conjunction};
@@ -11,81 +11,92 @@ ghost use Rattle.cif_translate.specs.Looking.{AreNamesOf, source_for, component_
 
 use crate::expressions::Maker;
 use crate::looking::Looking;
+use crate::naming::named;
+use crate::nodes::node;
 use cif_ast::{Expr, Role};
 use cif_base::{Boxed, Memory};
 use cif_term::{NetExpr, NetForm};
 use std::alloc::Global;
 
-fn maker<'a>(alloc: Global, looking: &Looking<'a>, body: u32) -> Maker<'a>
-    ensures looking { result.looking ≡ looking.now }
-    ensures body { result.body ≡ body }
-{
-    Maker {
-        alloc,
-        looking: *looking,
-        body,
-    }
-}
+/// Through how many arguments in one another names are followed. Each of them but the last has a form above the name, and no
+/// expression is deeper than 100 forms, so sources with more are refused before.
+const MOST_ARGUMENTS: u8 = 101;
 
-/// An expression of a body.
+/// An expression of a component.
+#[tactic(auto, unfolding(crate::specs::ReadsNames::IsHome, crate::specs::ReadsNames::ReadsNames))]
 pub fn expression(
     alloc: Global,
     looking: &Looking,
-    body: u32,
+    component: u32,
     expr: &Expr,
 ) -> Result<Boxed<NetExpr>, Memory>
     requires names { AreNamesOf looking.now }
-    requires body { body < length (bodies (source_for looking.now)) }
-    ensures { IfOk result (λ x. net.view x ≡ net_of (component_at looking.now body) (view expr.now)) }
+    requires component { component < length (components_of (source_for looking.now)) }
+    ensures { IfOk result (λ x. net.view x ≡ net_of (component_at looking.now component) (view expr.now)) }
 {
-    maker(alloc, looking, body).expr(expr)
+    Maker {
+        alloc,
+        looking,
+        component,
+        left: MOST_ARGUMENTS,
+        names: named,
+    }
+    .expr(expr)
 }
 
-/// Conditions of a body as one, with the place of the first.
+/// Conditions of a component as one, with the place of the first.
+#[tactic(auto, unfolding(crate::specs::ReadsNames::IsHome, crate::specs::ReadsNames::ReadsNames))]
 pub fn condition(
     alloc: Global,
     looking: &Looking,
-    body: u32,
+    component: u32,
     conds: &[Expr],
 ) -> Result<Boxed<NetExpr>, Memory>
     requires names { AreNamesOf looking.now }
-    requires body { body < length (bodies (source_for looking.now)) }
-    ensures { IfOk result (λ x. net.view x ≡ conjunction (net_list (component_at looking.now body) (list_of_trees (view_exprs conds.now)))) }
+    requires component { component < length (components_of (source_for looking.now)) }
+    ensures { IfOk result (λ x. net.view x ≡ conjunction (net_list (component_at looking.now component) (list_of_trees (view_exprs conds.now)))) }
 {
-    maker(alloc, looking, body).condition(conds)
+    Maker {
+        alloc,
+        looking,
+        component,
+        left: MOST_ARGUMENTS,
+        names: named,
+    }
+    .condition(conds)
 }
 
-/// The guard of an edge of a body. Without guards it is `true`, at the place that is given.
+/// The guard of an edge of a component. Without guards it is `true`, at the place that is given.
 pub fn guard(
     alloc: Global,
     looking: &Looking,
-    body: u32,
+    component: u32,
     at: u32,
     guards: &[Expr],
 ) -> Result<Boxed<NetExpr>, Memory>
     requires names { AreNamesOf looking.now }
-    requires body { body < length (bodies (source_for looking.now)) }
-    ensures { IfOk result (λ x. net.view x ≡ net_guard (component_at looking.now body) at (map view guards.now)) }
+    requires component { component < length (components_of (source_for looking.now)) }
+    ensures { IfOk result (λ x. net.view x ≡ net_guard (component_at looking.now component) at (map view guards.now)) }
 {
     match guards {
-        [] => maker(alloc, looking, body).node(NetForm::Bool(true), at),
-        [_, ..] => condition(alloc, looking, body, guards),
+        [] => node(alloc, NetForm::Bool(true), at),
+        [_, ..] => condition(alloc, looking, component, guards),
     }
 }
 
-/// The value that an edge of a body sends, if it sends one.
+/// The value that an edge of a component sends, if it sends one.
 pub fn sent(
     alloc: Global,
     looking: &Looking,
-    body: u32,
+    component: u32,
     role: &Role,
 ) -> Result<Option<Boxed<NetExpr>>, Memory>
     requires names { AreNamesOf looking.now }
-    requires body { body < length (bodies (source_for looking.now)) }
-    ensures { IfOk result (λ x. option_map net.view x ≡ option_map (net_of (component_at looking.now body)) (sent_tree (role_tree role.now))) }
+    requires component { component < length (components_of (source_for looking.now)) }
+    ensures { IfOk result (λ x. option_map net.view x ≡ option_map (net_of (component_at looking.now component)) (sent_tree (role_tree role.now))) }
 {
     match role {
-        Role::Send(Some(value)) => Ok(Some(expression(alloc, looking, body, value)?)),
+        Role::Send(Some(value)) => Ok(Some(expression(alloc, looking, component, value)?)),
         Role::Send(None) | Role::Sync | Role::Recv => Ok(None),
     }
 }

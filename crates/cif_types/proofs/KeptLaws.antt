@@ -6,9 +6,9 @@ use Rattle.cif_source.specs.Source.{Source}
 use Rattle.cif_source.specs.Objects.{bodies}
 use Rattle.cif_rules.specs.BodyRules.{BadValue, BadUse, BadArgument, MismatchDue, NotConstantDue, NotOwnDue, AssignedTwiceDue, EquationsDue}
 use Rattle.cif_scope.proofs.IndexLaws.{of-any}
-use Rattle.cif_constants.specs.Outcomes.{ConstancyDue}
-use Rattle.cif_constants.specs.declared.error.ConstancyErr.{ConstancyErr}
-use Rattle.cif_constants.specs.declared.error.ConstancyErr.TheVariants as constancy
+use Rattle.cif_constancy.specs.Due.{ConstancyDue}
+use Rattle.cif_constancy.specs.declared.error.ConstancyErr.{ConstancyErr}
+use Rattle.cif_constancy.specs.declared.error.ConstancyErr.TheVariants as constancy
 use Rattle.cif_targets.specs.Faults as targets
 use Rattle.cif_targets.specs.declared.error.TargetErr.{TargetErr}
 use Rattle.cif_targets.specs.declared.error.TargetErr.TheVariants as target

@@ -3,8 +3,8 @@ use Rattle.cif_types.specs.declared.error.TypeErr.{TypeErr}
 use Rattle.cif_types.specs.declared.error.TypeErr.TheVariants as type
 use Rattle.cif_kinds.specs.declared.error.KindErr.{KindErr}
 use Rattle.cif_kinds.specs.declared.error.KindErr.TheVariants as kind
-use Rattle.cif_constants.specs.declared.error.ConstancyErr.{ConstancyErr}
-use Rattle.cif_constants.specs.declared.error.ConstancyErr.TheVariants as constancy
+use Rattle.cif_constancy.specs.declared.error.ConstancyErr.{ConstancyErr}
+use Rattle.cif_constancy.specs.declared.error.ConstancyErr.TheVariants as constancy
 use Rattle.cif_targets.specs.declared.error.TargetErr.{TargetErr}
 use Rattle.cif_targets.specs.declared.error.TargetErr.TheVariants as target
 use Rattle.cif_equations.specs.declared.error.EquationErr.{EquationErr}

@@ -13,7 +13,7 @@ use crate::error::TypeErr;
 use crate::initials::check_items;
 use crate::kinds::Kinds;
 use cif_ast::Spec;
-use cif_constants::check_constancy;
+use cif_constancy::check_constancy;
 use cif_equations::check_equations;
 use cif_kinds::KindTable;
 use cif_scope::Scopes;

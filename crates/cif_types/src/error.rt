@@ -5,7 +5,7 @@ ghost use Rattle.cif_types.specs.Errors.{kind_error, constancy_error, target_err
 ghost use Rattle.cif_types.specs.declared.error.TypeErr.TheVariants.{Memory as no_memory};
 
 use cif_base::Memory;
-use cif_constants::ConstancyErr;
+use cif_constancy::ConstancyErr;
 use cif_equations::EquationErr;
 use cif_kinds::KindErr;
 use cif_targets::TargetErr;

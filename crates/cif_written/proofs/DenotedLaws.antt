@@ -20,7 +20,7 @@ use Rattle.cif_rules.specs.Kinds.{Kind, bool_kind, int_kind, no_kind, enum_kind,
 use Rattle.cif_rules.specs.BodyRules.{MismatchDue}
 use Rattle.cif_image.proofs.FoundLaws.{declaration-listed}
 use Rattle.cif_image.proofs.KeptLaws.{member-passes}
-use Rattle.cif_image.proofs.NamedLaws.{position-below}
+use Rattle.cif_image.proofs.PositionLaws.{position-below}
 use Rattle.cif_written.specs.Denoted.{DenotesEvent, DenotesVariable, DenotesLocation, is_valued, DenotesValue}
 use Rattle.cif_written.specs.Entries.{IsOf}
 use Rattle.cif_written.proofs.Bodies.{found-good, components-written}

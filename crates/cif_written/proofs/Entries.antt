@@ -12,7 +12,7 @@ use Rattle.cif_source.specs.Lookup.{ScopeEntry, reached, at_entry, in_scope, in_
 use Rattle.cif_source.specs.Objects.{decls_in, item_decls, items_in, locs_in}
 use Rattle.cif_source.proofs.ComponentLaws.{append-cases}
 use Rattle.cif_image.proofs.FoundLaws.{flat-cases, find-entry, reached-same}
-use Rattle.cif_image.proofs.FormLaws.{enumerated}
+use Rattle.cif_image.proofs.StandingLaws.{enumerated}
 use Rattle.cif_written.specs.Entries.{IsIn, IsOf}
 
 -- ---- entries of a scope

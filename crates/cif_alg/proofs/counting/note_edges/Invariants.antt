@@ -1,7 +1,8 @@
 use Rattle.std.proofs.Common.{◌≡◌, map, drop}
 use Rattle.cif_net.specs.View.{edge_tree}
+use Rattle.cif_measure.specs.Meanings.{table_measure}
 use Rattle.cif_alg.specs.Tallies.{edges_noted}
 use Rattle.cif_alg.proofs.counting.note_edges.Given as goal
 
 abbrev pub invariant-loop-edge : goal.invariant-loop-edge
-invariant-loop-edge l = edges_noted (map edge_tree (drop l.edge-index l.edges)) l.tallies ≡ edges_noted (map edge_tree l.edges) l.initial.tallies
+invariant-loop-edge l = edges_noted (table_measure l.algs) (map edge_tree (drop l.edge-index l.edges)) l.tallies ≡ edges_noted (table_measure l.algs) (map edge_tree l.edges) l.initial.tallies

@@ -1,7 +1,7 @@
 use Rattle.std.proofs.Common.{◌≡◌, map, drop}
-use Rattle.cif_scope.specs.Written.{body_of_written}
-use Rattle.cif_constants.specs.Bounds.{faults_from}
+use Rattle.cif_constants.specs.Bounds.{body_fault}
+use Rattle.cif_constants.specs.Used.{first_in, numbered_of}
 use Rattle.cif_constants.proofs.bounds.first_fault.Given as goal
 
 abbrev pub invariant-loop-body : goal.invariant-loop-body
-invariant-loop-body l = faults_from l.scopes l.constants.numbers l.constants.values 0 (map body_of_written l.written) ≡ faults_from l.scopes l.constants.numbers l.constants.values l.body (map body_of_written (drop l.body l.written))
+invariant-loop-body l = first_in (body_fault l.scopes l.constants.numbers l.constants.values) (map numbered_of (drop l.body-index l.bodies)) ≡ first_in (body_fault l.scopes l.constants.numbers l.constants.values) (map numbered_of l.bodies)

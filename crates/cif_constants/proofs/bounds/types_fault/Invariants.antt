@@ -1,5 +1,5 @@
 use Rattle.std.proofs.Common.{◌≡◌, map, drop}
-use Rattle.cif_constants.specs.Collected.{type_of}
+use Rattle.cif_constancy.specs.Collected.{type_of}
 use Rattle.cif_constants.specs.Bounds.{types_fault}
 use Rattle.cif_constants.specs.Named.{name_value}
 use Rattle.cif_constants.specs.Outcomes.{evaluated}

@@ -1,5 +1,5 @@
 use Rattle.std.proofs.Common.{◌≡◌, map, drop}
-use Rattle.cif_constants.specs.Collected.{typed_of}
+use Rattle.cif_constancy.specs.Collected.{typed_of}
 use Rattle.cif_constants.specs.Named.{table_value}
 use Rattle.cif_constants.specs.Outcomes.{evaluated}
 use Rattle.cif_constants.specs.Slots.{row_of}

@@ -1,5 +1,5 @@
 use Rattle.std.proofs.Common.{◌≡◌, ◌++◌, map, flat_map, drop}
-use Rattle.cif_constants.specs.Collected.{decl_of}
+use Rattle.cif_constancy.specs.Collected.{decl_of}
 use Rattle.cif_constants.specs.Nodes.{node_of, decl_nodes}
 use Rattle.cif_constants.proofs.nodes.add_decls.Given as goal
 

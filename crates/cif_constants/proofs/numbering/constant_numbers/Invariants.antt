@@ -4,6 +4,6 @@ use Rattle.cif_constants.proofs.numbering.constant_numbers.Given as goal
 
 abbrev pub invariant-loop-body : goal.invariant-loop-body
 invariant-loop-body l = record {
-  all : l.all ≡ rows_to l.scopes l.body;
-  total : l.total ≡ total_to l.scopes l.body;
+  all : l.all ≡ rows_to l.scopes l.used l.body;
+  total : l.total ≡ total_to l.scopes l.used l.body;
 }

@@ -3,4 +3,4 @@ use Rattle.cif_inst.specs.Alphabets as alphabets
 use Rattle.cif_inst.proofs.alphabets.events_named.Given as goal
 
 abbrev pub invariant-loop-name : goal.invariant-loop-name
-invariant-loop-name l = l.all ++ alphabets.events_named l.naming l.body (drop l.name-index l.names) ≡ alphabets.events_named l.naming l.body l.names
+invariant-loop-name l = l.all ++ alphabets.events_named l.looking l.component (drop l.name-index l.names) ≡ alphabets.events_named l.looking l.component l.names

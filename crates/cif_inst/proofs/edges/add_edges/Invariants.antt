@@ -5,4 +5,4 @@ use Rattle.cif_inst.specs.Edges.{uses_edges}
 use Rattle.cif_inst.proofs.edges.add_edges.Given as goal
 
 abbrev pub invariant-loop-edge : goal.invariant-loop-edge
-invariant-loop-edge l = map edge_tree l.all ++ flat_map (uses_edges l.naming l.body l.from l.count) (map source.edge_tree (drop l.edge-index l.leaving)) ≡ map edge_tree l.fn.all ++ flat_map (uses_edges l.naming l.body l.from l.count) (map source.edge_tree l.leaving)
+invariant-loop-edge l = map edge_tree l.all ++ flat_map (uses_edges l.looking l.component l.from l.count) (map source.edge_tree (drop l.edge-index l.leaving)) ≡ map edge_tree l.fn.all ++ flat_map (uses_edges l.looking l.component l.from l.count) (map source.edge_tree l.leaving)

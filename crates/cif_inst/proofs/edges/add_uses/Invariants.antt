@@ -5,4 +5,4 @@ use Rattle.cif_inst.specs.Edges.{sync_edge}
 use Rattle.cif_inst.proofs.edges.add_uses.Given as goal
 
 abbrev pub invariant-loop-event_use : goal.invariant-loop-event_use
-invariant-loop-event_use l = map edge_tree l.all ++ map (sync_edge l.naming l.body l.ends.0 l.ends.1 (source.edge_tree l.edge)) (map source.use_tree (drop l.event_use-index l.uses)) ≡ map edge_tree l.fn.all ++ map (sync_edge l.naming l.body l.ends.0 l.ends.1 (source.edge_tree l.edge)) (map source.use_tree l.uses)
+invariant-loop-event_use l = map edge_tree l.all ++ map (sync_edge l.looking l.component l.ends.0 l.ends.1 (source.edge_tree l.edge)) (map source.use_tree (drop l.event_use-index l.uses)) ≡ map edge_tree l.fn.all ++ map (sync_edge l.looking l.component l.ends.0 l.ends.1 (source.edge_tree l.edge)) (map source.use_tree l.uses)

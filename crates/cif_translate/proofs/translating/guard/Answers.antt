@@ -7,4 +7,4 @@ use Rattle.cif_translate.proofs.translating.guard.Goals as goal
 pub returns-in-len1-up : goal.returns-in-len1-up
 returns-in-len1-up c =
     subst (λ y. IfOk c.condition.result (λ x. net.view x ≡ y))
-    (guard_listed (component_at c.args.looking.now c.args.body) c.args.at c.args.guards.now c.in-len1-up.len_at_least) c.condition.ensures
+    (guard_listed (component_at c.args.looking.now c.args.component) c.args.at c.args.guards.now c.in-len1-up.len_at_least) c.condition.ensures

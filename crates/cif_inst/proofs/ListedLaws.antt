@@ -1,0 +1,43 @@
+-- What is listed for each use of an event on the edges of an automaton is what its edges in the net have.
+use Rattle.std.proofs.Common.{◌≡◌, ℕ, ◌+◌, List, [], ◌∷◌, ◌++◌, length, map, refl, sym, ◌∙◌, ap}
+use Rattle.std.specs.Prelude.{flat_map}
+use Rattle.std.proofs.lemmas.List.{map-append}
+use Rattle.cif_model.specs.Net.{NetEdge}
+use Rattle.cif_source.specs.Source.{UseTree, EdgeTree, LocationTree, AutomatonTree}
+use Rattle.cif_image.proofs.SystemLaws.{map-map}
+use Rattle.cif_translate.specs.declared.looking.Looking.{Looking}
+use Rattle.cif_inst.specs.Edges.{sync_edge, end_place, uses_edges, locations_edges, automaton_edges}
+use Rattle.cif_inst.specs.Alphabets.{use_event, used_events}
+use Rattle.cif_inst.specs.Measures.{edge_weight, use_weight, automaton_weights}
+use Rattle.cif_inst.proofs.EdgeLaws.{event_of}
+
+-- g tells of a use what f does of its edge, wherever that stands and leads
+module _ {A : Type 0} (l : Looking) (k count : ℕ) (g : EdgeTree → UseTree → A) (f : NetEdge → A) (same : (from to : ℕ) (e : EdgeTree) (u : UseTree) → f (sync_edge l k from to e u) ≡ g e u) where
+  abbrev of_edge : EdgeTree → List A
+  of_edge e = map (g e) e.uses
+
+  abbrev of_location : LocationTree → List A
+  of_location x = flat_map of_edge x.edges
+
+  edge-listed : (from : ℕ) (e : EdgeTree) → of_edge e ≡ map f (uses_edges l k from count e)
+  edge-listed from e = sym (map-map f (sync_edge l k from (end_place l k from count e.target) e) (g e) e.uses (λ u m. same from (end_place l k from count e.target) e u))
+
+  edges-listed : (from : ℕ) (es : List EdgeTree) → flat_map of_edge es ≡ map f (flat_map (uses_edges l k from count) es)
+  edges-listed from [] = refl
+  edges-listed from (e ∷ es) =
+      ap (λ xs. xs ++ flat_map of_edge es) (edge-listed from e)
+      ∙ ap (λ xs. map f (uses_edges l k from count e) ++ xs) (edges-listed from es)
+      ∙ sym (map-append f (uses_edges l k from count e) (flat_map (uses_edges l k from count) es))
+
+  locations-listed : (from : ℕ) (xs : List LocationTree) → flat_map of_location xs ≡ map f (locations_edges l k count from xs)
+  locations-listed from [] = refl
+  locations-listed from (x ∷ xs) =
+      ap (λ ys. ys ++ flat_map of_location xs) (edges-listed from x.edges)
+      ∙ ap (λ ys. map f (flat_map (uses_edges l k from count) x.edges) ++ ys) (locations-listed (from + 1) xs)
+      ∙ sym (map-append f (flat_map (uses_edges l k from count) x.edges) (locations_edges l k count (from + 1) xs))
+
+pub used-edges : (l : Looking) (k : ℕ) (a : AutomatonTree) → used_events l k a ≡ map event_of (automaton_edges l k a)
+used-edges l k a = locations-listed l k (length a.locs) (λ e. use_event l k) event_of (λ from to e u. refl) 0 a.locs
+
+pub weights-edges : (l : Looking) (k : ℕ) (a : AutomatonTree) → automaton_weights l k a ≡ map edge_weight (automaton_edges l k a)
+weights-edges l k a = locations-listed l k (length a.locs) (use_weight l k) edge_weight (λ from to e u. refl) 0 a.locs

@@ -1,0 +1,165 @@
+-- The outlines are as large as the automata of the net of the source, and the measures of its edges tell its depth.
+use Rattle.std.proofs.Common.{◌≡◌, ℕ, zero, suc, ◌+◌, ◌≤◌, ◌<◌, max, inl, inr, List, [], ◌∷◌, ◌++◌, length, map, drop, refl, sym, ◌∙◌, ap, subst, arith}
+use Rattle.std.specs.Prelude.{flat_map}
+use Rattle.std.proofs.Math.Seq.{drop-append_seam}
+use Rattle.std.proofs.lemmas.List.{drop-drop, map-append}
+use Rattle.std.proofs.lemmas.List.Sums.{sum_by-cons}
+use Rattle.cif_system.specs.Words.{Member}
+use Rattle.cif_system.specs.System.{syncing}
+use Rattle.cif_system.proofs.Lists.{map-length}
+use Rattle.cif_system.proofs.Distinct.{member-map}
+use Rattle.cif_term.specs.Tree.{NetExpr, net_expr, n_alg}
+use Rattle.cif_model.specs.Net.{NetEdge, NetAuto}
+use Rattle.cif_model.specs.Exprs.{edge_exprs}
+use Rattle.cif_model.specs.Unfolding.{at_or}
+use Rattle.cif_model.specs.Counts.{no_form, all_beside, measure_by, stopped, most_depth}
+use Rattle.cif_model.specs.Counts as counts
+use Rattle.cif_measure.specs.declared.measures.Measure.{Measure}
+use Rattle.cif_measure.specs.Meanings.{as_measure, stopped_measure, table_measure}
+use Rattle.cif_measure.specs.Counted.{beside_stopped}
+use Rattle.cif_measure.specs.Sizes.{sizes_by, table_counted}
+use Rattle.cif_alg.specs.Tallies.{cut_size}
+use Rattle.cif_alg.specs.Outlines.{CountedAuto, counted_edge, counted_auto}
+use Rattle.cif_source.specs.Source.{Text, AutomatonTree, SourceBody, group_body, automaton_body}
+use Rattle.cif_source.specs.Components.{Component, body_of}
+use Rattle.cif_source.specs.Objects.{components_of, event_edges}
+use Rattle.cif_source.specs.Step.{role_of}
+use Rattle.cif_components.specs.Numbers.{IsNumber}
+use Rattle.cif_system.proofs.Lists.{slice_get-below}
+use Rattle.cif_image.specs.Flat.{net_edge}
+use Rattle.cif_fits.proofs.FormLaws.{way-syncs}
+use Rattle.cif_translate.specs.Looking.{or_whole, source_for, component_at}
+use Rattle.cif_translate.specs.declared.looking.Looking.{Looking}
+use Rattle.cif_inst.specs.Names.{AreBuiltNames}
+use Rattle.cif_inst.specs.Rows.{RowTree, prefix_of, row_for}
+use Rattle.cif_inst.specs.Edges.{automaton_edges}
+use Rattle.cif_inst.specs.Alphabets.{used_events, alphabet_for, monitors_for, automaton_alphabet, body_alphabets, rows_alphabets}
+use Rattle.cif_inst.specs.Autos.{auto_for, body_autos, rows_autos}
+use Rattle.cif_inst.specs.Measures.{edge_weight, automaton_weights, body_weights, rows_weights}
+use Rattle.cif_inst.specs.Outlines.{outline_edge, outline_edges, outline, outlines, together}
+use Rattle.cif_inst.proofs.SoundLaws.{component-listed, From, from-here, from-next}
+use Rattle.cif_inst.proofs.EdgeLaws.{event_of}
+use Rattle.cif_inst.proofs.ListedLaws.{used-edges, weights-edges}
+use Rattle.cif_inst.proofs.AutomatonLaws.{sound, edges}
+
+-- ---- what is left of a list
+
+at-begins : {A : Type 0} (d : A) (xs : List A) (j : ℕ) (x : A) (rest : List A) → drop j xs ≡ x ∷ rest → at_or d xs j ≡ x
+at-begins d [] zero x rest h = cc
+at-begins d [] (suc j) x rest h = cc
+at-begins d (y ∷ xs) zero x rest h = cc
+at-begins d (y ∷ xs) (suc j) x rest h = at-begins d xs j x rest h
+
+left-past : {A : Type 0} (xs ys rest : List A) (j k : ℕ) → k ≡ length ys → drop j xs ≡ ys ++ rest → drop (j + k) xs ≡ rest
+left-past xs ys rest j k is h = sym (drop-drop k j xs) ∙ (λ i. drop (is i) (h i)) ∙ drop-append_seam ys rest
+
+-- ---- sizes
+
+all-sizes : (f : ℕ → counts.Measure) (es : List NetExpr) → (all_beside (map (measure_by f) es)).size ≡ sizes_by f es
+all-sizes f [] = refl
+all-sizes f (e ∷ es) = ap (λ s. (measure_by f e).size + s) (all-sizes f es) ∙ sym (sum_by-cons (λ x. (measure_by f x).size) e es)
+
+module _ (ms : List Measure) where
+  edge-as : (j : ℕ) (x : NetEdge) (rest : List Measure) → x.role ≡ syncing → drop j ms ≡ edge_weight x ∷ rest → counted_edge (table_measure ms) (outline_edge j x.event) ≡ counted_edge (table_measure []) x
+  edge-as j x rest syncs left = λ i. record { event = x.event; role = sym syncs i; size = same i }
+    where
+      at : table_measure ms j ≡ as_measure (edge_weight x)
+      at = ap as_measure (at-begins (record { size = 0; depth = 0 }) ms j (edge_weight x) rest left)
+
+      same : cut_size (table_measure ms) (net_expr (n_alg j) 0 ∷ []) ≡ cut_size (table_measure []) (edge_exprs x)
+      same = omega (arith, sum_by-cons (λ e. (measure_by (table_measure ms) e).size) (net_expr (n_alg j) 0) [], ap (λ (m : counts.Measure). m.size) at, all-sizes (table_measure []) (edge_exprs x))
+
+  edges-as : (xs : List NetEdge) (j : ℕ) (rest : List Measure) → ((x : NetEdge) → Member x xs → x.role ≡ syncing) → drop j ms ≡ map edge_weight xs ++ rest
+      → map (counted_edge (table_measure ms)) (outline_edges j (map event_of xs)) ≡ map (counted_edge (table_measure [])) xs
+  edges-as [] j rest syncs left = refl
+  edges-as (x ∷ xs) j rest syncs left =
+      λ i. edge-as j x (map edge_weight xs ++ rest) (syncs x (inl refl)) left i
+      ∷ edges-as xs (j + 1) rest (λ y m. syncs y (inr m)) (left-past ms (edge_weight x ∷ []) (map edge_weight xs ++ rest) j 1 refl left) i
+
+-- ---- automata
+
+module _ (l : Looking) (h : AreBuiltNames l) where
+  all-sync : (k : ℕ) → k < length (components_of (source_for l)) → (a : AutomatonTree) → body_of (component_at l k) ≡ automaton_body a → (x : NetEdge) → Member x (automaton_edges l k a) → x.role ≡ syncing
+  all-sync k below a e x m =
+      let w = member-map (net_edge (component_at l k)) x (event_edges (component_at l k)) (subst (Member x) (edges l h k below a e) m) in
+      ap (λ (y : NetEdge). y.role) w.2 ∙ ap role_of (way-syncs (source_for l) (sound l h).forms (component_at l k) (component-listed (source_for l) k below) w.0 w.1)
+
+  as-many : (k : ℕ) (a : AutomatonTree) → length (used_events l k a) ≡ length (automaton_weights l k a)
+  as-many k a =
+      ap length (used-edges l k a) ∙ map-length event_of (automaton_edges l k a)
+      ∙ sym (ap length (weights-edges l k a) ∙ map-length edge_weight (automaton_edges l k a))
+
+  module _ (ms : List Measure) where
+    abbrev counted_here : NetAuto → CountedAuto
+    counted_here = counted_auto (table_measure ms)
+
+    abbrev counted_there : NetAuto → CountedAuto
+    counted_there = counted_auto (table_measure [])
+
+    auto-as : (k : ℕ) → k < length (components_of (source_for l)) → (p : Text) (a : AutomatonTree) → body_of (component_at l k) ≡ automaton_body a → (j : ℕ) (rest : List Measure) → drop j ms ≡ automaton_weights l k a ++ rest
+        → counted_here (outline j (automaton_alphabet l k a)) ≡ counted_there (auto_for l k p a)
+    auto-as k below p a e j rest left =
+        λ i. record {
+          alphabet = alphabet_for l k a;
+          monitors = monitors_for l k a;
+          edges =
+              (ap (λ es. map (counted_edge (table_measure ms)) (outline_edges j es)) (used-edges l k a)
+              ∙ edges-as ms (automaton_edges l k a) j rest (all-sync k below a e) (left ∙ ap (λ ws. ws ++ rest) (weights-edges l k a))) i;
+        }
+
+    module _ (k : ℕ) (below : k < length (components_of (source_for l))) (later : List RowTree)
+        (rest-as : (j : ℕ) → drop j ms ≡ rows_weights l (k + 1) later → map counted_here (outlines j (rows_alphabets l (k + 1) later)) ≡ map counted_there (rows_autos l (k + 1) later)) where
+      body-as : (b : SourceBody) → body_of (component_at l k) ≡ b → (p : Text) (j : ℕ) → drop j ms ≡ body_weights l k b ++ rows_weights l (k + 1) later
+          → map counted_here (outlines j (body_alphabets l k b ++ rows_alphabets l (k + 1) later)) ≡ map counted_there (body_autos l k p b ++ rows_autos l (k + 1) later)
+      body-as (group_body is) e p j left = rest-as j left
+      body-as (automaton_body a) e p j left =
+          λ i. auto-as k below p a e j (rows_weights l (k + 1) later) left i
+          ∷ rest-as (j + length (used_events l k a)) (left-past ms (automaton_weights l k a) (rows_weights l (k + 1) later) j (length (used_events l k a)) (as-many k a) left) i
+
+    pub rows-as : (cs : List Component) (k j : ℕ) → From (source_for l) cs k → drop j ms ≡ rows_weights l k (map row_for cs)
+        → map counted_here (outlines j (rows_alphabets l k (map row_for cs))) ≡ map counted_there (rows_autos l k (map row_for cs))
+    rows-as [] k j from left = refl
+    rows-as (c ∷ cs) k j from left =
+        let here : IsNumber (source_for l) k c = from-here (source_for l) c cs k from in
+        body-as k (slice_get-below (components_of (source_for l)) k c here) (map row_for cs) (λ i g. rows-as cs (k + 1) i (from-next (source_for l) c cs k from) g)
+        (body_of c) (ap (λ o. body_of (or_whole (source_for l) o)) here) (prefix_of c) j left
+
+-- ---- the edges of the net
+
+abbrev pub edges_of : List NetAuto → List NetEdge
+edges_of autos = flat_map (λ (a : NetAuto). a.edges) autos
+
+body-weights : (l : Looking) (k : ℕ) (p : Text) (b : SourceBody) (ws : List Measure) (autos : List NetAuto) → ws ≡ map edge_weight (edges_of autos)
+    → body_weights l k b ++ ws ≡ map edge_weight (edges_of (body_autos l k p b ++ autos))
+body-weights l k p (group_body is) ws autos h = h
+body-weights l k p (automaton_body a) ws autos h =
+    ap (λ xs. xs ++ ws) (weights-edges l k a)
+    ∙ ap (λ xs. map edge_weight (automaton_edges l k a) ++ xs) h
+    ∙ sym (map-append edge_weight (automaton_edges l k a) (edges_of autos))
+
+pub weights-are : (l : Looking) (k : ℕ) (rows : List RowTree) → rows_weights l k rows ≡ map edge_weight (edges_of (rows_autos l k rows))
+weights-are l k [] = refl
+weights-are l k (r ∷ rows) = body-weights l k r.0 r.1 (rows_weights l (k + 1) rows) (rows_autos l (k + 1) rows) (weights-are l (k + 1) rows)
+
+-- ---- depth
+
+abbrev pub depth_in : List NetExpr → ℕ
+depth_in es = (all_beside (map (measure_by (table_measure [])) es)).depth
+
+pub depth-append : (xs ys : List NetExpr) → depth_in (xs ++ ys) ≡ max (depth_in xs) (depth_in ys)
+depth-append [] ys = omega arith
+depth-append (x ∷ xs) ys = omega (arith, depth-append xs ys)
+
+edges-deep : (xs : List NetEdge) → stopped most_depth (all_beside (map as_measure (map edge_weight xs))).depth ≡ stopped most_depth (depth_in (flat_map edge_exprs xs))
+edges-deep [] = refl
+edges-deep (x ∷ xs) = omega (arith, edges-deep xs, depth-append (edge_exprs x) (flat_map edge_exprs xs))
+
+counted-deep : (ms : List Measure) (a : Measure) → a.depth ≤ suc most_depth → (table_counted a ms).depth ≡ stopped most_depth (max a.depth (all_beside (map as_measure ms)).depth)
+counted-deep [] a few = omega (arith, few)
+counted-deep (m ∷ ms) a few = omega (arith, few, counted-deep ms (beside_stopped a m) (omega arith))
+
+pub together-deep : (ms : List Measure) (xs : List NetEdge) → ms ≡ map edge_weight xs → (together ms).depth ≡ stopped most_depth (depth_in (flat_map edge_exprs xs))
+together-deep ms xs are =
+    let d = counted-deep ms (stopped_measure no_form) (omega arith) in
+    let e = ap (λ (ws : List Measure). stopped most_depth (all_beside (map as_measure ws)).depth) are ∙ edges-deep xs in
+    omega (arith, d, e)

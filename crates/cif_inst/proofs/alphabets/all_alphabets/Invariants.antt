@@ -1,0 +1,11 @@
+use Rattle.std.proofs.Common.{◌≡◌, ◌++◌, map, drop}
+use Rattle.cif_inst.specs.Alphabets.{rows_alphabets, rows_lacks, AreMarks}
+use Rattle.cif_inst.specs.Views.{row_tree}
+use Rattle.cif_inst.proofs.alphabets.all_alphabets.Given as goal
+
+abbrev pub invariant-loop-place : goal.invariant-loop-place
+invariant-loop-place l = record {
+  found : l.all ++ rows_alphabets l.looking l.place (map row_tree (drop l.place l.rows)) ≡ rows_alphabets l.looking 0 (map row_tree l.rows);
+  within : rows_lacks l.looking l.place (map row_tree (drop l.place l.rows)) ≡ rows_lacks l.looking 0 (map row_tree l.rows);
+  marks : AreMarks l.looking l.place l.marks;
+}

@@ -1,0 +1,117 @@
+//! What the edges of all automata weigh in the net, before any of their expressions is made.
+
+ghost use Rattle.std.specs.Prelude.{◌≡◌, ◌<◌, ◌++◌, map, flat_map, length, IfOk, OnOk};
+ghost use Rattle.cif_source.specs.Objects.{components_of};
+ghost use Rattle.cif_source.specs.Source as source;
+ghost use Rattle.cif_scope.specs.Written.{inside_of};
+ghost use Rattle.cif_translate.specs.Looking.{AreNamesOf, source_for};
+ghost use Rattle.cif_sizes.specs.Arguments.{AreArgumentMeasures};
+ghost use Rattle.cif_inst.specs.Measures as measures;
+ghost use Rattle.cif_inst.specs.Rows.{rows_of};
+ghost use Rattle.cif_inst.specs.Views.{row_tree};
+
+use crate::rows::Row;
+use cif_ast::{Edge, Loc};
+use cif_base::{Items, Memory};
+use cif_measure::Measure;
+use cif_scope::{Inside, number};
+use cif_sizes::{argument_measures, edge_measure};
+use cif_translate::Looking;
+use std::alloc::Global;
+
+/// Adds the measure of an edge, once for each use of an event.
+fn add_edge(
+    looking: &Looking<'_, '_>,
+    arguments: &[Items<Measure>],
+    component: u32,
+    edge: &Edge,
+    all: &mut Items<Measure>,
+) -> Result<(), Memory>
+    requires names { AreNamesOf looking.now }
+    requires component { component < length (components_of (source_for looking.now)) }
+    requires arguments { AreArgumentMeasures looking.now arguments.now }
+    ensures { OnOk result (all.new ≡ all.old ++ measures.edge_weights looking.now component (source.edge_tree edge.now)) }
+{
+    let measure = edge_measure(looking, arguments, component, edge);
+    let uses = edge.uses.as_slice();
+    for _event_use in uses {
+        all.push(measure)?;
+    }
+    Ok(())
+}
+
+fn add_edges(
+    looking: &Looking<'_, '_>,
+    arguments: &[Items<Measure>],
+    component: u32,
+    edges: &[Edge],
+    all: &mut Items<Measure>,
+) -> Result<(), Memory>
+    requires names { AreNamesOf looking.now }
+    requires component { component < length (components_of (source_for looking.now)) }
+    requires arguments { AreArgumentMeasures looking.now arguments.now }
+    ensures { OnOk result (all.new ≡ all.old ++ flat_map (measures.edge_weights looking.now component) (map source.edge_tree edges.now)) }
+{
+    for edge in edges {
+        add_edge(looking, arguments, component, edge, all)?;
+    }
+    Ok(())
+}
+
+fn add_locations(
+    looking: &Looking<'_, '_>,
+    arguments: &[Items<Measure>],
+    component: u32,
+    locs: &[Loc],
+    all: &mut Items<Measure>,
+) -> Result<(), Memory>
+    requires names { AreNamesOf looking.now }
+    requires component { component < length (components_of (source_for looking.now)) }
+    requires arguments { AreArgumentMeasures looking.now arguments.now }
+    ensures { OnOk result (all.new ≡ all.old ++ flat_map (measures.location_weights looking.now component) (map source.location_tree locs.now)) }
+{
+    for loc in locs {
+        add_edges(looking, arguments, component, loc.edges.as_slice(), all)?;
+    }
+    Ok(())
+}
+
+/// Adds the measures of the edges of a component.
+fn add_row(
+    looking: &Looking<'_, '_>,
+    arguments: &[Items<Measure>],
+    component: u32,
+    row: &Row,
+    all: &mut Items<Measure>,
+) -> Result<(), Memory>
+    requires names { AreNamesOf looking.now }
+    requires component { component < length (components_of (source_for looking.now)) }
+    requires arguments { AreArgumentMeasures looking.now arguments.now }
+    ensures { OnOk result (all.new ≡ all.old ++ measures.body_weights looking.now component (inside_of row.now.inside)) }
+{
+    match row.inside {
+        Inside::Group(_) => Ok(()),
+        Inside::Automaton(body) => {
+            add_locations(looking, arguments, component, body.locs.as_slice(), all)
+        }
+    }
+}
+
+/// The measures of the edges of these components, an edge for each use of an event, in the order of the net. The time is linear
+/// in the source, however large the net is.
+pub fn all_measures(
+    alloc: Global,
+    looking: &Looking<'_, '_>,
+    rows: &[Row],
+) -> Result<Items<Measure>, Memory>
+    requires names { AreNamesOf looking.now }
+    requires rows { map row_tree rows.now ≡ rows_of (source_for looking.now) }
+    ensures { IfOk result (λ all. all ≡ measures.rows_weights looking.now 0 (map row_tree rows.now)) }
+{
+    let arguments = argument_measures(alloc, looking)?;
+    let mut all = Items::new(alloc);
+    for (place, row) in rows.iter().enumerate() {
+        add_row(looking, arguments.as_slice(), number(place)?, row, &mut all)?;
+    }
+    Ok(all)
+}

@@ -1,9 +1,0 @@
-pub mod Lists
-pub mod NumberLaws
-pub mod AutomatonLaws
-pub mod EntryLaws
-pub mod LeafLaws
-pub mod TurnLaws
-pub mod FirstLaws
-pub mod CountLaws
-pub mod ObjectLaws

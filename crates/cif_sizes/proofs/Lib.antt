@@ -1,0 +1,4 @@
+mod ReadyLaws
+mod CountedLaws
+mod NameLaws
+mod ArgumentLaws

@@ -1,0 +1,85 @@
+//! What the expressions of an edge weigh together.
+
+ghost use Rattle.std.specs.Prelude.{◌≡◌, ◌<◌, ℕ, [], map, length};
+ghost use Rattle.cif_ast.specs.View.{view_update, view_updates, view_update_branches};
+ghost use Rattle.cif_source.specs.Objects.{components_of};
+ghost use Rattle.cif_source.specs.Source.{UseTree, edge_tree, syncs};
+ghost use Rattle.cif_model.specs.Counts.{measure_by, all_beside};
+ghost use Rattle.cif_model.specs.Exprs.{edge_exprs};
+ghost use Rattle.cif_measure.specs.Meanings.{stopped_measure, table_measure};
+ghost use Rattle.cif_image.specs.Flat.{net_edge};
+ghost use Rattle.cif_translate.specs.Looking.{AreNamesOf, source_for, component_at};
+ghost use Rattle.cif_sizes.specs.Arguments.{AreArgumentMeasures};
+ghost use Rattle.cif_sizes.specs.Counted as counted;
+ghost use Rattle.cif_sizes.specs.Reading.{Knows, names_by};
+
+use crate::measuring::Measurer;
+use cif_ast::{Edge, Update, UpdateBranch};
+use cif_base::Items;
+use cif_measure::Measure;
+use cif_translate::Looking;
+
+impl<'a, 'b, 'c> Measurer<'a, 'b, 'c> {
+    #[cycle(updates)]
+    fn updates(&self, all: &[Update], before: Measure) -> Measure
+        requires { Knows self.now }
+        ensures { result ≡ counted.updates_counted (names_by self.now) before (view_updates all.now) }
+    {
+        let mut found = before;
+        for update in all {
+            found = self.update(update, found);
+        }
+        found
+    }
+
+    #[cycle(updates)]
+    fn update(&self, update: &Update, before: Measure) -> Measure
+        requires { Knows self.now }
+        ensures { result ≡ counted.update_counted (names_by self.now) before (view_update update.now) }
+    {
+        match update {
+            Update::Set { target: _, value } => before.beside(self.expr(value)),
+            Update::If { branches, other } => {
+                let branched = self.update_branches(branches.as_slice(), before);
+                self.updates(other.as_slice(), branched)
+            }
+        }
+    }
+
+    #[cycle(updates)]
+    fn update_branches(&self, all: &[UpdateBranch], before: Measure) -> Measure
+        requires { Knows self.now }
+        ensures { result ≡ counted.update_branches_counted (names_by self.now) before (view_update_branches all.now) }
+    {
+        let mut found = before;
+        for branch in all {
+            let tested = found.beside(self.conditions(branch.conds.as_slice()));
+            found = self.updates(branch.updates.as_slice(), tested);
+        }
+        found
+    }
+}
+
+/// The measure of all expressions that an edge of a component has in the net where it synchronises: its guard and those of its
+/// updates. Counts stop one past their limits. The time is linear in the edge, whatever arguments stand for its names.
+pub fn edge_measure(
+    looking: &Looking<'_, '_>,
+    arguments: &[Items<Measure>],
+    component: u32,
+    edge: &Edge,
+) -> Measure
+    requires names { AreNamesOf looking.now }
+    requires component { component < length (components_of (source_for looking.now)) }
+    requires arguments { AreArgumentMeasures looking.now arguments.now }
+    ensures { (from : ℕ) (u : UseTree) → u.role ≡ syncs → result ≡ stopped_measure (all_beside (map (measure_by (table_measure []))
+        (edge_exprs (net_edge (component_at looking.now component)
+        (record { from = from; event_use = u; edge = edge_tree edge.now }))))) }
+{
+    let measurer = Measurer {
+        looking,
+        arguments,
+        component,
+    };
+    let guard = measurer.conditions(edge.guards.as_slice());
+    measurer.updates(edge.updates.as_slice(), guard)
+}
