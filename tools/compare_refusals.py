@@ -5,11 +5,12 @@
     tools/compare_refusals.py --self-test
 
 Where rules are broken, what is told is to be one of the refusals of the first phase that has any: tokens, grammar, forms that are
-not built yet, names, bodies as written (kinds, constants, initial locations, what is assigned), components (alphabets, the number
-of objects, ranges of constants), the widths and sizes of what choices evaluate, their number. Then `generate` asks that each event
-has a class. A source that breaks none is accepted. Besides random sources there are the worked examples and some at each limit. The
-status is 1 where the two differ. The rules are in `plain_nets.py`, `plain_data.py` and `plain_names.py`; with `--self-test` they are
-compared with worked examples. How deep a source nests is not bounded here.
+not built yet, names, bodies as written, those of definitions too (kinds, arguments, constants, initial locations, what is assigned),
+components, instances among them (alphabets, the number of objects, ranges of constants), the widths and sizes of what choices
+evaluate, their number. Then `generate` asks that each event has a class. A source that breaks none is accepted. Besides random sources,
+about half of them with definitions, there are the worked examples and some at each limit. The status is 1 where the two differ. The
+rules are in `plain_nets.py`, `plain_data.py` and `plain_names.py`; with `--self-test` they are compared with worked examples. How deep
+a source nests is not bounded here.
 """
 import itertools
 import os
@@ -24,7 +25,7 @@ from compare_grammar import CIF
 from earley import Grammar, changed, judged
 from plain_nets import MOST_CHOICES, MOST_NODES, Source, broken, line_of, unclassed
 from plain_tokens import Token, Unread, lexed
-from random_nets import Maker, spelled, tokens_of
+from random_nets import made_text, spelled, tokens_of
 
 GRAMMAR = Grammar(CIF)
 # Longer programs are checked, and not generated.
@@ -73,18 +74,22 @@ def is_allowed(line, lines, text):
 # ---- random sources
 
 FAULTS = {"name": 0.15, "twice": 0.1, "goto": 0.3, "initials": 0.4, "alphabet": 0.5, "class": 0.3, "later": 0.05, "kind": 0.06,
-          "constant": 0.6, "own": 0.3, "doubly": 0.3, "range": 0.2, "divisor": 0.5, "wide": 0.05}
+          "constant": 0.6, "own": 0.3, "doubly": 0.3, "range": 0.2, "divisor": 0.5, "wide": 0.05, "cycle": 1, "count": 0.3, "argument": 0.2,
+          "unfit": 0.4}
+OF_DEFINITIONS = ("name", "cycle", "count", "argument", "unfit", "unfit", "unfit", "alphabet", "alphabet", "divisor", "wide", "class")
 OF_DATA = ("name", "twice", "kind", "constant", "own", "doubly", "range", "divisor", "wide")
 ODD_PIECES = ["@", "$", "#", '"', "\x00", "\xe9", "$1", "~", " 2147483648 ", " 2147483647 ", " 99999999999999999999 ", "/*"]
 
 
 def faulty(choose):
     """A source with a few kinds of faults, each often, or with none."""
-    has_data = choose.random() < 0.65
-    kinds = choose.sample(sorted(OF_DATA if has_data and choose.random() < 0.7 else FAULTS), choose.choice([0, 1, 1, 1, 2, 2, 3]))
+    has_data, has_definitions = choose.random() < 0.65, choose.random() < 0.5
+    faults = OF_DATA if has_data and choose.random() < 0.7 else FAULTS
+    faults = OF_DEFINITIONS if has_definitions and choose.random() < 0.5 else faults
+    kinds = choose.sample(sorted(faults), choose.choice([0, 1, 1, 1, 2, 2, 3]))
     # a fault in one place, or in many
     rarity = choose.choice([0.3, 1]) if has_data else 1
-    tokens = tokens_of(Maker(choose, {kind: FAULTS[kind] * rarity for kind in kinds}, has_data).text)
+    tokens = tokens_of(made_text(choose, {kind: FAULTS[kind] * rarity for kind in kinds}, has_data, has_definitions))
     if choose.random() < 0.15:
         tokens = changed([Token(word, word, 0) for word in GRAMMAR.tokens + ["tau"]], choose, tokens)
         tokens = [token._replace(text={"ID": "a", "NUMBER": "7"}.get(token.text, token.text)) for token in tokens]
@@ -207,6 +212,60 @@ def with_data():
     ]
 
 
+def doubled(count):
+    """Definitions of which each has two instances of the one before, and an instance of the last."""
+    text = "".join("group def D%d(): a: D%d(); b: D%d(); end " % (k, k - 1, k - 1) for k in range(1, count + 1))
+    return "group def D0(): end " + text + "x: D%d();" % count
+
+
+def passed_on(count, parameters, arguments, inner, outer):
+    """Definitions of which each has an instance of the one before, with these arguments, and an instance of the last."""
+    text = "automaton def D0(%s): %s end " % (parameters, inner)
+    text += "".join("group def D%d(%s): x: D%d(%s); end " % (k, parameters, k - 1, arguments) for k in range(1, count + 1))
+    return text + "%s x: D%d(%s);" % (outer[0], count, outer[1])
+
+
+def sum_passed_on(count, guard):
+    """The sum of a parameter and itself is passed on so many times."""
+    outer = "automaton a: event e; disc int[0..1] n; location: initial; edge e; end", "a.e, a.n"
+    return passed_on(count, "event c; alg int v", "c, v + v", "location: initial; edge c when %s;" % guard, outer)
+
+
+def negation_passed_on(count):
+    return passed_on(count, "event c; alg bool g", "c, not g", "location: initial; edge c when g;", ("event e;", "e, true"))
+
+
+def with_definitions():
+    many, size, choices = "17 TooManyObjects count 100001", "24 TooLarge nodes 1000001 depth %d", "25 TooManyChoices count 16385"
+    hundreds = "group def P(): end group def T(): %send %sevent %%sz;" % (numbered("p%d: .P(); ", 99), numbered("t%d: .T(); ", 990))
+    machine = "event e; p: M(e); q: M(e); automaton def M(event c): location: initial; %send"
+    places = "p: D(); q: D(); automaton def D(): location p: initial; %send event e, f" % numbered("location p%d; ", 49997)
+    one, parameters = "e%d, ", numbered("e%d, ", 49999)
+    return [
+        ("65535 instances", doubled(15), None),
+        ("131071 instances", doubled(16), many),
+        ("262143 instances", doubled(17), many),
+        ("about two to the power of 200 instances", doubled(200), many),
+        ("the specification, 99000 instances and 999 events", hundreds % numbered(one, 998), None),
+        ("one event more", hundreds % numbered(one, 999), many),
+        ("a definition with 150000 events, and no instance", "group def D(): event %sz; end" % numbered(one, 149999), None),
+        ("the specification, two events and 99998 components and locations", places.replace(", f", ";"), None),
+        ("one event more than the most", places + ";", many),
+        ("50000 parameters and arguments", "event e; group def D(event %sz): end p: D(%se);" % (parameters, "e, " * 49999), None),
+        ("500 instances in one another", passed_on(500, "event c", "c", "location: initial; edge c;", ("event e;", "e")), None),
+        ("two instances with 128 edges each", machine % ("edge c; " * 128), None),
+        ("two instances with 129 edges each", machine % ("edge c; " * 129), choices),
+        # the argument counts 2 ** (n + 1) - 1 forms, and its guard two more
+        ("an argument that counts 524287", sum_passed_on(18, "v >= 0"), None),
+        ("an argument that counts 2097151", sum_passed_on(20, "v >= 0"), size % 21),
+        ("an argument that counts two to the power of 41", sum_passed_on(40, "v >= 0"), size % 41),
+        ("an argument that would count as much, and is not named", sum_passed_on(40, "true"), None),
+        ("an argument that would leave 64 bits, and is not named", sum_passed_on(70, "true"), None),
+        ("an argument of depth 100", negation_passed_on(100), None),
+        ("an argument of depth 101", negation_passed_on(101), "24 TooLarge nodes 104 depth 101"),
+    ]
+
+
 # ---- the comparison
 
 class Tool:
@@ -250,12 +309,12 @@ def main(program, sources=1000, seed=1):
     choose, differ, notes = random.Random(seed), 0, Counter()
     with tempfile.TemporaryDirectory() as folder:
         tool = Tool(program, folder)
-        for what, text, line in at_limits() + with_data():
+        for what, text, line in at_limits() + with_data() + with_definitions():
             fault = tool.fault("check", text, {line} if line else set())
             if fault:
                 differ += 1
                 print("%s: %s" % (what, fault))
-        for text in itertools.chain([it[0] for it in WORKED + DATA], (made(choose) for _ in range(sources))):
+        for text in itertools.chain([it[0] for it in WORKED + DATA + DEFINED], (made(choose) for _ in range(sources))):
             verdict = judgement(text)
             notes.update({line.split()[0] for line in verdict.lines | verdict.generated} or {"none"})
             found = tool.faults(text, verdict)
@@ -377,16 +436,115 @@ DATA = [
 ]
 
 
+# the same for sources with definitions
+CELL = "automaton a: uncontrollable e; disc int[0..3] n; location: initial; edge e; end "
+DOSER = "automaton def D(event c; alg int v): %sdisc int[0..9] m; location: initial; edge c do m := %s; end"
+DEFINED = [
+    # what is not read, and what is not built
+    ("group def D(alg int v;): end", {"4 NotRead at 22"}, set()),
+    ("automaton a: x: D(); location: initial; end", {"4 NotRead at 13"}, set()),
+    ("group def D(event void m): end", {"30 NotBuilt at"}, set()),
+    ("group def D(alg int v): alg int w = v; end", {"30 NotBuilt at"}, set()),
+    ("p: D(?); group def D(alg int v): end", {"30 NotBuilt at"}, set()),
+    # what is instantiated is a definition, with an argument for each parameter
+    ("x: D();", {"5 Unknown at 3"}, set()),
+    ("event D; x: D();", {"7 WrongKind at 12"}, set()),
+    ("x: D(1); group def D(): end", {"7 WrongKind at 0"}, set()),
+    ("x: D(); group def D(alg int v): end", {"7 WrongKind at 0"}, set()),
+    # where the definition is not found, what is looked up in the instance is declared nowhere
+    ("p: E(); automaton a: location: initial; edge p.c; end", {"5 Unknown at 3", "5 Unknown at 45"}, set()),
+    ("event E; p: E(); automaton a: location: initial; edge p.c; end", {"7 WrongKind at 12", "5 Unknown at 54"}, set()),
+    # a bare name without a parameter asks for no sort, and other names stand in an expression
+    ("p: D(z); group def D(): end", {"7 WrongKind at 0", "5 Unknown at 5"}, set()),
+    ("event e; p: D(e); group def D(): end", {"7 WrongKind at 9"}, set()),
+    ("event e; p: D(1 + e); group def D(): end", {"7 WrongKind at 9", "7 WrongKind at 18"}, set()),
+    ("event e; p: D(e, e, 1); group def D(event c; alg int v, w): end", {"7 WrongKind at 17"}, set()),
+    # a definition is not reached through an instance; where nothing is found so, it is unknown
+    ("x: D(); y: x.E(); group def D(): group def E(): end end", {"7 WrongKind at 11"}, set()),
+    ("x: D(); y: x.F(); group def D(): group def E(): end end", {"5 Unknown at 11"}, set()),
+    # a definition is no component, and through an instance its parameters are not found
+    ("group def D(): event e; end automaton a: location: initial; edge D.e; end", {"7 WrongKind at 65"}, set()),
+    ("event e; p: D(e); group def D(event c): end automaton a: location: initial; edge p.c; end", {"5 Unknown at 81"}, set()),
+    ("p: D(); group def D(): event c; end automaton a: location: initial; edge p.c; end", set(), {"28 Unclassed event p.c"}),
+    # names in a definition are looked up where it is written, those in an argument where the instance stands
+    ("group g: controllable e; p: .D(); end group def D(): automaton a: location: initial; edge e; end end", {"5 Unknown at 90"}, set()),
+    ("p: D(k); group def D(alg int v): const int k = 1; end", {"5 Unknown at 5"}, set()),
+    # parameters are declared in the definition's scope
+    ("group def D(alg int v): const int v = 1; end", {"6 Duplicate at 34 first 20"}, set()),
+    ("group def D(event e; alg bool e): end", {"6 Duplicate at 30 first 18"}, set()),
+    # an argument is of its parameter's sort, and stands in an expression where it is no bare name
+    ("event e; p: D(e); group def D(location l): end", {"7 WrongKind at 14"}, set()),
+    ("event e; p: D(e); group def D(alg bool v): end", {"7 WrongKind at 14"}, set()),
+    ("event e; p: D((e)); group def D(event c): end", {"7 WrongKind at 15"}, set()),
+    # a definition reaches those of the instances in it, and not those in the definitions in it
+    ("group def D(): x: D(); end", {"8 DefinitionCycle at 10"}, set()),
+    ("group def D(): group g: x: .D(); end end", {"8 DefinitionCycle at 10"}, set()),
+    ("group def D(): x: E(); end group def E(): x: D(); end x: D();", {"8 DefinitionCycle at 10", "8 DefinitionCycle at 37"}, set()),
+    ("group def D(): group def E(): x: .D(); end end", set(), set()),
+    ("p: D(); group def D(): const int k = j; end const int j = p.k;", {"8 DefinitionCycle at 33", "8 DefinitionCycle at 54"}, set()),
+    ("group def D(): group def E(): x: .D(); end x: E(); end", {"8 DefinitionCycle at 10", "8 DefinitionCycle at 25"}, set()),
+    # kinds and classes of arguments
+    ("p: D(1); group def D(alg bool v): end", {"9 Mismatch at 5"}, set()),
+    ("p: D(1 + true); group def D(alg bool v): end", {"9 Mismatch at 5", "9 Mismatch at 9"}, set()),
+    ("p: D((1)); group def D(location l): end", {"9 Mismatch at 5"}, set()),
+    ("p: D(1 = 1); group def D(event e): end", {"9 Mismatch at 5"}, set()),
+    ("event e; p: D(e); group def D(controllable c): end", {"9 Mismatch at 14"}, set()),
+    ("uncontrollable e; p: D(e); group def D(event c): q: E(c); end group def E(uncontrollable c): end", {"9 Mismatch at 54"}, set()),
+    ("group def D(alg int v): automaton a: event e; location: initial; edge e when v; end end", {"9 Mismatch at 77"}, set()),
+    ("enum T = r, g; group def D(alg T v): enum T = r; const bool b = .g = .r; end p: D(.r);", {"9 Mismatch at 82"}, set()),
+    ("enum T = r, g; p: D(g); group def D(alg T v): enum T = r, g; end", set(), set()),
+    # a parameter is no constant
+    ("group def D(alg int v): const int k = v; end", {"10 NotConstant at 38"}, set()),
+    ("group def D(alg int v; alg int[0..v] w): end", {"10 NotConstant at 34"}, set()),
+    ("p: D(); group def D(): automaton a: disc int n; location: initial; end end const int k = p.a.n;", {"10 NotConstant at 89"}, set()),
+    ("p: D(); group def D(): const int n = 1; end const int k = p.n;", set(), set()),
+    # once for a definition, however many instances it has
+    ("automaton def D(): location p; end", {"11 Initials at 14 count 0"}, set()),
+    ("p: D(); q: D(); automaton def D(): location a: initial; location b: initial; end", {"11 Initials at 30 count 2"}, set()),
+    # a name through an instance assigns no own variable, also in the definition itself
+    ("p: D(); automaton def D(): disc int n; location: initial; end automaton a: event e; location: initial; edge e "
+     "do p.n := 1; end",
+     {"12 NotOwn at 113"}, set()),
+    ("p: D(); automaton def D(): event e; disc int n; location: initial; edge e do .p.n := 1; end", {"12 NotOwn at 77"}, set()),
+    ("p: D(); q: D(); automaton def D(): event e; disc int n; location: initial; edge e do n := 1, p.n := 2, q.n := 3; end",
+     {"12 NotOwn at 93", "12 NotOwn at 103"}, set()),
+    ("group def D(): automaton a: event e; disc int n; location: initial; edge e do n := 1, a.n := 2; end end",
+     {"13 AssignedTwice at 86"}, set()),
+    # alphabets and ranges are asked for each instance, and not for a definition without any
+    ("event e, f; p: D(e, e); q: D(e, f); automaton def D(event a, b): alphabet a; location: initial; edge b; end",
+     {"14 AlphabetLacks at 101"}, set()),
+    ("event e, f; p: D(e, e); automaton def D(event a, b): alphabet a; location: initial; edge b; end", set(), {"28 Unclassed event e"}),
+    ("event e, f; automaton def D(event a, b): alphabet a; location: initial; edge b; end", set(), {"28 Unclassed event e"}),
+    ("event e; p: D(e); automaton def D(event a): monitor a; location: initial; end", {"14 AlphabetLacks at 52"}, set()),
+    ("group def D(): const int k = 1 div 0; end", set(), set()),
+    ("p: D(); q: D(); group def D(): const int k = 1 div 0; end", {"18 ConstantRange at 45"}, set()),
+    ("p: D(1); group def D(alg int[3..2] v): end", {"18 ConstantRange at 29"}, set()),
+    ("p: D(7); group def D(alg int[0..3] v): end", set(), set()),
+    ("p: D(1 div 0 = 1); group def D(alg bool v): end", set(), set()),
+    # arguments are asked where their parameter is named in what is evaluated
+    (CELL + "p: D(a.e, a.n); q: D(a.e, a.n + 1); " + DOSER % ("", "7 div v"), {"20 ZeroDivisor at 90"}, set()),
+    (CELL + "p: D(a.e, a.n + 1); q: D(a.e, 2 + a.n); " + DOSER % ("", "7 div v"), set(), set()),
+    (CELL + "p: D(a.e, 1); q: D(a.e, a.n); " + DOSER % ("", "7 div (v)"), {"20 ZeroDivisor at 205"}, set()),
+    (CELL + "p: D(a.e, (a.n)); " + DOSER % ("", "7 div v"), {"20 ZeroDivisor at 90"}, set()),
+    (CELL + "p: P(a.e, a.n); group def P(event b; alg int w): q: D(b, w); r: D(b, w + 0); end " + DOSER % ("", "7 mod v"),
+     {"20 ZeroDivisor at 90", "20 ZeroDivisor at 149"}, set()),
+    (CELL + "p: D(a.e, a.n * 2147483647 * 2147483647 * 2); " + DOSER % ("", "v"), {"21 TooWide at 90"}, set()),
+    (CELL + "p: D(a.e, a.n * 2147483647 * 2147483647 * 2); " + DOSER % ("", "0"), set(), set()),
+    (CELL + "p: D(a.e, a.n * 2147483647 * 2147483647 * 2); " + DOSER % ("marked v div 0 = v; ", "0"), set(), set()),
+    (CELL + "p: D(a.e, a.n * 2147483647); " + DOSER % ("", "v * v * v"), {"21 TooWide at 198"}, set()),
+]
+
+
 def self_test():
-    for text, lines, generated in WORKED + DATA:
+    for text, lines, generated in WORKED + DATA + DEFINED:
         verdict = judgement(text)
         assert verdict.lines == lines and (lines or verdict.generated == generated), (text, verdict)
-    short = [it for it in at_limits() + with_data() if len(it[1]) < 200000]
+    short = [it for it in at_limits() + with_data() + with_definitions() if len(it[1]) < 200000]
     for what, text, line in short:
         assert judgement(text).lines == ({line} if line else set()), what
     assert judgement("event e, f; " + crowd([2] * 13 + [1] * 47) + crowd([2923], {0}, "f")).nodes == MOST_NODES
     assert judgement("event e; " + crowd([128, 128])).nodes == 5 * MOST_CHOICES
-    print("the rules agree with %d worked examples and %d sources at limits" % (len(WORKED + DATA), len(short)))
+    print("the rules agree with %d worked examples and %d sources at limits" % (len(WORKED + DATA + DEFINED), len(short)))
     return 0
 
 

@@ -1,5 +1,6 @@
 #!/usr/bin/env python3
-"""Compares the scans of generated programs with a simulation of their sources, on random automata that synchronise, with data and without.
+"""Compares the scans of generated programs with a simulation of their sources, on random automata that synchronise, with data,
+definitions and without.
 
     tools/compare_scans.py PROGRAM [SOURCES [SEED]]
     tools/compare_scans.py --self-test
@@ -23,8 +24,9 @@ import sys
 import tempfile
 from collections import Counter, namedtuple
 
+from plain_expressions import Argument
 from plain_nets import Net, Source, broken, line_of, names_of
-from random_nets import Maker, spelled, tokens_of
+from random_nets import made_text, spelled, tokens_of
 
 MOST_SCANS, MOST_TRIED, DEFAULT_ROUNDS = 6, 400, 100
 # How many states the runs of a class in one scan may pass before the search gives up.
@@ -59,10 +61,10 @@ def plant_alone(choose):
     return "\n".join(lines + ["end", ""])
 
 
-def automata_together(choose, has_data=False):
+def automata_together(choose, has_data=False, has_definitions=False):
     """A source that breaks no rule and whose program isn't too long to try."""
     while True:
-        text = spelled(choose, tokens_of(Maker(choose, has_data=has_data).text))
+        text = spelled(choose, tokens_of(made_text(choose, None, has_data, has_definitions)))
         due, net = broken(Source(text))
         if not due and sum(map(net.count, range(len(net.events)))) <= MOST_TRIED:
             return text
@@ -72,14 +74,27 @@ def data_together(choose):
     return automata_together(choose, True)
 
 
+def instances_together(choose):
+    """Definitions and instances, mostly with data, and mostly such that the first rounds lead on and arguments are read."""
+    is_moved, is_read, has_data = choose.random() < 0.9, choose.random() < 0.5, choose.random() < 0.85
+    while True:
+        text = automata_together(choose, has_data, True)
+        net = Net(Source(text))
+        if is_moved and net.scan(2, 2, net.initial())[0] == net.initial():
+            continue
+        if not (is_read and has_data) or any(map(reads_an_argument, net.exprs())):
+            return text
+
+
 def rounds(choose, has_data):
     """The most rounds of a class as they are asked for, or None; fewer with data, which pass more states."""
     return choose.choice([None, 1, 1, 2, 3, 4, 5, 6, 7, 10, 99, 101, 25 if has_data else choose.choice([1000, 9999, 10000])])
 
 
 def made(choose):
-    make = choose.choice([plant_alone, automata_together, automata_together, data_together, data_together, data_together, data_together])
-    text, unc, con = make(choose), rounds(choose, make is data_together), rounds(choose, make is data_together)
+    make = choose.choice([plant_alone] + [automata_together] * 2 + [data_together] * 4 + [instances_together] * 5)
+    has_data = make in (data_together, instances_together)
+    text, unc, con = make(choose), rounds(choose, has_data), rounds(choose, has_data)
     options = [[word, str(number)] for word, number in (("--unc", unc), ("--con", con)) if number is not None]
     choose.shuffle(options)
     return Trial(text, sum(options, []), unc or DEFAULT_ROUNDS, con or DEFAULT_ROUNDS, choose.randint(1, MOST_SCANS))
@@ -124,9 +139,9 @@ class Runs:
             first = numbers[layer]
             layer = layers[first + (least - first) % (len(layers) - first)]
         reached = set()
-        while not layer <= reached:
+        while layer:
             reached |= layer
-            layer = self.all_steps(layer)
+            layer = self.all_steps(layer) - reached
         return ended | reached
 
 
@@ -207,6 +222,12 @@ def noted(net, trial, notes):
     notes["have variables"] += bool(net.variables)
     notes["change a value"] += after[len(net.parties):] != net.initial()[len(net.parties):]
     notes["leave a range"] += leaves_a_range(net)
+    notes["have instances"] += any(body.instances for body in Source(trial.text).bodies)
+    notes["read an argument"] += any(map(reads_an_argument, net.exprs()))
+
+
+def reads_an_argument(expr):
+    return isinstance(expr.more, Argument) or any(map(reads_an_argument, expr.parts))
 
 
 def leaves_a_range(net):
@@ -325,6 +346,60 @@ WORKED = [
      "scan,P0_h_a,Q0_h_a_c,Q1_h_a_d,Q2_h_a_n\n1,0,1,1,2\n2,0,1,1,3\n3,0,1,1,3\n"),
 ]
 
+# the same with definitions
+DEFINED = [
+    # an argument is read where the instance stands: the `k` of the definition is another one
+    ("controllable e, f; const bool k = true; p: D(e, k); q: D(f, not k); automaton def D(controllable c; alg bool g): const bool k = "
+     "false; disc int[0..3] n = 0; location: initial; edge c when g do n := n + 1; end", 100, 2,
+     "scan,P0_p,P1_q,Q0_p_n,Q1_q_n\n1,0,0,2,0\n"),
+    ("group h: const int k = 1; p: .D(k); end const int k = 5; automaton def D(alg int v): const int k = 7; controllable c; "
+     "disc int[0..9] n; location: initial; edge c do n := v; end", 1, 1, "scan,P0_h_p,Q0_h_p_n\n1,0,1\n"),
+    # an instance is numbered at its place in the text, and then what stands in it
+    ("x: D(); automaton a: location: initial; end group def D(): automaton b: location: initial; end end y: D();", 1, 1,
+     "scan,P0_x_b,P1_a,P2_y_b\n1,0,0,0\n"),
+    # names of a definition are looked up where it is written, not where it is instantiated
+    ("controllable e; group g: controllable e; group def D(): plant A: location x: initial; edge e goto y; location y: edge .e goto z; "
+     "location z; end end end group h: controllable e; p: .g.D(); end", 1, 1, "scan,P0_h_p_A\n1,1\n2,2\n"),
+    # two definitions of one name, and each finds its own
+    ("group a: automaton def D(): location x: initial; location y; end p: D(); end group b: automaton def D(): disc int[0..3] n = 2; "
+     "location: initial; end p: D(); q: .a.D(); end", 1, 1, "scan,P0_a_p,P1_b_p,P2_b_q,Q0_b_p_n\n1,0,0,0,2\n"),
+    # parameters are passed on, and the range of one is not enforced
+    ("controllable e; group def Outer(controllable c; alg int v): group def Inner(controllable c; alg int[0..1] v): m: Cell(c, v + 1); end "
+     "i: Inner(c, v * 2); end automaton def Cell(controllable c; alg int[0..1] v): disc int[0..99] n; location: initial; edge c do "
+     "n := v; end o: Outer(e, 3);", 1, 1, "scan,P0_o_i_m,Q0_o_i_m_n\n1,0,7\n"),
+    # what an instance declares is its own: events, places and values
+    ("p: D(); q: D(); automaton def D(): controllable c; disc int[0..3] n; location a: initial; edge c do n := n + 1 goto b; location b; "
+     "end automaton w: disc int[0..9] m = 5; location: initial; edge p.c when q.a do m := m + p.n + 1; edge q.c when p.b; end", 1, 1,
+     "scan,P0_p,P1_q,P2_w,Q0_p_n,Q1_q_n,Q2_w_m\n1,1,1,0,1,1,6\n"),
+    # one event for two parameters: an edge for each, in text order
+    ("controllable e, f; p: D(e, e); q: D(e, f); automaton def D(event a, b): location x: initial; edge b goto y; edge a goto z; "
+     "location y; location z; end", 1, 1, "scan,P0_p,P1_q\n1,1,2\n"),
+    ("controllable e, f; p: D(e, e); q: D(e, f); automaton def D(event a, b): alphabet a, b; monitor b; location x: initial; edge a "
+     "goto y; location y; end", 1, 1, "scan,P0_p,P1_q\n1,1,1\n2,1,1\n"),
+    # locations as arguments, also by names of other parameters and as truths
+    ("plant a: controllable go; location here: initial; edge go goto there; location there; end p: D(a.here); q: D(a.there); "
+     "r: E(a.there); automaton def D(location l): controllable c; disc bool b; location: initial; edge c do b := l; end "
+     "group def E(location m): x: F(m, not m); end automaton def F(location l; alg bool g): controllable c; disc bool b, d = true; location: "
+     "initial; edge c do b := l, d := g; end", 1, 1,
+     "scan,P0_a,P1_p,P2_q,P3_r_x,Q0_p_b,Q1_q_b,Q2_r_x_b,Q3_r_x_d\n1,1,0,0,0,FALSE,TRUE,TRUE,FALSE\n"),
+    # an argument may name what its own instance declares
+    ("p: D(p.n); automaton def D(alg int v): controllable c; disc int[0..9] n = 3; location: initial; edge c do n := v + 1; end", 1, 1,
+     "scan,P0_p,Q0_p_n\n1,0,4\n2,0,5\n"),
+    # an argument is read in the state before the step, too
+    ("automaton a: controllable e; disc int[0..9] x = 1; location: initial; edge e do x := x + 1; end p: D(a.e, 2 * a.x); "
+     "automaton def D(event c; alg int v): disc int[0..99] n; location: initial; edge c do n := v; end", 1, 1,
+     "scan,P0_a,P1_p,Q0_a_x,Q1_p_n\n1,0,0,2,2\n2,0,0,3,4\n"),
+    # types and constants of a definition: in its parameters, and through its instances
+    ("controllable e; enum T = r, g; p: D(e, g); automaton def D(event c; alg T v): enum T = r, g; disc T w; location: initial; edge c "
+     "when v != w do w := v; end", 1, 1, "scan,P0_p,Q0_p_w\n1,0,1\n"),
+    ("p: D(); automaton def D(): const int k = 4; type t = int[0..k]; disc t n = k; location: initial; end automaton a: disc p.t m = "
+     "p.k - 1; location: initial; end", 1, 1, "scan,P0_p,P1_a,Q0_p_n,Q1_a_m\n1,0,0,4,3\n"),
+    # a definition in a definition finds the parameters round it, which each instance has for itself
+    ("controllable e, f; p: Out(e, 1); q: Out(f, 2); group def Out(event c; alg int v): automaton def In(alg int w): disc int[0..99] n; "
+     "location: initial; edge c when n < 50 do n := n + 10 * v + w; end i: In(v + 3); end", 1, 1,
+     "scan,P0_p_i,P1_q_i,Q0_p_i_n,Q1_q_i_n\n1,0,0,14,25\n2,0,0,28,50\n3,0,0,42,50\n"),
+]
+
 
 # the same for files of examples/, in which each scan makes one round of each class
 EXAMPLES = [
@@ -361,6 +436,24 @@ EXAMPLES = [
 10,1,0,0,0,0,1,1,0,0
 11,1,0,0,0,1,1,1,0,0
 12,1,0,0,0,2,1,1,0,0
+"""),
+    ("pumps.cif", """\
+scan,P0_Sump,P1_Turn,P2_north_valve,P3_north_pump,P4_south_valve,P5_south_pump,Q0_Sump_level,Q1_north_pump_starts,Q2_south_pump_starts
+1,0,0,1,0,0,0,3,0,0
+2,0,0,2,1,0,0,4,1,0
+3,0,0,2,1,0,0,3,1,0
+4,0,0,2,1,0,0,2,1,0
+5,0,0,2,1,0,0,1,1,0
+6,0,1,2,0,0,0,0,1,0
+7,0,1,3,0,0,0,1,1,0
+8,0,1,0,0,0,0,2,1,0
+9,0,1,0,0,1,0,3,1,0
+10,0,1,0,0,2,1,4,1,1
+11,0,1,0,0,2,1,3,1,1
+12,0,1,0,0,2,1,2,1,1
+13,0,1,0,0,2,1,1,1,1
+14,0,0,0,0,2,0,0,1,1
+15,0,0,0,0,3,0,1,1,1
 """),
 ]
 
@@ -404,7 +497,7 @@ def example(name):
 
 
 def all_worked():
-    return WORKED + [(example(name), 1, 1, table) for name, table in EXAMPLES]
+    return WORKED + DEFINED + [(example(name), 1, 1, table) for name, table in EXAMPLES]
 
 
 def worked_trials():

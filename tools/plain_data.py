@@ -1,12 +1,13 @@
 """The rules on types, kinds, constants and assignments of a source, and what its types and constants mean.
 
-The kinds are boolean, integer, and an enumeration by the names of its literals (CIF 3 language reference, "Types"). A refusal is
-due at each place where a rule is broken.
+The kinds are boolean, integer, and an enumeration by the names of its literals (CIF 3 language reference, "Types"). Rules on kinds are
+about bodies as written, values and ranges about components. A refusal is due at each place where a rule is broken.
 """
 from collections import namedtuple
 
-from plain_expressions import GREATEST, LEAST, Expr, branches_of, conjunction_of, evaluated, names_in
-from plain_names import CONSTANT, DISC, LITERAL, LOCATION, found_slot
+from plain_expressions import GREATEST, LEAST, Argument, Expr, branches_of, conjunction_of, evaluated, names_in
+from plain_names import (
+    ALG_PARAMETER, CONSTANT, DISC, EVENT_PARAMETER, LITERAL, LOCATION, LOCATION_PARAMETER, denoted, found_from, found_slot)
 
 # A type as written: `bool`, `int`, `range` with its two bounds, or `name` with its use.
 Type = namedtuple("Type", "form more")
@@ -51,13 +52,19 @@ def conditions_in(updates):
 
 
 class Data:
-    """What names, types, constants and expressions of a source mean; its rules on names are kept."""
+    """The kinds of a source, and the rules on bodies as written; its rules on names are kept."""
 
     def __init__(self, source):
-        self.source, self.known = source, {}
+        self.source = source
 
     def slot(self, body, use):
         return found_slot(self.source.root, body, use.name)
+
+    def place_of(self, body, use):
+        """The slot that a name finds, and the instances that it passes."""
+        through = []
+        slot = found_slot(self.source.root, body, use.name, through=through)
+        return (slot, *through)
 
     # ---- kinds
 
@@ -70,7 +77,7 @@ class Data:
     def kind_of_slot(self, slot):
         if slot.sort == LITERAL:
             return tuple(slot.enum.literals)
-        return BOOL if slot.sort == LOCATION else self.kind_of_type(slot.home, slot.type)
+        return BOOL if slot.sort in (LOCATION, LOCATION_PARAMETER) else self.kind_of_type(slot.home, slot.type)
 
     def kind(self, body, expr):
         if expr.form == "name":
@@ -118,6 +125,8 @@ class Data:
         for slot in source.valued:
             yield slot.home, slot.value, self.kind_of_type(slot.home, slot.type)
         yield from ((body, expr, BOOL) for body, expr in source.marks)
+        for body, expr, parameter in self.arguments():
+            yield body, expr, self.kind_of_slot(parameter) if parameter.sort == ALG_PARAMETER else None
         for automaton in source.automata:
             for edge in automaton.edges:
                 conditions = [edge.guards] + list(conditions_in(edge.updates))
@@ -125,6 +134,24 @@ class Data:
                 for update in updates_in(edge.updates):
                     kind = self.kind_of_slot(self.slot(automaton.body, update.target))
                     yield automaton.body, update.value, kind
+
+    # ---- arguments
+
+    def arguments(self):
+        """The arguments of all instances with the bodies in which they stand, and the slots of their parameters."""
+        for body in self.source.bodies:
+            for instance in body.instances:
+                definition = found_slot(self.source.root, body, instance.definition, True)
+                yield from ((body, expr, parameter) for expr, parameter in zip(instance.exprs, definition.body.slots))
+
+    def of_arguments(self):
+        """9: an event or a location is a bare name, and an event has the class that its parameter asks."""
+        for body, expr, parameter in self.arguments():
+            if parameter.sort != ALG_PARAMETER and (expr.form != "name" or self.lacks_class(body, expr.more, parameter)):
+                yield ("Mismatch", ("at", expr.at))
+
+    def lacks_class(self, body, use, parameter):
+        return parameter.sort == EVENT_PARAMETER and parameter.word != "event" and self.slot(body, use).word != parameter.word
 
     # ---- what may stand in constants, and what may be assigned
 
@@ -137,11 +164,12 @@ class Data:
                     yield ("NotConstant", ("at", use.at))
 
     def of_targets(self):
-        """12: what is assigned is declared in the automaton."""
+        """12: what is assigned is declared in the automaton, and no instance is passed."""
         for automaton in self.source.automata:
             for edge in automaton.edges:
                 for update in updates_in(edge.updates):
-                    if self.slot(automaton.body, update.target).home is not automaton.body:
+                    slot, *through = self.place_of(automaton.body, update.target)
+                    if slot.home is not automaton.body or through:
                         yield ("NotOwn", ("at", update.target.at))
 
     def of_twice(self):
@@ -154,89 +182,115 @@ class Data:
     def twice_in(self, body, updates):
         earlier = set()
         for update in updates:
-            found = [(id(self.slot(body, it.target)), it.target.at) for it in updates_in([update])]
-            yield from (("AssignedTwice", ("at", at)) for slot, at in found if slot in earlier)
-            earlier.update(slot for slot, _ in found)
+            found = [(tuple(map(id, self.place_of(body, it.target))), it.target.at) for it in updates_in([update])]
+            yield from (("AssignedTwice", ("at", at)) for place, at in found if place in earlier)
+            earlier.update(place for place, _ in found)
 
-    # ---- values of constants, and ranges
 
-    def constant(self, body, expr, meets=None):
-        return evaluated(self.resolved(body, expr), (), meets)
+class Values:
+    """What types, constants and expressions mean in components. The rules on names and kinds are kept.
 
-    def value_of(self, slot):
+    `places` has what stands for a variable or a location in a state, by the frame and slot that declare it. What a constant or an
+    argument is is found once.
+    """
+
+    def __init__(self, places=None):
+        self.places, self.known, self.given = places or {}, {}, {}
+
+    # ---- constants, and ranges
+
+    def constant(self, frame, expr, meets=None):
+        return evaluated(self.resolved(frame, expr), (), meets)
+
+    def value_of(self, frame, slot):
         """The value of a constant or a literal."""
         if slot.sort == LITERAL:
             return slot.enum.literals.index(slot.name)
-        if id(slot) not in self.known:
-            self.known[id(slot)] = self.constant(slot.home, slot.value)
-        return self.known[id(slot)]
+        if (frame, slot) not in self.known:
+            self.known[frame, slot] = self.constant(frame, slot.value)
+        return self.known[frame, slot]
 
-    def range_of(self, body, type_):
+    def range_of(self, frame, type_):
         if type_.form == "bool":
             return 0, 1
         if type_.form == "int":
             return INTEGERS
         if type_.form == "range":
-            return tuple(self.constant(body, bound) for bound in type_.more)
-        slot = self.slot(body, type_.more)
-        return (0, len(slot.literals) - 1) if slot.literals else self.range_of(slot.home, slot.type)
+            return tuple(self.constant(frame, bound) for bound in type_.more)
+        home, slot = found_from(frame, type_.more.name)
+        return (0, len(slot.literals) - 1) if slot.literals else self.range_of(home, slot.type)
 
-    def is_faulty(self, body, expr):
+    def is_faulty(self, frame, expr):
         """Whether a constant expression meets a divisor 0 or what leaves 64 bits."""
         met = []
-        self.constant(body, expr, met.append)
+        self.constant(frame, expr, met.append)
         return any(value is None or not LEAST <= value <= GREATEST for value in met)
 
-    def of_ranges(self):
+    def of_ranges(self, frame):
         """18: constant expressions have values, bounds are in 32 bits and in order, and values are in their ranges."""
-        for body, type_ in self.source.types:
+        for type_ in frame.body.types:
             if type_.form != "range":
                 continue
-            lo, hi = self.range_of(body, type_)
+            lo, hi = self.range_of(frame, type_)
             for bound, value in zip(type_.more, (lo, hi)):
-                if self.is_faulty(body, bound) or not INTEGERS[0] <= value <= INTEGERS[1]:
+                if self.is_faulty(frame, bound) or not INTEGERS[0] <= value <= INTEGERS[1]:
                     yield ("ConstantRange", ("at", bound.at))
             if lo > hi:
                 yield ("ConstantRange", ("at", type_.more[0].at))
-        for slot in self.source.valued:
-            lo, hi = self.range_of(slot.home, slot.type)
-            if self.is_faulty(slot.home, slot.value) or not lo <= self.constant(slot.home, slot.value) <= hi:
+        for slot in frame.body.valued:
+            lo, hi = self.range_of(frame, slot.type)
+            if self.is_faulty(frame, slot.value) or not lo <= self.constant(frame, slot.value) <= hi:
                 yield ("ConstantRange", ("at", slot.value.at))
 
-    def first_value(self, slot):
-        lo, hi = self.range_of(slot.home, slot.type)
-        return min(max(lo, 0), hi) if slot.value is None else self.constant(slot.home, slot.value)
+    def first_value(self, frame, slot):
+        lo, hi = self.range_of(frame, slot.type)
+        return min(max(lo, 0), hi) if slot.value is None else self.constant(frame, slot.value)
 
     # ---- expressions of a net
 
-    def resolved(self, body, expr, places=None):
-        """The expression without names and parentheses. `places` has what stands for a variable or a location, by its slot."""
+    def resolved(self, frame, expr):
+        """The expression without names and parentheses."""
         if expr.form == "paren":
-            return self.resolved(body, expr.parts[0], places)._replace(at=expr.at)
+            return self.resolved(frame, expr.parts[0])._replace(at=expr.at)
         if expr.form == "name":
-            slot = self.slot(body, expr.more)
-            if slot.sort in (CONSTANT, LITERAL):
-                return Expr("number", (), self.value_of(slot), expr.at)
-            return Expr("var" if slot.sort == DISC else "place", (), places[id(slot)], expr.at)
+            return self.named(denoted(frame, expr.more.name), expr.at)
         if expr.form == "if":
             parts = []
             for conditions, value in branches_of(expr):
-                parts += [conjunction_of([self.resolved(body, it, places) for it in conditions]), self.resolved(body, value, places)]
-            return Expr("if", tuple(parts + [self.resolved(body, expr.parts[-1], places)]), None, expr.at)
+                parts += [self.conjunction(frame, conditions), self.resolved(frame, value)]
+            return Expr("if", tuple(parts + [self.resolved(frame, expr.parts[-1])]), None, expr.at)
         form = "number" if expr.form == "truth" else expr.form
-        return Expr(form, tuple(self.resolved(body, part, places) for part in expr.parts), expr.more, expr.at)
+        return Expr(form, tuple(self.resolved(frame, part) for part in expr.parts), expr.more, expr.at)
 
-    def resolved_updates(self, body, updates, places):
+    def named(self, found, at):
+        """What a name stands for: an argument, and what is passed on as one, keeps its own place."""
+        at = at if found.at is None else found.at
+        if found.argument:
+            argument = self.argument(found.frame, found.argument)
+            return Expr("given", (), argument, argument.expr.at)
+        if found.slot.sort in (CONSTANT, LITERAL):
+            return Expr("number", (), self.value_of(found.frame, found.slot), at)
+        return Expr("var" if found.slot.sort == DISC else "place", (), self.places[found.frame, found.slot], at)
+
+    def argument(self, frame, expr):
+        """The argument that a component gave, one for all uses of its parameters."""
+        if (frame, expr.at) not in self.given:
+            self.given[frame, expr.at] = Argument(self.resolved(frame, expr))
+        return self.given[frame, expr.at]
+
+    def conjunction(self, frame, exprs):
+        return conjunction_of([self.resolved(frame, expr) for expr in exprs])
+
+    def resolved_updates(self, frame, updates):
         """The updates of a net: the place of a variable and its value, or one condition for each branch."""
         found = []
         for update in updates:
             if isinstance(update, Set):
-                target = places[id(self.slot(body, update.target))]
-                found.append(Set(target, self.resolved(body, update.value, places)))
+                target = denoted(frame, update.target.name)
+                found.append(Set(self.places[target.frame, target.slot], self.resolved(frame, update.value)))
                 continue
-            branches = [(conjunction_of([self.resolved(body, it, places) for it in conditions]), self.resolved_updates(body, inner, places))
-                        for conditions, inner in update.branches]
-            found.append(If(branches, self.resolved_updates(body, update.other, places)))
+            branches = [(self.conjunction(frame, conditions), self.resolved_updates(frame, inner)) for conditions, inner in update.branches]
+            found.append(If(branches, self.resolved_updates(frame, update.other)))
         return found
 
 
@@ -263,5 +317,5 @@ def assigned(updates, state):
 
 
 def kinds_due(data):
-    for rule in (data.of_kinds, data.of_constants, data.of_targets, data.of_twice):
+    for rule in (data.of_kinds, data.of_arguments, data.of_constants, data.of_targets, data.of_twice):
         yield from rule()

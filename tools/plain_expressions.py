@@ -13,8 +13,21 @@ TRUTHS = ("not", "and", "or", "implies", "iff", "compare", "truth", "place")
 # An expression: its form, its operands, what else it is made of, and its place. What is read has `truth` and `number` with
 # their values, `name` with its use, `paren`, sums and products with their signs, `compare` with its sign, and `if` with how many
 # conditions each branch has. What stands in a net has no parentheses, one condition for each branch, and for names `number`,
-# `var` with its place in a state, and `place` with that of an automaton and the location.
+# `var` with its place in a state, `place` with that of an automaton and the location, and `given` with an argument.
 Expr = namedtuple("Expr", "form parts more at")
+
+
+class Argument:
+    """The argument of a parameter of an instance: an expression of a net that is read wherever the parameter is named. What was told
+    of it is kept, since it may be named often."""
+
+    def __init__(self, expr):
+        self.expr, self.known = expr, {}
+
+    def told(self, what, tell):
+        if what not in self.known:
+            self.known[what] = tell()
+        return self.known[what]
 
 
 # ---- the reader
@@ -143,6 +156,8 @@ def is_so(sign, x, y):
 def evaluated(expr, state=(), meets=None):
     """The value of an expression of a net in a state. `meets` is handed each result that is met, and None for a divisor 0."""
     form, more = expr.form, expr.more
+    if form == "given":
+        return evaluated(more.expr, state, meets)
     if form in ("number", "var", "place"):
         value = more if form == "number" else state[more] if form == "var" else int(state[more[0]] == more[1])
     elif form in ("sum", "product"):
@@ -197,7 +212,11 @@ def joined(sign, one, other):
 
 def interval(expr, ranges, due):
     """The interval of an expression of a net, over the ranges by places of a state. What rules on widths it breaks is added to
-    `due`."""
+    `due`. What is due at an argument as a whole is due where the argument stands, or the parentheses round its parameter."""
+    if expr.form == "given":
+        found, more = expr.more.told(("interval", expr.at), lambda: interval_and_due(expr.more.expr._replace(at=expr.at), ranges))
+        due.update(more)
+        return found
     parts = [interval(part, ranges, due) for part in expr.parts]
     if expr.form in ("sum", "product"):
         found = parts[0]
@@ -208,6 +227,11 @@ def interval(expr, ranges, due):
             found = in_64_bits(joined(sign, found, part), expr, due)
         return found
     return in_64_bits(simple_interval(expr, parts, ranges), expr, due)
+
+
+def interval_and_due(expr, ranges):
+    due = set()
+    return interval(expr, ranges, due), due
 
 
 def simple_interval(expr, parts, ranges):
@@ -235,9 +259,14 @@ def in_64_bits(found, expr, due):
 # ---- sizes
 
 def size(expr):
-    """How many forms an expression of a net has."""
+    """How many forms an expression of a net has, with arguments for their parameters."""
+    if expr.form == "given":
+        return expr.more.told("size", lambda: size(expr.more.expr))
     return 1 + sum(map(size, expr.parts))
 
 
 def depth(expr):
+    """How deep they nest."""
+    if expr.form == "given":
+        return expr.more.told("depth", lambda: depth(expr.more.expr))
     return 1 + max(map(depth, expr.parts)) if expr.parts else 0

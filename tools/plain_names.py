@@ -2,14 +2,18 @@
 
 A name is looked up in the scope where it stands and outward, each later part in the body of what the part before it finds (CIF 3
 language reference, "Scoping"). Whoever reads or writes a source makes its bodies, with what each declares and what each use of a
-name asks for. A refusal is its name and then its fields, as pairs.
+name asks for. The rules are about bodies as written; what a name denotes is told from a component, which may be an instance. A
+refusal is its name and then its fields, as pairs.
 """
+from collections import namedtuple
+
 
 # The sorts of what a scope declares, as what they are when a position asks for them.
 EVENT, TYPE, CONSTANT, ALG, INPUT, DISC, LITERAL, LOCATION = "event type constant alg input disc literal location".split()
 COMPONENT, DEFINITION, INSTANCE = "component definition instance".split()
 EVENT_PARAMETER, ALG_PARAMETER, LOCATION_PARAMETER = "event parameter", "alg parameter", "location parameter"
 
+PARAMETERS = {EVENT_PARAMETER, ALG_PARAMETER, LOCATION_PARAMETER}
 VALUES = {CONSTANT, ALG, INPUT, DISC, LITERAL, LOCATION, ALG_PARAMETER, LOCATION_PARAMETER}
 ASKED = {
     "event": {EVENT, EVENT_PARAMETER},
@@ -46,8 +50,12 @@ class Body:
 
 
 class Instance:
+    """An instance as written. Each argument is a name, its place, and whether it is a bare one; the name is None where those in the
+    argument are uses of its body. `exprs` has the arguments as expressions, where these are read."""
+
     def __init__(self, body, name, at, definition, arguments):
         self.body, self.name, self.at, self.definition, self.arguments = body, name, at, definition, arguments
+        self.exprs = []
 
 
 def written(name):
@@ -103,7 +111,8 @@ def uses_of(root, body):
         for k, (name, at, is_bare) in enumerate(instance.arguments):
             sort = parameters[k] if k < len(parameters) else None
             asked = "any" if sort is None else {EVENT_PARAMETER: "event", LOCATION_PARAMETER: "location"}.get(sort, "value")
-            uses.append((name, at, asked if is_bare else "value"))
+            if name is not None:
+                uses.append((name, at, asked if is_bare else "value"))
     return uses
 
 
@@ -153,13 +162,19 @@ def instances_within(body):
 
 def cyclic(starts, reached):
     """Those that reach themselves."""
+    known = {}
+
+    def next_of(one):
+        if id(one) not in known:
+            known[id(one)] = reached(one)
+        return known[id(one)]
     for start in starts:
-        seen, left = set(), list(reached(start))
+        seen, left = set(), list(next_of(start))
         while left:
             one = left.pop()
             if id(one) not in seen:
                 seen.add(id(one))
-                left += reached(one)
+                left += next_of(one)
         if id(start) in seen:
             yield start
 
@@ -189,3 +204,74 @@ def due(root, bodies):
         found.update(of_scope(body), of_own(body), of_counts(root, body))
         found.update(told for told in (judged(root, body, use) for use in uses_of(root, body)) if told)
     return found
+
+
+# ---- components
+
+class Frame:
+    """A component: its body, the frame in which the body is written, and the frame and slot where it stands. For an instance the body
+    is that of its definition, which may be written elsewhere, and the arguments are read where it stands."""
+
+    def __init__(self, body, outer=None, giver=None, slot=None):
+        self.body, self.outer, self.giver, self.slot, self.children = body, outer, giver, slot, {}
+        self.root = giver.root if giver else self
+
+    def child(self, slot):
+        """The component or instance of that slot."""
+        if id(slot) not in self.children:
+            outer, body = (self, slot.body) if slot.sort == COMPONENT else definition_from(self, slot.instance.definition)
+            self.children[id(slot)] = Frame(body, outer, self, slot)
+        return self.children[id(slot)]
+
+    def inner(self):
+        """What stands in it, in the order of the text."""
+        return [self.child(slot) for slot in self.body.slots if slot.sort in (COMPONENT, INSTANCE)]
+
+    def path(self):
+        parts, frame = [], self
+        while frame.giver:
+            parts.append(frame.slot.name)
+            frame = frame.giver
+        return tuple(reversed(parts))
+
+    def argument(self, slot):
+        """The argument of an instance for the parameter of that slot."""
+        return self.slot.instance.exprs[self.body.slots.index(slot)]
+
+
+# What a name denotes: a slot and the frame that declares it, or an argument of an `alg` parameter and the frame that gave it. The
+# place is that of the last such argument that was followed, or None.
+Denoted = namedtuple("Denoted", "frame slot argument at")
+
+
+def found_from(frame, name):
+    """The frame and slot that a name finds from a frame, where the rules on names are kept."""
+    if name[0] is None:
+        frame, name = frame.root, name[1:]
+    else:
+        while not frame.body.slot(name[0]):
+            frame = frame.outer
+    slot = frame.body.slot(name[0])
+    for part in name[1:]:
+        frame = frame.child(slot)
+        slot = in_body(frame.body, part)
+    return frame, slot
+
+
+def definition_from(frame, name):
+    """The frame in which a definition is written, and its body."""
+    outer, slot = found_from(frame, name)
+    return outer, slot.body
+
+
+def denoted(frame, name):
+    """What a name denotes from a frame: a parameter is its argument, which is read in the frame where the instance stands."""
+    (found, slot), at = found_from(frame, name), None
+    while slot.sort in PARAMETERS:
+        argument = found.argument(slot)
+        if slot.sort == ALG_PARAMETER:
+            at = argument.at
+        if argument.form != "name":
+            return Denoted(found.giver, None, argument, at)
+        found, slot = found_from(found.giver, argument.more.name)
+    return Denoted(found, slot, None, at)

@@ -1,17 +1,24 @@
-"""Reads sources of automata with data, and says what they mean: which rules they break, their choices and their scans.
+"""Reads sources of automata with data and definitions, and says what they mean: which rules they break, their choices and scans.
 
-Plain and slow on purpose, and shares nothing with the program: the CIF 3 language reference ("Syntax", "Scoping",
-"Synchronization", "Monitoring", "Updates") and the rules that README and `docs/DEFINITIONS.md` print, written down once more.
-Definitions, inputs, algebraic variables, channels and invariants are not read here.
+Plain and slow on purpose, and shares nothing with the program: the CIF 3 language reference ("Syntax", "Scoping", "Component
+definition and instantiation", "Synchronization", "Monitoring", "Updates") and the rules that README and `docs/DEFINITIONS.md` print,
+written down once more. A parameter is followed to its argument wherever it is named, and nothing is put in its place. Inputs,
+algebraic variables, channels and invariants are not read here.
 """
 import itertools
 import re
+import sys
 from collections import namedtuple
 
-from plain_data import Data, If, Set, Type, assigned, exprs_of, kinds_due
-from plain_expressions import Expr, ExpressionReader, conjunction_of, depth, evaluated, interval, names_in, size
-from plain_names import COMPONENT, CONSTANT, DISC, EVENT, LITERAL, LOCATION, TYPE, Body, Slot, due as names_due, found_slot
+from plain_data import Data, If, Set, Type, Values, assigned, exprs_of, kinds_due
+from plain_expressions import Expr, ExpressionReader, depth, evaluated, interval, names_in, size
+from plain_names import (
+    ALG_PARAMETER, COMPONENT, CONSTANT, DEFINITION, DISC, EVENT, EVENT_PARAMETER, INSTANCE, LITERAL, LOCATION, LOCATION_PARAMETER, TYPE,
+    Body, Frame, Instance, Slot, denoted, due as names_due)
 from plain_tokens import Unread
+
+# Arguments that name parameters nest as deep as instances do.
+sys.setrecursionlimit(4000)
 
 CLASSES = ("event", "controllable", "uncontrollable")
 AUTOMATON_WORDS = ("automaton", "plant", "requirement", "supervisor")
@@ -19,34 +26,34 @@ MOST_OBJECTS, MOST_NODES, MOST_DEPTH, MOST_CHOICES = 100000, 1000000, 100, 16384
 
 # An edge as written, one for each of its event uses; the target is None where there is no `goto`.
 Edge = namedtuple("Edge", "use origin target guards updates")
-# An automaton as written; alphabet and monitors are lists of uses, or None.
-Automaton = namedtuple("Automaton", "path at body alphabet monitors places initials edges")
+# An automaton as written, which may be a definition; alphabet and monitors are lists of uses, or None.
+Automaton = namedtuple("Automaton", "at body alphabet monitors places initials edges")
 
 
 # ---- the reader
 
 class Source(ExpressionReader):
-    """What a text declares: bodies in text order, components in preorder as (path, body), and automata in preorder.
+    """What a text declares: bodies as written, those of definitions too, in text order.
 
-    Also all types with the bodies in which they stand, the slots that have a value, and the predicates of declarations and
-    locations. A slot of a type, a constant or a variable has its body as `home`, and its `type` and `value`; one of an enumeration
-    has the names of its `literals`, and one of a literal has the slot `enum`.
+    Also all automata, and all types with the bodies in which they stand, the slots that have a value, and the predicates of
+    declarations and locations. A body has its own types and slots with values, the number of its marking predicates, and its automaton,
+    or None. A slot of a type, a constant, a variable or a parameter has its body as `home`, and its `type` and `value`; one of an event
+    or an event parameter has the `word` of its class, one of an enumeration the names of its `literals`, and one of a literal the slot
+    `enum`.
     """
 
     def __init__(self, text):
         super().__init__(text)
-        self.bodies, self.components, self.automata, self.class_of = [], [], [], {}
-        self.types, self.valued, self.marks, self.declared_marks = [], [], [], 0
-        self.root = self.component(None, (), False)
+        self.bodies, self.automata = [], []
+        self.types, self.valued, self.marks, self.frames = [], [], [], None
+        self.root = self.body_in(None, False)
         while self.next < len(self.tokens):
-            self.item(self.root, ())
+            self.item(self.root)
 
-    def component(self, outer, path, is_automaton):
+    def body_in(self, outer, is_automaton):
         body = Body(outer, is_automaton)
+        body.types, body.valued, body.mark_count, body.automaton = [], [], 0, None
         self.bodies.append(body)
-        self.components.append((path, body))
-        if outer is not None:
-            outer.inner.append(body)
         return body
 
     # declarations
@@ -54,14 +61,14 @@ class Source(ExpressionReader):
     def declare(self, body, sort):
         token = self.take("ID")
         slot = Slot(token.text, token.at, sort)
-        slot.home, slot.type, slot.value, slot.literals = body, None, None, []
+        slot.home, slot.type, slot.value, slot.literals, slot.word = body, None, None, [], None
         body.slots.append(slot)
         return slot
 
     def events(self, body):
         word = self.take(*CLASSES).kind
         for slot in self.listed(lambda: self.declare(body, EVENT)):
-            self.class_of[id(slot)] = word
+            slot.word = word
         self.take(";")
 
     def expression_in(self, body):
@@ -82,6 +89,7 @@ class Source(ExpressionReader):
             type_ = Type("name", self.name())
             body.uses.append((type_.more.name, type_.more.at, "type"))
         self.types.append((body, type_))
+        body.types.append(type_)
         return type_
 
     def type_names(self, body):
@@ -116,6 +124,7 @@ class Source(ExpressionReader):
                 self.take("=")
                 slot.value = self.expression_in(body)
                 self.valued.append(slot)
+                body.valued.append(slot)
             note_needs(slot)
         self.listed(one)
         self.take(";")
@@ -139,32 +148,79 @@ class Source(ExpressionReader):
         elif self.is_next("const"):
             self.typed(body, "const", CONSTANT, True)
         elif self.is_next("marked"):
-            self.declared_marks += self.predicates(body)
+            body.mark_count += self.predicates(body)
         else:
             return False
         return True
 
-    def item(self, body, path):
+    def item(self, body):
         if self.declaration(body):
+            return
+        if self.is_next("ID"):
+            self.instance(body)
             return
         is_automaton = not self.is_next("group")
         if self.take("group", *AUTOMATON_WORDS).kind not in ("group", "automaton"):
             self.skipped("automaton")
-        slot = self.declare(body, COMPONENT)
+        slot = self.declare(body, DEFINITION if self.skipped("def") else COMPONENT)
+        slot.body = self.body_in(body, is_automaton)
+        if slot.sort == DEFINITION:
+            self.parameters(slot.body)
+        else:
+            body.inner.append(slot.body)
         self.take(":")
-        inner = path + (slot.name,)
-        slot.body = self.component(body, inner, is_automaton)
         if is_automaton:
-            self.automaton(slot, inner)
+            self.automaton(slot)
         else:
             while not self.is_next("end"):
-                self.item(slot.body, inner)
+                self.item(slot.body)
         self.take("end")
+
+    # definitions and instances
+
+    def parameters(self, body):
+        self.take("(")
+        has_more = not self.is_next(")")
+        while has_more:
+            self.parameter(body)
+            has_more = self.skipped(";")
+        self.take(")")
+
+    def parameter(self, body):
+        """Parameters of one sort."""
+        word = self.take("alg", "location", *CLASSES).kind
+        sort = {"alg": ALG_PARAMETER, "location": LOCATION_PARAMETER}.get(word, EVENT_PARAMETER)
+        type_ = self.type_in(body) if word == "alg" else None
+        for slot in self.listed(lambda: self.declare(body, sort)):
+            slot.type, slot.word = type_, word
+            body.parameters.append(sort)
+
+    def instance(self, body):
+        slot = self.declare(body, INSTANCE)
+        self.take(":")
+        definition = self.name()
+        body.uses.append((definition.name, definition.at, "definition"))
+        slot.instance = Instance(body, slot.name, slot.at, definition.name, [])
+        body.instances.append(slot.instance)
+        self.take("(")
+        if not self.is_next(")"):
+            self.listed(lambda: self.argument(body, slot.instance))
+        self.take(")")
+        self.take(";")
+
+    def argument(self, body, instance):
+        expr = self.expression()
+        instance.exprs.append(expr)
+        if expr.form == "name":
+            instance.arguments.append((expr.more.name, expr.at, True))
+        else:
+            instance.arguments.append((None, expr.at, False))
+            body.uses += [(use.name, use.at, "value") for use in names_in(expr)]
 
     # automata
 
-    def automaton(self, slot, path):
-        body, clauses, found = slot.body, {}, Automaton(path, slot.at, slot.body, None, None, [], [], [])
+    def automaton(self, slot):
+        body, clauses, found = slot.body, {}, Automaton(slot.at, slot.body, None, None, [], [], [])
         while not self.is_next("location"):
             if self.is_next("disc"):
                 self.typed(body, "disc", DISC, False)
@@ -178,7 +234,8 @@ class Source(ExpressionReader):
             self.location(found)
         if None in found.places and len(found.places) > 1:
             raise Unread()
-        self.automata.append(found._replace(alphabet=clauses.get("alphabet"), monitors=clauses.get("monitor")))
+        body.automaton = found._replace(alphabet=clauses.get("alphabet"), monitors=clauses.get("monitor"))
+        self.automata.append(body.automaton)
 
     def event_use(self, body):
         use = self.name()
@@ -260,40 +317,61 @@ def of_initials(source):
             yield ("Initials", ("at", automaton.at), ("count", count))
 
 
-def events_of(source):
-    """The slots of the events in the order of their numbers, each with its path."""
-    return [(slot, path + (slot.name,)) for path, body in source.components for slot in body.slots if slot.sort == EVENT]
+# ---- components
+
+def objects_in(body):
+    """The component itself, its declarations, locations and edges; a literal is none, and each predicate of a declaration is one."""
+    declared = sum(slot.sort in (EVENT, TYPE, CONSTANT, DISC) for slot in body.slots)
+    automaton = body.automaton
+    return 1 + declared + body.mark_count + (len(automaton.places) + len(automaton.edges) if automaton else 0)
 
 
-def variables_of(source):
-    """The slots of the variables in the order of their numbers, each with its path."""
-    return [(slot, path + (slot.name,)) for path, body in source.components for slot in body.slots if slot.sort == DISC]
+def components_of(source):
+    """The frames of the components in the order of their numbers, and how many objects they have. Past the limit no more are listed."""
+    if source.frames is None:
+        frames, left, objects = [], [Frame(source.root)], 0
+        while left and objects <= MOST_OBJECTS:
+            frames.append(left.pop())
+            objects += objects_in(frames[-1].body)
+            left += reversed(frames[-1].inner())
+        source.frames = frames, objects
+    return source.frames
 
 
-def denoted(source, body, use):
-    return id(found_slot(source.root, body, use.name))
+def declared_in(frames, sort):
+    """The frames and slots of what is declared, in the order of its numbers."""
+    return [(frame, slot) for frame in frames for slot in frame.body.slots if slot.sort == sort]
 
 
-def alphabet_of(source, automaton):
+def automata_in(frames):
+    return [frame for frame in frames if frame.body.is_automaton]
+
+
+def event_of(frame, use):
+    """The frame and slot of the event that is used."""
+    found = denoted(frame, use.name)
+    return found.frame, found.slot
+
+
+def alphabet_of(frame):
     """The events that are declared as its alphabet, or else found on its edges."""
+    automaton = frame.body.automaton
     uses = [edge.use for edge in automaton.edges] if automaton.alphabet is None else automaton.alphabet
-    return {denoted(source, automaton.body, use) for use in uses}
+    return {event_of(frame, use) for use in uses}
 
 
-def of_alphabets(source):
-    for automaton in source.automata:
-        alphabet = alphabet_of(source, automaton)
+def of_alphabets(frames):
+    for frame in automata_in(frames):
+        automaton, alphabet = frame.body.automaton, alphabet_of(frame)
         for use in [edge.use for edge in automaton.edges] + (automaton.monitors or []):
-            if denoted(source, automaton.body, use) not in alphabet:
+            if event_of(frame, use) not in alphabet:
                 yield ("AlphabetLacks", ("at", use.at))
 
 
-def objects_of(source):
-    """Components, declarations, locations and edges; a literal is none, and each predicate of a declaration is one."""
-    automata = source.automata
-    edges, places = sum(len(it.edges) for it in automata), sum(len(it.places) for it in automata)
-    declared = sum(slot.sort in (EVENT, TYPE, CONSTANT, DISC) for _, body in source.components for slot in body.slots)
-    return len(source.components) + declared + source.declared_marks + edges + places
+def of_ranges(frames):
+    values = Values()
+    for frame in frames:
+        yield from values.of_ranges(frame)
 
 
 # ---- nets: automata, events and variables by their numbers
@@ -311,48 +389,47 @@ class Net:
     of all variables."""
 
     def __init__(self, source):
-        events = events_of(source)
-        self.source, self.data, self.numbers = source, Data(source), {id(slot): number for number, (slot, _) in enumerate(events)}
-        self.events = [Event(".".join(path), source.class_of[id(slot)]) for slot, path in events]
-        self.variables = [self.variable(slot, path) for slot, path in variables_of(source)]
-        self.meant = self.meanings()
-        self.parties = [self.party(automaton) for automaton in source.automata]
+        frames, _ = components_of(source)
+        self.data, automata, events, variables = Data(source), automata_in(frames), declared_in(frames, EVENT), declared_in(frames, DISC)
+        self.numbers = {event: number for number, event in enumerate(events)}
+        self.values = Values(self.meanings(automata, variables))
+        self.events = [Event(dotted(frame, slot), slot.word) for frame, slot in events]
+        self.variables = [self.variable(frame, slot) for frame, slot in variables]
+        self.parties = [self.party(frame) for frame in automata]
         self.ranges = [(0, party.places - 1) for party in self.parties] + [it.range for it in self.variables]
         self.ways, self.listed, self.steps = [[] for _ in events], {}, {}
         for number, party in enumerate(self.parties):
             for event in party.alphabet:
                 self.ways[event].append((number, self.ways_of(party, event)))
 
-    def variable(self, slot, path):
-        kind, bounds = self.data.kind_of_slot(slot), self.data.range_of(slot.home, slot.type)
-        return Variable(".".join(path), kind, bounds, self.data.first_value(slot))
+    def variable(self, frame, slot):
+        first = self.values.first_value(frame, slot)
+        return Variable(dotted(frame, slot), self.data.kind_of_slot(slot), self.values.range_of(frame, slot.type), first)
 
-    def meanings(self):
+    def meanings(self, automata, variables):
         """What a name of a variable or a location stands for: a place in the states, or that of an automaton and the location."""
-        automata = self.source.automata
-        found = {id(slot): len(automata) + number for number, (slot, _) in enumerate(variables_of(self.source))}
-        for number, automaton in enumerate(automata):
-            places = [slot for slot in automaton.body.slots if slot.sort == LOCATION]
-            found.update({id(slot): (number, place) for place, slot in enumerate(places)})
+        found = {variable: len(automata) + number for number, variable in enumerate(variables)}
+        for number, frame in enumerate(automata):
+            places = [slot for slot in frame.body.slots if slot.sort == LOCATION]
+            found.update({(frame, slot): (number, place) for place, slot in enumerate(places)})
         return found
 
-    def number(self, automaton, use):
-        return self.numbers[denoted(self.source, automaton.body, use)]
+    def number(self, frame, use):
+        return self.numbers[event_of(frame, use)]
 
-    def party(self, automaton):
-        alphabet = {self.numbers[event] for event in alphabet_of(self.source, automaton)}
-        monitors = {self.number(automaton, use) for use in automaton.monitors or []}
+    def party(self, frame):
+        automaton, alphabet = frame.body.automaton, {self.numbers[event] for event in alphabet_of(frame)}
+        monitors = {self.number(frame, use) for use in automaton.monitors or []}
         if automaton.monitors == []:
             monitors = alphabet
-        arcs = [self.arc(automaton, edge) for edge in automaton.edges]
-        return Party(".".join(automaton.path), len(automaton.places), automaton.initials[0], alphabet, monitors, arcs)
+        arcs = [self.arc(frame, edge) for edge in automaton.edges]
+        return Party(".".join(frame.path()), len(automaton.places), automaton.initials[0], alphabet, monitors, arcs)
 
-    def arc(self, automaton, edge):
-        target = edge.origin if edge.target is None else automaton.places.index(edge.target)
-        guards = [self.data.resolved(automaton.body, guard, self.meant) for guard in edge.guards]
-        guard = conjunction_of(guards or [Expr("number", (), 1, edge.use.at)])
-        updates = self.data.resolved_updates(automaton.body, edge.updates, self.meant)
-        return Arc(self.number(automaton, edge.use), edge.origin, target, guard, updates)
+    def arc(self, frame, edge):
+        target = edge.origin if edge.target is None else frame.body.automaton.places.index(edge.target)
+        guard = self.values.conjunction(frame, edge.guards) if edge.guards else Expr("number", (), 1, edge.use.at)
+        updates = self.values.resolved_updates(frame, edge.updates)
+        return Arc(self.number(frame, edge.use), edge.origin, target, guard, updates)
 
     def initial(self):
         return tuple([party.first for party in self.parties] + [it.first for it in self.variables])
@@ -474,6 +551,11 @@ class Net:
         return [("FALSE", "TRUE")[value] if kind == "bool" else str(value) for kind, value in zip(kinds, state)]
 
 
+def dotted(frame, slot):
+    """The path of what a component declares."""
+    return ".".join(frame.path() + (slot.name,))
+
+
 def is_ready(arc, number, state):
     """Whether the edge of that automaton may be taken: it begins where the automaton is, and its guard is so."""
     return arc.origin == state[number] and evaluated(arc.guard, state) == 1
@@ -507,9 +589,13 @@ def line_of(refusal):
     return " ".join(["%d %s" % (NUMBERS[name], name)] + ["%s %s" % field for field in fields])
 
 
-def of_objects(source):
-    if objects_of(source) > MOST_OBJECTS:
+def of_components(source):
+    """The rules on components. Of those past the limit of objects nothing more is told than that they are too many."""
+    frames, objects = components_of(source)
+    if objects > MOST_OBJECTS:
         yield ("TooManyObjects", ("count", MOST_OBJECTS + 1))
+    yield from of_alphabets(frames)
+    yield from of_ranges(frames)
 
 
 def of_widths(net):
@@ -534,7 +620,7 @@ def broken(source):
     """The refusals of the first phase in which the source, which is read, breaks a rule, and its net where it breaks none."""
     data = Data(source)
     for phase in (lambda: names_due(source.root, source.bodies), lambda: list(of_initials(source)) + list(kinds_due(data)),
-                  lambda: list(of_alphabets(source)) + list(of_objects(source)) + list(data.of_ranges())):
+                  lambda: of_components(source)):
         found = set(phase())
         if found:
             return found, None

@@ -3,26 +3,25 @@
 What is made keeps the rules mostly: divisors are rarely 0, values mostly in their ranges, and names find what they are written
 for. Where faults are asked for, what breaks one rule stands here and there.
 """
-from collections import namedtuple
-
 from plain_expressions import ORDERS
-from plain_names import CONSTANT, DISC, LITERAL, TYPE, Slot
-
-# A type: what writes it in a body, its kind, and whole numbers that it surely has, or None.
-Chosen = namedtuple("Chosen", "write kind sure")
+from plain_names import CONSTANT, DISC, LITERAL, PARAMETERS, TYPE, Slot
+from random_definitions import TRUTH, Chosen, Unreached
 
 
 class DataMaker:
     """Makes data for whoever has groups and automata, chances, fresh names, and names that find a slot."""
 
     def data(self):
-        """Declares what a source has."""
+        """Declares what a source has: first types, which parameters have, too."""
+        if self.has_data:
+            for _ in range(self.choose.choice([0, 1, 1, 2, 2])):
+                self.enumeration()
+            for _ in range(self.choose.choice([0, 0, 1, 2])):
+                self.type_name()
+        if self.has_definitions:
+            self.declare_parameters()
         if not self.has_data:
             return
-        for _ in range(self.choose.choice([0, 1, 1, 2, 2])):
-            self.enumeration()
-        for _ in range(self.choose.choice([0, 0, 1, 2])):
-            self.type_name()
         for _ in range(self.choose.choice([0, 1, 2, 3, 4])):
             self.constant()
         for automaton in self.automata:
@@ -34,7 +33,7 @@ class DataMaker:
 
     def declared(self, scope, sort, kind=None, name=None):
         slot = Slot(name or self.fresh(scope.body), 0, sort)
-        slot.path, slot.kind = scope.path + [slot.name], kind
+        slot.scope, slot.kind = scope, kind
         scope.body.slots.append(slot)
         return slot
 
@@ -51,18 +50,23 @@ class DataMaker:
         names = self.choose.choice(same) if same and self.maybe(0.6) else [None] * self.choose.randint(1, 4)
         slot.literals = [self.declared(scope, LITERAL, None, name) for name in names]
         slot.kind = tuple(literal.name for literal in slot.literals)
+        for literal in slot.literals:
+            literal.kind = slot.kind
         self.enums.append(slot)
         scope.items.append("enum %s = %s;" % (self.spelled([slot.name]), ", ".join(self.spelled([name]) for name in slot.kind)))
 
-    def some_type(self):
-        forms = ["bool", "int", "range", "range", "range", "range"] + ["named"] * len(self.enums + self.types)
+    def some_type(self, scope):
+        """A type that may be named in the scope."""
+        reached = {thing.slot for thing in self.things(scope.body)}
+        named = [slot for slot in self.enums + self.types if slot in reached]
+        forms = ["bool", "int", "range", "range", "range", "range"] + ["named"] * len(named)
         form = self.choose.choice(forms)
         if form == "bool":
-            return Chosen(lambda body: "bool", "bool", None)
+            return TRUTH
         if form == "int":
             return Chosen(lambda body: "int", "int", self.choose.choice([(-9, 9), (0, 100), (2147483647, 2147483647)]))
         if form == "named":
-            slot = self.choose.choice(self.enums + self.types)
+            slot = self.choose.choice(named)
             return Chosen(lambda body: self.exact(body, slot), slot.kind, getattr(slot, "sure", None))
         lo = self.choose.choice([0, 0, 0, 0, -1, -3, 1, 2])
         hi, known = lo + self.choose.randint(0, 6), list(self.constants)
@@ -78,7 +82,8 @@ class DataMaker:
         return "int[%s..%s]" % (low, high)
 
     def type_name(self):
-        scope, chosen = self.somewhere(), self.some_type()
+        scope = self.somewhere()
+        chosen = self.some_type(scope)
         slot = self.declared(scope, TYPE, chosen.kind)
         slot.sure = chosen.sure
         self.types.append(slot)
@@ -96,16 +101,16 @@ class DataMaker:
         return self.choose.choice([str(number), "%d + 1" % (number - 1), "(%d)" % number, "7 * %d div 7" % number])
 
     def constant(self):
-        scope, chosen, known = self.somewhere(), self.some_type(), list(self.constants)
+        scope, known = self.somewhere(), list(self.constants)
+        chosen = self.some_type(scope)
         slot = self.declared(scope, CONSTANT, chosen.kind)
         self.constants.append(slot)
         scope.items.append(lambda: "const %s %s = %s;" % (chosen.write(scope.body), self.spelled([slot.name]),
                                                             self.first(scope.body, chosen, known)))
 
     def variable(self, scope):
-        chosen = self.some_type()
+        chosen = self.some_type(scope)
         slot = self.declared(scope, DISC, chosen.kind)
-        slot.scope = scope
         self.variables.append(slot)
 
         def text():
@@ -116,12 +121,12 @@ class DataMaker:
     # ---- expressions, level by level of the grammar
 
     def everything(self):
-        return self.constants + self.variables + self.locations
+        return self.constants + self.variables + self.locations + self.parameters
 
     def value(self, body, kind, depth, known):
         """An expression of a kind over what is known."""
         if self.fails("kind"):
-            kind = self.choose.choice(["bool", "int"] + [slot.kind for slot in self.enums])
+            kind = self.choose.choice(["bool", "int"] + self.member_kinds(body))
         if kind == "bool":
             return self.truth(body, depth, known)
         return self.sum(body, depth, known) if kind == "int" else self.member(body, kind, depth, known)
@@ -130,8 +135,14 @@ class DataMaker:
         """A name of something of that kind, or None."""
         if self.fails("name"):
             return self.spelled(self.odd_name())
-        slots = [slot for slot in known if slot.kind == kind]
-        return self.exact(body, self.choose.choice(slots)) if slots else None
+        slots = {slot for slot in known if slot.kind == kind}
+        found = [thing for thing in self.things(body) if thing.slot in slots]
+        own = [thing for thing in found if thing.slot.sort in PARAMETERS]
+        return self.written_name(self.choose.choice(own if own and self.maybe(0.6) else found)) if found else None
+
+    def member_kinds(self, body):
+        """The kinds of the literals that may be named."""
+        return sorted({thing.slot.kind for thing in self.things(body) if thing.slot.sort == LITERAL})
 
     def if_expression(self, body, depth, known, part):
         text = "if %s: %s " % (", ".join(self.truth(body, depth, known) for _ in range(self.choose.choice([1, 1, 1, 2]))), part())
@@ -192,7 +203,7 @@ class DataMaker:
     def comparison(self, body, depth, known):
         if not depth or self.maybe(0.4):
             return self.simple_truth(body, depth, known)
-        kinds = ["int", "int", "int", "bool"] + [slot.kind for slot in self.enums]
+        kinds = ["int", "int", "int", "bool"] + self.member_kinds(body)
         kind = self.choose.choice(kinds)
         if kind == "int":
             return "%s %s %s" % (self.sum(body, depth - 1, known), self.choose.choice(ORDERS), self.sum(body, depth - 1, known))
@@ -217,18 +228,21 @@ class DataMaker:
             return found
         if depth and self.maybe(0.2):
             return self.if_expression(body, depth - 1, known, lambda: self.member(body, kind, depth - 1, known))
-        slot = self.choose.choice([slot for slot in self.enums if slot.kind == kind])
-        return self.exact(body, self.choose.choice(slot.literals))
+        literals = [thing for thing in self.things(body) if thing.slot.sort == LITERAL and thing.slot.kind == kind]
+        if not literals:
+            raise Unreached
+        return self.written_name(self.choose.choice(literals))
 
     # ---- guards and updates
 
     def conditions(self, body):
-        return [self.truth(body, self.choose.choice([0, 1, 1, 2, 3]), self.everything()) for _ in range(self.choose.choice([1, 1, 1, 1, 2]))]
+        count = self.choose.choice([1, 1, 1, 1, 2])
+        return [self.truth(body, self.choose.choice([0, 1, 1, 2, 3]), self.everything()) for _ in range(count)]
 
     def end_of_edge(self, scope):
         """Guards and updates of an edge, of either sometimes none."""
         text, own = "", [slot for slot in self.variables if slot.scope is scope]
-        if self.has_data and self.maybe(0.35):
+        if self.has_data and self.maybe(0.6 if scope.definition else 0.35):
             text += " when " + ", ".join(self.conditions(scope.body))
         if own and self.maybe(0.75):
             text += " do " + self.updates(scope.body, own, 2)
@@ -257,7 +271,7 @@ class DataMaker:
     def assignment(self, body, slot):
         if self.fails("own"):
             slot = self.choose.choice(self.variables)
-        target = self.named(body, None, []) or self.exact(body, slot)
+        target = self.named(body, None, []) or self.exact(body, slot, not self.fails("own"))
         if slot.kind == "int" and self.maybe(0.6):
             name = self.exact(body, slot)
             return "%s := %s" % (target, self.choose.choice(["%s + 1", "%s - 1", "(%s + 1) mod 4", "1 - %s", "min(%s + 2, 5)"]) % name)

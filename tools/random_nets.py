@@ -1,10 +1,13 @@
-"""Makes random sources of automata that synchronise, with data and without, sound ones and, where faults are asked for, others.
+"""Makes random sources of automata that synchronise, with data, definitions and without, sound ones and, where faults are asked for,
+others.
 
-Names come from a few for each source, so that they shadow one another, and stand as dotted names and as names from the root.
+Names come from a few for each source, so that they shadow one another, and stand as dotted names, through instances too, and as names
+from the root.
 """
-from plain_names import COMPONENT, EVENT, LOCATION, Body, Slot, found_slot
+from plain_names import COMPONENT, DEFINITION, EVENT, INSTANCE, LOCATION, PARAMETERS, Body, Slot, found_slot
 from plain_tokens import RESERVED, lexed
 from random_data import DataMaker
+from random_definitions import EVENTS, DefinitionMaker, Thing, Unreached
 
 # Names of all forms: some are the same but for case, some words of either language, some variables that programs have, some
 # leave nothing when they are tidied, and some are cut.
@@ -15,21 +18,27 @@ HEADS = ["automaton", "plant", "requirement", "supervisor", "plant automaton", "
 BLANKS = [[""], [" "], ["\n"], [" ", " ", "\n", "\n  "], ["", " ", "\t", "\r\n", " /* edge $ @ ** */ ", " // c /* \n", "/**/"]]
 # Forms of other sources: declarations, what stands in automata alone, in locations, and behind the uses of an edge.
 LATER_ITEMS = ["const int k = ?;", "type t = int[0..?];", "input bool i;", "alg bool b = true;", "equation k = 1;", "invariant true;",
-               "requirement a needs true;", "plant invariant true;", "marked true, ?;", "group def d(): end",
-               "automaton def d(): location; end", "x: d();", "event void m;", "event bool m;", "event a b;",
-               "controllable int[0..3] m;"]
+               "requirement a needs true;", "plant invariant true;", "marked true, ?;", "group def d(event void m): end",
+               "automaton def d(location l; controllable bool m): location; end", "group def d(alg int[0..?] k): end", "x: d(?);",
+               "x: d(a, 1 + ?);", "event void m;", "event bool m;", "event a b;", "controllable int[0..3] m;"]
 LATER_PARTS = ["disc int n = ?;", "disc int[0..abs(?)] n;"]
 LATER_ELEMENTS = ["marked not ?;", "equation k = 1;", "marked a, ?;"]
 LATER_ENDS = ["when ?", "do n := ?", "when a, b do n := 1 + ?", "do if ?: n := 1 end"]
 LATER_ROLES = ["!", "! 1", "?"]
 
 
-class Scope:
-    """A group or an automaton that is made: what stands in it, in order, and the body by which names are looked up."""
+# The most parts of a name, but for the mark of the root.
+MOST_PARTS = 5
 
-    def __init__(self, outer, name, is_automaton):
-        self.name, self.is_automaton, self.items, self.places = name, is_automaton, [], []
-        self.path = [] if outer is None else outer.path + [name]
+
+class Scope:
+    """A group, an automaton or a definition that is made: what stands in it, in order, the body by which names are looked up, and the
+    nearest definition outward, which may be itself."""
+
+    def __init__(self, outer, name, is_automaton, is_definition=False):
+        self.name, self.is_automaton, self.is_definition, self.items, self.places = name, is_automaton, is_definition, [], []
+        self.outer, self.path = outer, [] if outer is None else outer.path + [name]
+        self.definition = self if is_definition else outer and outer.definition
         self.body = Body(None if outer is None else outer.body, is_automaton)
 
 
@@ -39,19 +48,22 @@ def spelled_name(parts):
     return ".".join(words)
 
 
-class Maker(DataMaker):
+class Maker(DefinitionMaker, DataMaker):
     """Makes one source. Faults are chances by what is to be wrong: "name", "twice" for one declared twice, "goto", "initials" for
     the initial locations, "alphabet" for it and what is monitored, "class" for an event without one, "later" for a form of other
     sources; "kind" of an expression, "constant" for one that names what is none, "own" for a variable of another automaton, "doubly"
-    for one assigned twice, "range" for constants, "divisor" and "wide"."""
+    for one assigned twice, "range" for constants, "divisor" and "wide"; "cycle" of definitions, "count" of arguments, "argument" for
+    any one, and "unfit" for one of another kind or class. Unreached is raised where what is wanted has no name."""
 
-    def __init__(self, choose, faults=None, has_data=False):
-        self.choose, self.faults, self.has_data = choose, faults or {}, has_data
-        self.enums, self.types, self.constants, self.variables, self.locations = [], [], [], [], []
+    def __init__(self, choose, faults=None, has_data=False, has_definitions=False):
+        self.choose, self.faults, self.has_data, self.has_definitions = choose, faults or {}, has_data, has_definitions
+        self.enums, self.types, self.constants, self.variables, self.locations, self.parameters = [], [], [], [], [], []
         self.names = choose.sample(NAMES, choose.randint(5, 12))
         self.root = Scope(None, None, False)
-        self.groups, self.automata, self.events = [self.root], [], []
+        self.groups, self.automata, self.events, self.definitions, self.instances = [self.root], [], [], [], []
+        self.is_whole, self.known_things = False, {}
         self.skeleton()
+        self.is_whole = True
         self.text = self.items(self.root)
 
     def maybe(self, chance):
@@ -66,34 +78,41 @@ class Maker(DataMaker):
         used = [slot.name for slot in body.slots]
         if used and self.fails("twice"):
             return self.choose.choice(used)
-        return self.choose.choice([name for name in self.names if name not in used] or ["n%d" % len(used)])
+        unused = [name for name in self.names if name not in used]
+        return self.choose.choice(unused) if unused else next(name for name in map("n{}".format, range(len(used), 999)) if name not in used)
 
-    def scope(self, is_automaton):
-        outer = self.choose.choice(self.groups)
-        scope = Scope(outer, self.fresh(outer.body), is_automaton)
-        outer.body.slots.append(Slot(scope.name, 0, COMPONENT, scope.body))
+    def scope(self, is_automaton, outer=None, is_definition=False):
+        outer = outer or self.choose.choice(self.groups)
+        scope = Scope(outer, self.fresh(outer.body), is_automaton, is_definition)
+        outer.body.slots.append(Slot(scope.name, 0, DEFINITION if is_definition else COMPONENT, scope.body))
+        scope.slot = outer.body.slots[-1]
         outer.items.append(scope)
         (self.automata if is_automaton else self.groups).append(scope)
+        return scope
 
-    def event(self):
-        scope = self.choose.choice(self.groups + self.automata + [self.root])
-        slot = Slot(self.fresh(scope.body), 0, EVENT)
-        slot.path = scope.path + [slot.name]
-        slot.word = "event" if self.fails("class") else self.choose.choice(["controllable", "uncontrollable"])
-        scope.body.slots.append(slot)
+    def event(self, scope, word):
+        slot = self.declared(scope, EVENT)
+        slot.word = word
         scope.items.append(slot)
         self.events.append(slot)
 
     def skeleton(self):
         for _ in range(self.choose.choice([0, 0, 1, 1, 2, 3, 4])):
             self.scope(False)
-        for _ in range(self.choose.choice([0, 1, 1, 2, 2, 2, 3, 3, 4, 5])):
+        if self.has_definitions:
+            self.declare_definitions()
+        for _ in range(self.choose.choice([0, 1, 1, 1, 2] if self.has_definitions else [0, 1, 1, 2, 2, 2, 3, 3, 4, 5])):
             self.scope(True)
         for _ in range(self.choose.choice([1, 1, 2, 2, 3] if self.has_data else [0, 1, 2, 2, 3, 3, 4, 5, 7])):
-            self.event()
+            scope = self.choose.choice(self.groups + self.automata + [self.root])
+            self.event(scope, "event" if self.fails("class") else self.choose.choice(["controllable", "uncontrollable"]))
         for automaton in self.automata:
             self.declare_places(automaton)
+        if self.has_definitions:
+            self.declare_instances()
         self.data()
+        if self.has_definitions:
+            self.name_definitions()
         for scope in self.groups + self.automata:
             self.choose.shuffle(scope.items)
             if self.fails("later"):
@@ -123,22 +142,59 @@ class Maker(DataMaker):
             parts = [self.choose.choice(self.names) for _ in range(self.choose.choice([1, 1, 2, 3]))]
         return ([None] if self.maybe(0.2) else []) + parts
 
-    def ways(self, body, slot, is_exact):
-        """Names that find the event or, where that will do, another one that stands before it."""
-        names = [[None] + slot.path] + [slot.path[k:] for k in range(len(slot.path))]
-        found = [(name, found_slot(self.root.body, body, name)) for name in names]
-        return [name for name, it in found if it is slot or not is_exact and isinstance(it, Slot) and it.sort == EVENT] or names
+    def things(self, body):
+        """All that names find from a body, each with its names."""
+        if body in self.known_things:
+            return self.known_things[body]
+        found, scope, seen = {}, body, set()
+        while scope is not None:
+            for slot in scope.slots:
+                if slot.name not in seen:
+                    self.add_things(found, [slot.name], slot, ())
+            seen.update(slot.name for slot in scope.slots)
+            scope = scope.outer
+        for slot in self.root.body.slots:
+            self.add_things(found, [None, slot.name], slot, ())
+        things = list(found.values())
+        if self.is_whole:
+            self.known_things[body] = things
+        return things
 
-    def event_name(self, body, slot, is_exact=False):
-        name = self.odd_name() if self.fails("name") else self.choose.choice(self.ways(body, slot, is_exact))
-        return spelled_name(name), found_slot(self.root.body, body, name)
+    def add_things(self, found, name, slot, through):
+        """Adds what a name finds, and what is behind it."""
+        thing = found.setdefault((slot, through), Thing(slot, through, []))
+        if name not in thing.names:
+            thing.names.append(name)
+        if len(name) > MOST_PARTS or slot.sort not in (COMPONENT, INSTANCE):
+            return
+        if slot.sort == INSTANCE:
+            through += (slot,)
+        inner = slot.body if slot.sort == COMPONENT else slot.instance.scope.body
+        for part in inner.slots[len(inner.parameters):]:
+            self.add_things(found, name + [part.name], part, through)
 
-    def exact_names(self, body, slots):
-        return ", ".join(self.event_name(body, slot, True)[0] for slot in slots)
+    def event_name(self, body, thing):
+        """A name of an event or, at times, any name, and what it finds."""
+        if not self.fails("name"):
+            return self.written_name(thing), thing
+        name, through = self.odd_name(), []
+        slot = found_slot(self.root.body, body, name, through=through)
+        return spelled_name(name), next((it for it in self.things(body) if (it.slot, it.through) == (slot, tuple(through))), None)
 
-    def exact(self, body, slot):
-        """A name that finds the slot."""
-        return spelled_name(self.choose.choice(self.ways(body, slot, True)))
+    def written_name(self, thing):
+        """One of its names, mostly one that is looked up where it stands."""
+        inner = [name for name in thing.names if name[0] is not None]
+        return spelled_name(self.choose.choice(inner if inner and self.maybe(0.6) else thing.names))
+
+    def written_names(self, things):
+        return ", ".join(self.written_name(thing) for thing in things)
+
+    def exact(self, body, slot, is_own=False):
+        """A name that finds the slot, through no instance where it is the body's own."""
+        found = [thing for thing in self.things(body) if thing.slot is slot and not (is_own and thing.through)]
+        if not found:
+            raise Unreached
+        return self.written_name(self.choose.choice(found))
 
     def spelled(self, parts):
         return spelled_name(parts)
@@ -149,7 +205,7 @@ class Maker(DataMaker):
         """What stands in a scope, events of one class sometimes in one declaration."""
         text, word = "", None
         for item in scope.items + [None]:
-            is_event = isinstance(item, Slot)
+            is_event = isinstance(item, Slot) and item.sort == EVENT
             if word is not None and not (is_event and item.word == word and self.maybe(0.5)):
                 text, word = text + "; ", None
             if is_event:
@@ -157,6 +213,8 @@ class Maker(DataMaker):
                 word = item.word
             elif isinstance(item, Scope):
                 text += self.component(item)
+            elif isinstance(item, Slot):
+                text += self.instance(scope, item)
             elif item is not None:
                 text += (item() if callable(item) else item) + " "
         return text
@@ -164,10 +222,12 @@ class Maker(DataMaker):
     def component(self, scope):
         head = self.choose.choice(HEADS) if scope.is_automaton else "group"
         inner = self.automaton(scope) if scope.is_automaton else self.items(scope)
+        if scope.is_definition:
+            return "%s def %s(%s): %send " % (head, spelled_name([scope.name]), self.parameters_of(scope), inner)
         return "%s %s: %send " % (head, spelled_name([scope.name]), inner)
 
     def automaton(self, scope):
-        used = self.choose.sample(self.events, min(len(self.events), self.choose.choice([1, 2, 2, 3, 4])))
+        used = self.used_events(scope)
         found, locations, count = [], "", len(scope.places)
         initials = self.choose.sample(range(count), self.choose.randint(0, count) if self.fails("initials") else 1)
         for number, place in enumerate(scope.places):
@@ -180,8 +240,16 @@ class Maker(DataMaker):
                 self.choose.shuffle(elements)
             head = "location" if place is None else "location " + spelled_name([place])
             locations += head + (": " + " ".join(elements) if elements or self.maybe(0.5) else ";") + " "
-        clauses = self.clauses(scope, [slot for slot in found if isinstance(slot, Slot) and slot in self.events])
+        clauses = self.clauses(scope, [thing for thing in found if thing and thing.slot.sort in EVENTS])
         return self.mixed(self.items(scope), clauses) + locations
+
+    def used_events(self, scope):
+        """Some events that the automaton may name, mostly with the parameters of its definition."""
+        events = [thing for thing in self.things(scope.body) if thing.slot.sort in EVENTS]
+        own = [thing for thing in events if thing.slot.sort in PARAMETERS and self.maybe(0.8)]
+        others = [thing for thing in events if thing.slot.sort not in PARAMETERS and (not thing.through or self.maybe(0.3))]
+        count = self.choose.choice([0, 1, 1] if own else [1, 2, 2, 3, 4])
+        return own + self.choose.sample(others, min(len(others), count))
 
     def mixed(self, declarations, clauses):
         """The declarations of an automaton and its clauses, in some order."""
@@ -193,8 +261,8 @@ class Maker(DataMaker):
         """An edge; what its names find is added to what is found."""
         uses = []
         for _ in range(self.choose.choice([1, 1, 1, 1, 2, 3])):
-            name, slot = self.event_name(scope.body, self.choose.choice(used))
-            found.append(slot)
+            name, thing = self.event_name(scope.body, self.choose.choice(used))
+            found.append(thing)
             uses.append(name + (" " + self.choose.choice(LATER_ROLES) if self.fails("later") else ""))
         text = "edge " + ", ".join(uses)
         if self.fails("later"):
@@ -210,21 +278,30 @@ class Maker(DataMaker):
 
     def clauses(self, scope, found):
         """The alphabet, which has what the edges name and at times more, and what is monitored of it."""
-        clauses, alphabet = [], sorted(set(found), key=self.events.index)
+        clauses, alphabet = [], list({(thing.slot, thing.through): thing for thing in found}.values())
+        events = [thing for thing in self.things(scope.body) if thing.slot.sort in EVENTS]
         if self.maybe(0.4):
-            extra = [slot for slot in self.events if slot not in alphabet and self.maybe(0.2)]
-            alphabet += extra
+            alphabet += [thing for thing in events if thing not in alphabet and self.maybe(0.1 if thing.through else 0.2)]
             if self.fails("alphabet"):
-                alphabet = [slot for slot in self.events if self.maybe(0.5)]
-            alphabet += [slot for slot in alphabet if self.maybe(0.05)]
+                alphabet = [thing for thing in events if self.maybe(0.5)]
+            alphabet += [thing for thing in alphabet if self.maybe(0.05)]
             self.choose.shuffle(alphabet)
-            clauses.append("alphabet %s;" % self.exact_names(scope.body, alphabet))
+            clauses.append("alphabet %s;" % self.written_names(alphabet))
         if self.maybe(0.4):
-            monitored = [slot for slot in alphabet if self.maybe(0.6)] if self.maybe(0.7) else []
+            monitored = [thing for thing in alphabet if self.maybe(0.6)] if self.maybe(0.7) else []
             if self.fails("alphabet"):
-                monitored = [slot for slot in self.events if self.maybe(0.5)]
-            clauses.append("monitor %s;" % self.exact_names(scope.body, monitored))
+                monitored = [thing for thing in events if self.maybe(0.5)]
+            clauses.append("monitor %s;" % self.written_names(monitored))
         return clauses
+
+
+def made_text(choose, faults=None, has_data=False, has_definitions=False):
+    """The text of a source."""
+    while True:
+        try:
+            return Maker(choose, faults, has_data, has_definitions).text
+        except Unreached:
+            pass
 
 
 def spelled(choose, tokens):
