@@ -1,0 +1,6 @@
+//! What a net keeps in which each algebraic variable is replaced by its definition, as laws for the crates above.
+#![tactic(auto)]
+
+mod laws;
+
+pub use laws::unfolded_nets_mean_the_same;
