@@ -5,3 +5,5 @@ pub mod Same
 pub mod Settled
 pub mod Solved
 pub mod Means
+pub mod Written
+pub mod Sizes

@@ -98,7 +98,7 @@ module _ (n p : Net) (s : Settled n p) where
   exclusion-same : (x : NetExclusion) → exclusion_in q (record x { pred = replaced s.by x.pred }) ≡ exclusion_in n x
   exclusion-same x = ap (λ g. record (exclusion_in n x) { permits = g }) (fun_ext (λ t. ap (λ b. if x.allows then b else not b) (true-same t x.pred)))
 
-  system-same : system_of_net q ≡ system_of_net n
+  pub system-same : system_of_net q ≡ system_of_net n
   system-same =
       ap-two (λ xs ds. record (system_of_net q) { automata = xs; algs = ds })
       (map-after (auto_replaced s.by) (automaton_in q) (automaton_in n) n.autos (λ a m. auto-same a))
