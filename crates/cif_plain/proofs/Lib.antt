@@ -7,3 +7,6 @@ pub mod Solved
 pub mod Means
 pub mod Written
 pub mod Sizes
+pub mod Fitting
+pub mod Induction
+pub mod Standing

@@ -3,6 +3,7 @@ use Rattle.std.proofs.Common.{◌≡◌, Bool, true, false, ◌&&◌, ◌||◌, 
 use Rattle.std.specs.List.{list_all, list_any}
 use Rattle.std.proofs.lemmas.List.Folds.{list_all-append}
 use Rattle.cif_system.specs.Words.{Member}
+use Rattle.cif_model.proofs.Passing.{and-left, and-right}
 use Rattle.cif_model.proofs.PlainLaws.{never}
 
 pub and-both : (a b : Bool) → a ≡ true → b ≡ true → (a && b) ≡ true
@@ -34,3 +35,19 @@ map-map f g (x ∷ xs) = ap (λ ys. g (f x) ∷ ys) (map-map f g xs)
 -- over a list that is mapped, another function
 pub map-after : {A B C : Type 0} (h : A → B) (f : B → C) (g : A → C) (xs : List A) → ((x : A) → Member x xs → f (h x) ≡ g x) → map f (map h xs) ≡ map g xs
 map-after h f g xs e = map-map h f xs ∙ map-same (λ x. f (h x)) g xs e
+
+pub any-more : {A : Type 0} (p q : A → Bool) → ((x : A) → p x ≡ true → q x ≡ true) → (xs : List A) → list_any p xs ≡ true → list_any q xs ≡ true
+any-more p q f [] h = never h
+any-more p q f (x ∷ xs) h = by (p x) (f x) (any-more p q f xs) h
+  where
+    by : (b : Bool) → (b ≡ true → q x ≡ true) → (list_any p xs ≡ true → list_any q xs ≡ true) → (b || list_any p xs) ≡ true → (q x || list_any q xs) ≡ true
+    by true g r h = ap (λ c. c || list_any q xs) (g refl)
+    by false g r h = true-or (q x) (r h)
+      where
+        true-or : (c : Bool) → list_any q xs ≡ true → (c || list_any q xs) ≡ true
+        true-or true k = refl
+        true-or false k = k
+
+pub all-more : {A : Type 0} (p q : A → Bool) → ((x : A) → p x ≡ true → q x ≡ true) → (xs : List A) → list_all p xs ≡ true → list_all q xs ≡ true
+all-more p q f [] h = refl
+all-more p q f (x ∷ xs) h = and-both _ _ (f x (and-left _ _ h)) (all-more p q f xs (and-right _ _ h))

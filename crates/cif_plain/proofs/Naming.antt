@@ -5,12 +5,13 @@ use Rattle.std.specs.List.{list_all, list_any}
 use Rattle.std.proofs.lemmas.Bool.Decides.{nat_tests}
 use Rattle.cif_base.specs.declared.types.Ty.{Ty}
 use Rattle.cif_system.specs.System.{Role, syncing, sending, receiving}
+use Rattle.cif_system.proofs.Picks.{all-at}
 use Rattle.cif_term.specs.Tree.{NetExpr, net_expr, NetForm, n_truth, n_number, n_loc, n_var, n_input, n_alg, n_received, n_minus, n_plus, n_not, n_abs, n_min, n_max, n_sum, n_product, n_compare, n_and, n_or, n_implies, n_iff, n_if, NetExprs, no_net_exprs, net_exprs, NetTerms, no_net_terms, net_terms, NetFactors, no_net_factors, net_factors, NetBranches, no_net_branches, net_branches, NetUpdate, net_set, net_choose, NetUpdates, no_net_updates, net_updates, NetUpdateBranches, no_net_update_branches, net_update_branches}
 use Rattle.cif_model.specs.Net.{NetChan, no_net_chan, void_net_chan, net_chan_of, NetEdge, NetAuto, AlgValue, one_value, by_loc, NetAlg, NetExclusion, NetInvariant, Net}
 use Rattle.cif_model.specs.Exprs.{updates_exprs, update_exprs, branches_exprs, edge_exprs, alg_exprs}
-use Rattle.cif_model.specs.Kinds.{Kind, bool_kind, int_kind, kind_of, is_equality, has_type, alg_fits, kinds_in, places_of, fits, form_fits, terms_fit, factors_fit, all_fit, branches_fit, fits_type}
+use Rattle.cif_model.specs.Kinds.{Kind, bool_kind, int_kind, kind_of, is_equality, has_type, alg_fits, received_fits, kinds_in, places_of, fits, form_fits, terms_fit, factors_fit, all_fit, branches_fit, fits_type}
 use Rattle.cif_model.specs.Facts.{channel_of, received_type, assigns_kind, var_kind, updates_stand, update_stands, branches_stand, role_stands, edge_stands, auto_stands, alg_stands, exclusion_stands, invariant_stands, is_net}
-use Rattle.cif_model.specs.Reads.{Read, alg_passes, names_in, form_names, term_names, factor_names, list_names, branch_names}
+use Rattle.cif_model.specs.Reads.{Read, a_var, an_input, an_alg, a_place, the_received, alg_passes, names_in, form_names, term_names, factor_names, list_names, branch_names}
 use Rattle.cif_model.proofs.Passing.{and-left, and-right}
 use Rattle.cif_model.proofs.PlainLaws.{never}
 use Rattle.cif_plain.proofs.Lists.{and-both, pass-both, some-any}
@@ -45,65 +46,81 @@ fits-there k ds v h = by (slice_get ds v) refl h
     by None g f = never f
     by (Some a) g f = let l : v < length ds = within ds v a g in grind (arith, nat_tests)
 
+module _ (n : Net) (r : Option Ty) (p : Read → Bool)
+    (vars : (k : ℕ) → p (a_var k) ≡ true) (inputs : (k : ℕ) → p (an_input k) ≡ true) (places : (k : ℕ) → p (a_place k) ≡ true)
+    (algs : (k : Kind) (v : ℕ) → alg_fits k (slice_get n.algs v) ≡ true → p (an_alg v) ≡ true)
+    (received : (k : Kind) → received_fits k r ≡ true → p the_received ≡ true) where
+  abbrev All : List Read → Type 0
+  All xs = list_all p xs ≡ true
+
+  -- operands of a comparison have some kind
+  operands : (t : Bool) (a b : NetExpr) → (if t then list_any (λ q. fits n r q a && fits n r q b) (kinds_in n) else fits n r int_kind a && fits n r int_kind b) ≡ true → (q : Kind) × (fits n r q a ≡ true) × (fits n r q b ≡ true)
+  operands true a b h = let s : (q : Kind) × ((fits n r q a && fits n r q b) ≡ true) = some-any (λ q. fits n r q a && fits n r q b) (kinds_in n) h in (s.0, and-left _ _ s.1, and-right _ _ s.1)
+  operands false a b h = (int_kind, and-left _ _ h, and-right _ _ h)
+
+  mutual
+    pub all-pass : (e : NetExpr) (k : Kind) → fits n r k e ≡ true → All (names_in e)
+    all-pass (net_expr f at) k h = form-names f k h
+
+    form-names : (f : NetForm) (k : Kind) → form_fits n r k f ≡ true → All (form_names f)
+    form-names (n_truth b) k h = refl
+    form-names (n_number z) k h = refl
+    form-names (n_loc a j) k h = and-both _ _ (places a) refl
+    form-names (n_var v) k h = and-both _ _ (vars v) refl
+    form-names (n_input v) k h = and-both _ _ (inputs v) refl
+    form-names (n_alg v) k h = and-both _ _ (algs k v h) refl
+    form-names n_received k h = and-both _ _ (received k h) refl
+    form-names (n_minus e) k h = all-pass e int_kind (and-right _ _ h)
+    form-names (n_plus e) k h = all-pass e int_kind (and-right _ _ h)
+    form-names (n_not e) k h = all-pass e bool_kind (and-right _ _ h)
+    form-names (n_abs e) k h = all-pass e int_kind (and-right _ _ h)
+    form-names (n_min a b) k h = pass-both p (names_in a) (names_in b) (all-pass a int_kind (and-right _ _ (and-left _ _ h))) (all-pass b int_kind (and-right _ _ h))
+    form-names (n_max a b) k h = pass-both p (names_in a) (names_in b) (all-pass a int_kind (and-right _ _ (and-left _ _ h))) (all-pass b int_kind (and-right _ _ h))
+    form-names (n_sum e es) k h = pass-both p (names_in e) (term_names es) (all-pass e int_kind (and-right _ _ (and-left _ _ h))) (terms-names es (and-right _ _ h))
+    form-names (n_product e es) k h = pass-both p (names_in e) (factor_names es) (all-pass e int_kind (and-right _ _ (and-left _ _ h))) (factors-names es (and-right _ _ h))
+    form-names (n_compare a op b) k h =
+        let s : (q : Kind) × (fits n r q a ≡ true) × (fits n r q b ≡ true) = operands (is_equality op) a b (and-right _ _ h) in
+        pass-both p (names_in a) (names_in b) (all-pass a s.0 s.1) (all-pass b s.0 s.2)
+    form-names (n_and es) k h = list-names es (and-right _ _ h)
+    form-names (n_or es) k h = list-names es (and-right _ _ h)
+    form-names (n_implies a b) k h = pass-both p (names_in a) (names_in b) (all-pass a bool_kind (and-right _ _ (and-left _ _ h))) (all-pass b bool_kind (and-right _ _ h))
+    form-names (n_iff a b) k h = pass-both p (names_in a) (names_in b) (all-pass a bool_kind (and-right _ _ (and-left _ _ h))) (all-pass b bool_kind (and-right _ _ h))
+    form-names (n_if bs e) k h = pass-both p (branch_names bs) (names_in e) (cases-names bs k (and-left _ _ h)) (all-pass e k (and-right _ _ h))
+
+    terms-names : (es : NetTerms) → terms_fit n r es ≡ true → All (term_names es)
+    terms-names no_net_terms h = refl
+    terms-names (net_terms m e es) h = pass-both p (names_in e) (term_names es) (all-pass e int_kind (and-left _ _ h)) (terms-names es (and-right _ _ h))
+
+    factors-names : (es : NetFactors) → factors_fit n r es ≡ true → All (factor_names es)
+    factors-names no_net_factors h = refl
+    factors-names (net_factors op e es) h = pass-both p (names_in e) (factor_names es) (all-pass e int_kind (and-left _ _ h)) (factors-names es (and-right _ _ h))
+
+    list-names : (es : NetExprs) → all_fit n r es ≡ true → All (list_names es)
+    list-names no_net_exprs h = refl
+    list-names (net_exprs e es) h = pass-both p (names_in e) (list_names es) (all-pass e bool_kind (and-left _ _ h)) (list-names es (and-right _ _ h))
+
+    cases-names : (bs : NetBranches) (k : Kind) → branches_fit n r k bs ≡ true → All (branch_names bs)
+    cases-names no_net_branches k h = refl
+    cases-names (net_branches c e bs) k h =
+        pass-both p (names_in c) (names_in e ++ branch_names bs) (all-pass c bool_kind (and-left _ _ (and-left _ _ h)))
+        (pass-both p (names_in e) (branch_names bs) (all-pass e k (and-right _ _ (and-left _ _ h))) (cases-names bs k (and-right _ _ h)))
+
+-- a name that isn't the received value
+abbrev pub not_received : Read → Bool
+not_received the_received = false
+not_received x = true
+
 module _ (n : Net) where
   abbrev Within : List Read → Type 0
   Within xs = Names (is_there n) xs
 
-  both : (xs ys : List Read) → Within xs → Within ys → Within (xs ++ ys)
-  both xs ys h k = pass-both (alg_passes (is_there n)) xs ys h k
+  -- where nothing is received, nothing names it
+  pub quiet : (e : NetExpr) (k : Kind) → fits n None k e ≡ true → list_all not_received (names_in e) ≡ true
+  quiet = all-pass n None not_received (λ k. refl) (λ k. refl) (λ k. refl) (λ k v h. refl) (λ k h. never h)
 
   module _ (r : Option Ty) where
-    -- operands of a comparison have some kind
-    operands : (t : Bool) (a b : NetExpr) → (if t then list_any (λ q. fits n r q a && fits n r q b) (kinds_in n) else fits n r int_kind a && fits n r int_kind b) ≡ true → (q : Kind) × (fits n r q a ≡ true) × (fits n r q b ≡ true)
-    operands true a b h = let s : (q : Kind) × ((fits n r q a && fits n r q b) ≡ true) = some-any (λ q. fits n r q a && fits n r q b) (kinds_in n) h in (s.0, and-left _ _ s.1, and-right _ _ s.1)
-    operands false a b h = (int_kind, and-left _ _ h, and-right _ _ h)
-
-    mutual
-      pub names : (e : NetExpr) (k : Kind) → fits n r k e ≡ true → Within (names_in e)
-      names (net_expr f at) k h = form-names f k h
-
-      form-names : (f : NetForm) (k : Kind) → form_fits n r k f ≡ true → Within (form_names f)
-      form-names (n_truth b) k h = refl
-      form-names (n_number z) k h = refl
-      form-names (n_loc a p) k h = refl
-      form-names (n_var v) k h = refl
-      form-names (n_input v) k h = refl
-      form-names (n_alg v) k h = and-both _ _ (fits-there k n.algs v h) refl
-      form-names n_received k h = refl
-      form-names (n_minus e) k h = names e int_kind (and-right _ _ h)
-      form-names (n_plus e) k h = names e int_kind (and-right _ _ h)
-      form-names (n_not e) k h = names e bool_kind (and-right _ _ h)
-      form-names (n_abs e) k h = names e int_kind (and-right _ _ h)
-      form-names (n_min a b) k h = both (names_in a) (names_in b) (names a int_kind (and-right _ _ (and-left _ _ h))) (names b int_kind (and-right _ _ h))
-      form-names (n_max a b) k h = both (names_in a) (names_in b) (names a int_kind (and-right _ _ (and-left _ _ h))) (names b int_kind (and-right _ _ h))
-      form-names (n_sum e es) k h = both (names_in e) (term_names es) (names e int_kind (and-right _ _ (and-left _ _ h))) (terms-names es (and-right _ _ h))
-      form-names (n_product e es) k h = both (names_in e) (factor_names es) (names e int_kind (and-right _ _ (and-left _ _ h))) (factors-names es (and-right _ _ h))
-      form-names (n_compare a op b) k h =
-          let s : (q : Kind) × (fits n r q a ≡ true) × (fits n r q b ≡ true) = operands (is_equality op) a b (and-right _ _ h) in
-          both (names_in a) (names_in b) (names a s.0 s.1) (names b s.0 s.2)
-      form-names (n_and es) k h = list-names es (and-right _ _ h)
-      form-names (n_or es) k h = list-names es (and-right _ _ h)
-      form-names (n_implies a b) k h = both (names_in a) (names_in b) (names a bool_kind (and-right _ _ (and-left _ _ h))) (names b bool_kind (and-right _ _ h))
-      form-names (n_iff a b) k h = both (names_in a) (names_in b) (names a bool_kind (and-right _ _ (and-left _ _ h))) (names b bool_kind (and-right _ _ h))
-      form-names (n_if bs e) k h = both (branch_names bs) (names_in e) (cases-names bs k (and-left _ _ h)) (names e k (and-right _ _ h))
-
-      terms-names : (es : NetTerms) → terms_fit n r es ≡ true → Within (term_names es)
-      terms-names no_net_terms h = refl
-      terms-names (net_terms m e es) h = both (names_in e) (term_names es) (names e int_kind (and-left _ _ h)) (terms-names es (and-right _ _ h))
-
-      factors-names : (es : NetFactors) → factors_fit n r es ≡ true → Within (factor_names es)
-      factors-names no_net_factors h = refl
-      factors-names (net_factors op e es) h = both (names_in e) (factor_names es) (names e int_kind (and-left _ _ h)) (factors-names es (and-right _ _ h))
-
-      list-names : (es : NetExprs) → all_fit n r es ≡ true → Within (list_names es)
-      list-names no_net_exprs h = refl
-      list-names (net_exprs e es) h = both (names_in e) (list_names es) (names e bool_kind (and-left _ _ h)) (list-names es (and-right _ _ h))
-
-      cases-names : (bs : NetBranches) (k : Kind) → branches_fit n r k bs ≡ true → Within (branch_names bs)
-      cases-names no_net_branches k h = refl
-      cases-names (net_branches c e bs) k h =
-          both (names_in c) (names_in e ++ branch_names bs) (names c bool_kind (and-left _ _ (and-left _ _ h)))
-          (both (names_in e) (branch_names bs) (names e k (and-right _ _ (and-left _ _ h))) (cases-names bs k (and-right _ _ h)))
+    pub names : (e : NetExpr) (k : Kind) → fits n r k e ≡ true → Within (names_in e)
+    names = all-pass n r (alg_passes (is_there n)) (λ k. refl) (λ k. refl) (λ k. refl) (λ k v h. fits-there k n.algs v h) (λ k h. refl)
 
     -- ---- updates
 
@@ -186,3 +203,18 @@ module _ (n : Net) where
 
     pub invariant-names : (i : NetInvariant) → invariant_stands n i ≡ true → Within (names_in i.pred)
     invariant-names i h = names None i.pred bool_kind h
+
+-- in a net there is a value for one place at least
+pub some-place : (n : Net) → is_net n ≡ true → (k : ℕ) (m : ℕ) → nat_lt k (length n.autos) ≡ true → nat_eq m (places_of (slice_get n.autos k)) ≡ true → 0 < m
+some-place n net k m h e = by (slice_get n.autos k) refl e
+  where
+    there : (ds : List NetAuto) (k : ℕ) → k < length ds → slice_get ds k ≡ None → ⊥
+    there [] k l g = absurd (omega (arith, l))
+    there (a ∷ ds) zero l g = absurd cc
+    there (a ∷ ds) (suc k) l g = there ds k (omega (arith, l)) g
+
+    by : (o : Option NetAuto) → slice_get n.autos k ≡ o → nat_eq m (places_of o) ≡ true → 0 < m
+    by None g t = let l : k < length n.autos = grind (arith, nat_tests) in absurd (there n.autos k l g)
+    by (Some a) g t =
+        let f : nat_lt a.first (length a.locs) ≡ true = and-left _ _ (and-left _ _ (and-left _ _ (all-at (auto_stands n) n.autos k a (autos-stand n net) g))) in
+        grind (arith, nat_tests)

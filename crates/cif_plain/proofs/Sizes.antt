@@ -25,7 +25,7 @@ use Rattle.cif_model.proofs.Passing.{and-left, and-right, all-member}
 use Rattle.cif_model.proofs.ValueLaws.{ap-two}
 use Rattle.cif_plain.proofs.Lists.{map-map, map-after}
 use Rattle.cif_plain.proofs.Means.{system-same}
-use Rattle.cif_plain.proofs.Naming.{autos-stand, algs-stand}
+use Rattle.cif_plain.proofs.Naming.{some-place, autos-stand, algs-stand}
 use Rattle.cif_plain.proofs.Settled.{Settled}
 use Rattle.cif_plain.proofs.Solved as solved
 use Rattle.cif_plain.proofs.Solved.{alg-cases}
@@ -51,21 +51,6 @@ def-after : (by : ℕ → NetExpr) (g : ℕ → Measure) (a : NetAlg) → alg_me
 def-after by g =
     alg-cases (λ a. alg_measure g (alg_replaced by a) ≡ alg_measure (λ k. measure_by g (by k)) a) (λ a e. replaced-measure by g e)
     (λ a k es. ap-two by_location (map-length (replaced by) es) (ap all_beside (map-after (replaced by) (measure_by g) (measure_by (λ j. measure_by g (by j))) es (λ e m. replaced-measure by g e))))
-
--- in a net there is a value for one place at least
-some-place : (n : Net) → is_net n ≡ true → (k : ℕ) (m : ℕ) → nat_lt k (length n.autos) ≡ true → nat_eq m (places_of (slice_get n.autos k)) ≡ true → 0 < m
-some-place n net k m h e = by (slice_get n.autos k) refl e
-  where
-    there : (ds : List NetAuto) (k : ℕ) → k < length ds → slice_get ds k ≡ None → ⊥
-    there [] k l g = absurd (omega (arith, l))
-    there (a ∷ ds) zero l g = absurd cc
-    there (a ∷ ds) (suc k) l g = there ds k (omega (arith, l)) g
-
-    by : (o : Option NetAuto) → slice_get n.autos k ≡ o → nat_eq m (places_of o) ≡ true → 0 < m
-    by None g t = let l : k < length n.autos = grind (arith, nat_tests) in absurd (there n.autos k l g)
-    by (Some a) g t =
-        let f : nat_lt a.first (length a.locs) ≡ true = and-left _ _ (and-left _ _ (and-left _ _ (all-at (auto_stands n) n.autos k a (autos-stand n net) g))) in
-        grind (arith, nat_tests)
 
 def-measure : (n : Net) → is_net n ≡ true → (by : ℕ → NetExpr) (g : ℕ → Measure) (a : NetAlg) → alg_stands n a ≡ true → alg_measure g (alg_replaced by a) ≡ measure_by g (defined_by (alg_replaced by a))
 def-measure n net by g =
