@@ -10,3 +10,8 @@ pub mod Sizes
 pub mod Fitting
 pub mod Induction
 pub mod Standing
+pub mod Freed
+pub mod Parting
+pub mod Ranging
+pub mod Cleared
+pub mod Plain

@@ -27,7 +27,7 @@ pub record Settled (n p : Net) : Type 0 where
   pub falls : (j : ℕ) (a : NetAlg) → slice_get n.algs j ≡ Some a → all_name (λ k. nat_lt (rank k) (rank j)) (alg_exprs a) ≡ true
   pub whole : p ≡ net_replaced by n
 
-there-at : {A : Type 0} (xs : List A) (k : ℕ) → k < length xs → (x : A) × (slice_get xs k ≡ Some x)
+pub there-at : {A : Type 0} (xs : List A) (k : ℕ) → k < length xs → (x : A) × (slice_get xs k ≡ Some x)
 there-at [] k h = absurd (omega (arith, h))
 there-at (x ∷ xs) zero h = (x, refl)
 there-at (x ∷ xs) (suc k) h = there-at xs k (omega (arith, h))

@@ -112,6 +112,15 @@ module _ {A : Type 0} (d : A) (ev : (ℕ → A) → NetExpr → A) (f : (ℕ →
     pub total : (g : ℕ → A) → IsOut g → (λ k. ev g (s.by k)) ≡ told
     total g out = fun_ext (solved-at g out)
 
+    -- it is what its definition tells
+    pub told-fixed : (k : ℕ) (a : NetAlg) → slice_get n.algs k ≡ Some a → told k ≡ f told a
+    told-fixed k a e =
+        sym (solved-at told told-out k)
+        ∙ ap (ev told) (s.each k a e)
+        ∙ sym (defined told a (at-member n.algs k a e))
+        ∙ after s.by told a
+        ∙ ap (λ g. f g a) (total told told-out)
+
     -- and of those of the other net
     abbrev pub others : List NetAlg
     others = map (alg_replaced s.by) n.algs

@@ -34,8 +34,9 @@ module _ (q : Net) (r : Option Ty) (k : Kind) (a : ℕ) where
       → (branches_fit q r k (place_branches a j e es) ≡ true) × (fits q r k (last_of e es) ≡ true)
   places-fit j e [] h l = (refl, and-left _ _ h)
   places-fit j e (f ∷ fs) h l =
-      let rest = places-fit (suc j) f fs (and-right _ _ h) (omega (arith, l)) in
+      let more : suc j + suc (length fs) ≤ places_of (slice_get q.autos a) = omega (arith, l) in
       let t : nat_lt j (places_of (slice_get q.autos a)) ≡ true = below j (places_of (slice_get q.autos a)) (omega (arith, l)) in
+      let rest = places-fit (suc j) f fs (and-right _ _ h) more in
       (and-both _ _ (and-both _ _ t (and-left _ _ h)) rest.0, rest.1)
     where
       below : (x y : ℕ) → x < y → nat_lt x y ≡ true

@@ -3,4 +3,4 @@
 
 mod laws;
 
-pub use laws::unfolded_nets_mean_the_same;
+pub use laws::{unfolded_nets_are_plain, unfolded_nets_mean_the_same};

@@ -1,0 +1,79 @@
+-- A net in which algebraic variables are replaced by their definitions is plain, where the net without state invariants
+-- divides by no 0, stays in 64 bits and is not too large.
+use Rattle.std.proofs.Common.{◌≡◌, ℕ, Bool, true, false, not, ◌&&◌, List, [], ◌∷◌, ◌++◌, map, inl, inr, refl, sym, ◌∙◌, ap, subst}
+use Rattle.std.specs.Prelude.{flat_map}
+use Rattle.std.specs.List.{list_all}
+use Rattle.cif_system.specs.Words.{Member}
+use Rattle.cif_system.proofs.Picks.{append-right, map-member, flat_map-member}
+use Rattle.cif_term.specs.Tree.{NetExpr}
+use Rattle.cif_model.specs.Counts.{is_too_large}
+use Rattle.cif_model.specs.Exprs.{alg_exprs, all_edges, other_exprs}
+use Rattle.cif_model.specs.Facts.{is_net}
+use Rattle.cif_model.specs.Inline.{replaced, net_replaced, Unfolds}
+use Rattle.cif_model.specs.Interval.{Ranges, range_of, declared_ranges, truths}
+use Rattle.cif_model.specs.Net.{NetAlg, NetExclusion, NetInvariant, Net}
+use Rattle.cif_model.specs.Parts.{parts, is_narrow, part_divides, divides, is_narrow_expr}
+use Rattle.cif_model.specs.Rules.{Evaluated, edge_evaluated, evaluated, is_plain_expr, invariant_keeps, is_plain}
+use Rattle.cif_model.proofs.Passing.{and-left, and-right, all-member}
+use Rattle.cif_plain.proofs.Cleared.{is_clean, ranges-same, replaced-clean}
+use Rattle.cif_plain.proofs.Freed.{evaluated-free}
+use Rattle.cif_plain.proofs.Lists.{and-both, pass-each, all-more}
+use Rattle.cif_plain.proofs.Settled.{Settled, settled}
+use Rattle.cif_plain.proofs.Sizes.{too_large-same}
+use Rattle.cif_plain.proofs.Standing.{net-stands}
+use Rattle.cif_plain.proofs.Written.{evaluated_replaced, evaluated-written}
+
+both-tests : {A : Type 0} (u v : A → Bool) (xs : List A) → list_all u xs ≡ true → list_all v xs ≡ true → list_all (λ x. u x && v x) xs ≡ true
+both-tests u v [] h k = refl
+both-tests u v (x ∷ xs) h k = and-both (u x && v x) _ (and-both (u x) (v x) (and-left (u x) _ h) (and-left (v x) _ k)) (both-tests u v xs (and-right _ _ h) (and-right _ _ k))
+
+pass-map : {A B : Type 0} (f : A → B) (u : B → Bool) (xs : List A) → ((x : A) → Member x xs → u (f x) ≡ true) → list_all u (map f xs) ≡ true
+pass-map f u [] h = refl
+pass-map f u (x ∷ xs) h = and-both _ _ (h x (inl refl)) (pass-map f u xs (λ y m. h y (inr m)))
+
+module _ (n p : Net) (net : is_net n ≡ true) (none : n.invariants ≡ []) (s : Settled n p)
+    (divide : list_all (λ (x : Evaluated). divides (declared_ranges n x.received) x.value) (evaluated n) ≡ true)
+    (narrow : list_all (λ (x : Evaluated). is_narrow_expr (declared_ranges n x.received) x.value) (evaluated n) ≡ true)
+    (small : is_too_large n ≡ false) where
+  abbrev q : Net
+  q = net_replaced s.by n
+
+  clean : (x : Evaluated) → Member x (evaluated n) → list_all (is_clean (declared_ranges n x.received)) (parts x.value) ≡ true
+  clean x m =
+      both-tests (part_divides (declared_ranges n x.received)) (λ e. is_narrow (range_of (declared_ranges n x.received) e)) (parts x.value)
+      (all-member (λ (x : Evaluated). divides (declared_ranges n x.received) x.value) (evaluated n) x divide m)
+      (all-member (λ (x : Evaluated). is_narrow_expr (declared_ranges n x.received) x.value) (evaluated n) x narrow m)
+
+  definition-member : (a : NetAlg) → Member a n.algs → (e : NetExpr) → Member e (alg_exprs a) → Member (record { value = e; received = truths }) (evaluated n)
+  definition-member a m e i =
+      append-right (record { value = e; received = truths }) (flat_map (edge_evaluated n) (all_edges n)) (map (λ e. record { value = e; received = truths }) (other_exprs n))
+      (map-member (λ e. record { value = e; received = truths }) e (other_exprs n)
+      (append-right e (map (λ (x : NetExclusion). x.pred) n.exclusions) (map (λ (i : NetInvariant). i.pred) n.invariants ++ flat_map alg_exprs n.algs)
+      (append-right e (map (λ (i : NetInvariant). i.pred) n.invariants) (flat_map alg_exprs n.algs)
+      (flat_map-member alg_exprs a n.algs e m i))))
+
+  definitions-clean : (a : NetAlg) → Member a n.algs → list_all (λ e. list_all (is_clean (declared_ranges n truths)) (parts e)) (alg_exprs a) ≡ true
+  definitions-clean a m = pass-each (λ e. list_all (is_clean (declared_ranges n truths)) (parts e)) (alg_exprs a) (λ e i. clean (record { value = e; received = truths }) (definition-member a m e i))
+
+  expr-plain : (x : Evaluated) → Member x (evaluated n) → is_plain_expr q (evaluated_replaced s.by n x) ≡ true
+  expr-plain x m =
+      let c : list_all (is_clean (declared_ranges n x.received)) (parts (replaced s.by x.value)) ≡ true = replaced-clean n p net s x.received definitions-clean x.value (clean x m) in
+      let same : declared_ranges q x.received ≡ declared_ranges n x.received = ranges-same n p net s x.received in
+      and-both _ _
+      (and-both _ _ (evaluated-free n p net s x m)
+      (ap (λ g. divides g (replaced s.by x.value)) same ∙ all-more (is_clean (declared_ranges n x.received)) (part_divides (declared_ranges n x.received)) (λ e t. and-left _ _ t) (parts (replaced s.by x.value)) c))
+      (ap (λ g. is_narrow_expr g (replaced s.by x.value)) same ∙ all-more (is_clean (declared_ranges n x.received)) (λ e. is_narrow (range_of (declared_ranges n x.received) e)) (λ e t. and-right _ _ t) (parts (replaced s.by x.value)) c)
+
+  replaced-plain : is_plain q ≡ true
+  replaced-plain =
+      and-both _ _
+      (and-both _ _
+      (and-both _ _ (net-stands n p net s) (ap (list_all (is_plain_expr q)) (evaluated-written s.by n) ∙ pass-map (evaluated_replaced s.by n) (is_plain_expr q) (evaluated n) expr-plain))
+      (ap (λ js. list_all (invariant_keeps q) (map (λ (i : NetInvariant). record i { pred = replaced s.by i.pred }) js)) none))
+      (ap not (too_large-same n p net s ∙ small))
+
+pub plain : (n p : Net) → is_net n ≡ true → n.invariants ≡ [] → Unfolds n p
+    → list_all (λ (x : Evaluated). divides (declared_ranges n x.received) x.value) (evaluated n) ≡ true
+    → list_all (λ (x : Evaluated). is_narrow_expr (declared_ranges n x.received) x.value) (evaluated n) ≡ true
+    → is_too_large n ≡ false → is_plain p ≡ true
+plain n p net none u divide narrow small = let s = settled n p net u in ap is_plain s.whole ∙ replaced-plain n p net none s divide narrow small
