@@ -1,27 +1,24 @@
 -- In a net whose expressions divide by no 0 and stay in 64 bits so do those in which algebraic variables are replaced.
-use Rattle.std.proofs.Common.{◌≡◌, ℕ, zero, suc, ℤ, pos, Bool, true, false, not, ◌&&◌, List, [], ◌∷◌, ◌++◌, map, length, slice_get, Option, Some, None, inl, inr, refl, sym, ◌∙◌, ap, subst}
-use Rattle.std.specs.Prelude.{flat_map}
+use Rattle.std.proofs.Common.{◌≡◌, ℕ, zero, suc, pos, Bool, true, false, not, ◌&&◌, List, [], ◌∷◌, ◌++◌, map, length, slice_get, Option, Some, None, refl, sym, ◌∙◌, ap}
 use Rattle.std.specs.List.{list_all}
 use Rattle.std.proofs.Math.Path.{fun_ext}
 use Rattle.cif_system.specs.System.{Range, in_range}
 use Rattle.cif_system.specs.Words.{Member}
-use Rattle.cif_system.proofs.Picks.{at-member, append-right, map-member, flat_map-member}
-use Rattle.cif_term.specs.Tree.{NetExpr, net_expr, NetForm, n_truth, n_number, n_loc, n_var, n_input, n_alg, n_received, n_minus, n_plus, n_not, n_abs, n_min, n_max, n_sum, n_product, n_compare, n_and, n_or, n_implies, n_iff, n_if, times, divided, modulo, NetFactors, no_net_factors, net_factors, NetBranches}
-use Rattle.cif_model.specs.Net.{NetExclusion, NetInvariant, one_value, by_loc, NetAlg, Net}
-use Rattle.cif_model.specs.Exprs.{expr_at, alg_exprs, edge_exprs, all_edges, other_exprs}
+use Rattle.cif_system.proofs.Picks.{at-member}
+use Rattle.cif_term.specs.Tree.{NetExpr, net_expr, NetForm, n_truth, n_number, n_loc, n_var, n_input, n_alg, n_received, n_minus, n_plus, n_not, n_abs, n_min, n_max, n_sum, n_product, n_compare, n_and, n_or, n_implies, n_iff, n_if, times, divided, modulo, NetFactors, no_net_factors, net_factors}
+use Rattle.cif_model.specs.Net.{NetAlg, Net}
+use Rattle.cif_model.specs.Exprs.{expr_at, alg_exprs}
 use Rattle.cif_model.specs.Facts.{alg_stands, is_net}
 use Rattle.cif_model.specs.Inline.{replaced, form_replaced, factors_replaced, alg_replaced, net_replaced, place_branches, last_of, by_places, defined_by}
 use Rattle.cif_model.specs.Interval.{point, truths, join_all, Ranges, range_of, alg_range, stored_range, with_algs, alg_ranges, declared_ranges}
-use Rattle.cif_model.specs.Kinds.{Kind, fits, kind_of}
-use Rattle.cif_model.specs.Parts.{parts, branch_parts, factor_divisors, own_divisors, is_narrow, part_divides, divides, is_narrow_expr}
+use Rattle.cif_model.specs.Kinds.{fits, kind_of}
+use Rattle.cif_model.specs.Parts.{parts, branch_parts, factor_divisors, is_narrow, part_divides}
 use Rattle.cif_model.specs.Reads.{Read, names_in, form_names, factor_names}
-use Rattle.cif_model.specs.Rules.{Evaluated, edge_evaluated, evaluated}
-use Rattle.cif_model.specs.Unfolding.{at_or, unfolded}
+use Rattle.cif_model.specs.Unfolding.{at_or}
 use Rattle.cif_model.proofs.MeasureLaws.{replaced-range, by_places-range}
 use Rattle.cif_model.proofs.Passing.{and-left, and-right, both-pass, all-member}
-use Rattle.cif_model.proofs.ValueLaws.{ap-two}
 use Rattle.cif_plain.proofs.Induction as induction
-use Rattle.cif_plain.proofs.Lists.{and-both, pass-both, pass-each, all-more, map-after, map-same}
+use Rattle.cif_plain.proofs.Lists.{and-both, pass-both, all-more, map-after, map-same}
 use Rattle.cif_plain.proofs.Naming.{not_received, quiet, algs-stand}
 use Rattle.cif_plain.proofs.Parting.{is_alg, tested}
 use Rattle.cif_plain.proofs.Ranging.{quiet-range, joins-narrow, whole-narrow}
@@ -101,9 +98,11 @@ module _ (g : Ranges) (i : ℕ) where
       → (list_all (is_clean g) (branch_parts (place_branches i j e es)) ≡ true) × (list_all (is_clean g) (parts (last_of e es)) ≡ true)
   branches-clean j e [] h = (refl, and-left _ _ h)
   branches-clean j e (f ∷ fs) h =
-      let rest = branches-clean (suc j) f fs (and-right _ _ h) in
-      (pass-both (is_clean g) (net_expr (n_loc i j) (expr_at e) ∷ []) (parts e ++ branch_parts (place_branches i (suc j) f fs)) refl
-      (pass-both (is_clean g) (parts e) (branch_parts (place_branches i (suc j) f fs)) (and-left _ _ h) rest.0), rest.1)
+      let rest = branches-clean (suc j) f fs (and-right _ _ h) in (
+        pass-both (is_clean g) (net_expr (n_loc i j) (expr_at e) ∷ []) (parts e ++ branch_parts (place_branches i (suc j) f fs)) refl
+            (pass-both (is_clean g) (parts e) (branch_parts (place_branches i (suc j) f fs)) (and-left _ _ h) rest.0),
+        rest.1,
+      )
 
   places-clean : (es : List NetExpr) → list_all (λ x. list_all (is_clean g) (parts x)) es ≡ true → is_narrow (range_of g (by_places i es)) ≡ true → list_all (is_clean g) (parts (by_places i es)) ≡ true
   places-clean [] h n = refl
@@ -140,7 +139,7 @@ module _ (n p : Net) (net : is_net n ≡ true) (s : Settled n p) where
   tables-quiet r t zero = refl
   tables-quiet r t (suc m) =
       map-same (def (given r) (at_or (point (pos 0)) (alg_ranges n (given r) m))) (def (given t) (at_or (point (pos 0)) (alg_ranges n (given t) m))) n.algs (λ a i.
-        ap (λ xs. def (given r) (at_or (point (pos 0)) xs) a) (tables-quiet r t m) ∙ def-quiet r t (at_or (point (pos 0)) (alg_ranges n (given t) m)) a (alg-quiet a (stands a i)))
+      ap (λ xs. def (given r) (at_or (point (pos 0)) xs) a) (tables-quiet r t m) ∙ def-quiet r t (at_or (point (pos 0)) (alg_ranges n (given t) m)) a (alg-quiet a (stands a i)))
 
   expr-quiet : (r t : Range) (e : NetExpr) → list_all not_received (names_in e) ≡ true → range_of (declared_ranges n r) e ≡ range_of (declared_ranges n t) e
   expr-quiet r t e h =
@@ -216,7 +215,7 @@ module _ (n p : Net) (net : is_net n ≡ true) (s : Settled n p) where
             → is_narrow (range_of (declared_ranges n r) (defined_by (alg_replaced c a))) ≡ true → list_all (is_clean (declared_ranges n r)) (parts (defined_by (alg_replaced c a))) ≡ true
         parts-good =
             alg-cases (λ a. list_all (λ e. list_all not_received (names_in e)) (alg_exprs a) ≡ true → list_all (λ e. list_all (is_clean (declared_ranges n truths)) (parts e)) (alg_exprs a) ≡ true
-              → is_narrow (range_of (declared_ranges n r) (defined_by (alg_replaced c a))) ≡ true → list_all (is_clean (declared_ranges n r)) (parts (defined_by (alg_replaced c a))) ≡ true)
+            → is_narrow (range_of (declared_ranges n r) (defined_by (alg_replaced c a))) ≡ true → list_all (is_clean (declared_ranges n r)) (parts (defined_by (alg_replaced c a))) ≡ true)
             (λ a e q h w. and-left _ _ (each-good (e ∷ []) q h))
             (λ a i es q h w. places-clean (declared_ranges n r) i (map (replaced c) es) (each-good es q h) w)
 

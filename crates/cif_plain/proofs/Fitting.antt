@@ -1,6 +1,6 @@
 -- An expression in which algebraic variables are replaced keeps its kind, where what replaces each has the kind of that.
-use Rattle.std.proofs.Common.{◌≡◌, ℕ, zero, suc, Bool, true, false, ◌&&◌, ◌||◌, List, [], ◌∷◌, ◌++◌, map, length, slice_get, Option, Some, None, refl, sym, ◌∙◌, ap, subst, if◌then◌else◌}
-use Rattle.std.specs.Prelude.{nat_eq, nat_lt, bytes_eq, flat_map}
+use Rattle.std.proofs.Common.{◌≡◌, ℕ, zero, suc, Bool, true, false, ◌&&◌, List, [], ◌∷◌, ◌++◌, map, slice_get, Option, refl, ◌∙◌, ap, if◌then◌else◌}
+use Rattle.std.specs.Prelude.{nat_lt, bytes_eq, flat_map}
 use Rattle.std.specs.List.{list_any}
 use Rattle.std.proofs.lemmas.Bool.{eqb-true}
 use Rattle.cif_base.specs.declared.types.Ty.{Ty}

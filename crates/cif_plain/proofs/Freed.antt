@@ -1,5 +1,5 @@
 -- An expression in which algebraic variables are replaced by ones that name none names none.
-use Rattle.std.proofs.Common.{◌≡◌, ℕ, zero, suc, ◌<◌, Bool, true, false, ◌&&◌, List, [], ◌∷◌, ◌++◌, map, length, slice_get, Option, Some, None, inl, inr, refl, sym, ◌∙◌, ap, subst, arith}
+use Rattle.std.proofs.Common.{◌≡◌, ℕ, suc, ◌<◌, Bool, true, false, List, [], ◌∷◌, ◌++◌, map, length, slice_get, Option, Some, None, inl, inr, refl, sym, subst, arith}
 use Rattle.std.specs.Prelude.{flat_map}
 use Rattle.std.specs.List.{list_all}
 use Rattle.std.proofs.lemmas.Bool.Decides.{nat_tests}
@@ -7,7 +7,7 @@ use Rattle.cif_system.specs.Words.{Member}
 use Rattle.cif_system.proofs.Distinct.{member-append, member-map, member-flat_map}
 use Rattle.cif_system.proofs.Picks.{at-member}
 use Rattle.cif_term.specs.Tree.{NetExpr, net_expr, NetForm, n_truth, n_number, n_loc, n_var, n_input, n_alg, n_received, n_minus, n_plus, n_not, n_abs, n_min, n_max, n_sum, n_product, n_compare, n_and, n_or, n_implies, n_iff, n_if, NetExprs, no_net_exprs, net_exprs, NetTerms, no_net_terms, net_terms, NetFactors, no_net_factors, net_factors, NetBranches, no_net_branches, net_branches}
-use Rattle.cif_model.specs.Net.{NetAuto, AlgValue, one_value, by_loc, NetAlg, NetExclusion, NetInvariant, Net}
+use Rattle.cif_model.specs.Net.{NetAuto, NetAlg, NetExclusion, NetInvariant, Net}
 use Rattle.cif_model.specs.Exprs.{placed, alg_exprs, edge_exprs, all_edges, other_exprs}
 use Rattle.cif_model.specs.Facts.{channel_of, auto_stands, edge_stands, alg_stands, exclusion_stands, invariant_stands, is_net}
 use Rattle.cif_model.specs.Inline.{replaced, form_replaced, terms_replaced, factors_replaced, list_replaced, branches_replaced, alg_replaced, place_branches, last_of, by_places, defined_by}

@@ -1,6 +1,6 @@
 -- A net in which algebraic variables are replaced by their definitions is plain, where the net without state invariants
 -- divides by no 0, stays in 64 bits and is not too large.
-use Rattle.std.proofs.Common.{◌≡◌, ℕ, Bool, true, false, not, ◌&&◌, List, [], ◌∷◌, ◌++◌, map, inl, inr, refl, sym, ◌∙◌, ap, subst}
+use Rattle.std.proofs.Common.{◌≡◌, Bool, true, false, not, ◌&&◌, List, [], ◌∷◌, ◌++◌, map, inl, inr, refl, ◌∙◌, ap}
 use Rattle.std.specs.Prelude.{flat_map}
 use Rattle.std.specs.List.{list_all}
 use Rattle.cif_system.specs.Words.{Member}
@@ -10,7 +10,7 @@ use Rattle.cif_model.specs.Counts.{is_too_large}
 use Rattle.cif_model.specs.Exprs.{alg_exprs, all_edges, other_exprs}
 use Rattle.cif_model.specs.Facts.{is_net}
 use Rattle.cif_model.specs.Inline.{replaced, net_replaced, Unfolds}
-use Rattle.cif_model.specs.Interval.{Ranges, range_of, declared_ranges, truths}
+use Rattle.cif_model.specs.Interval.{range_of, declared_ranges, truths}
 use Rattle.cif_model.specs.Net.{NetAlg, NetExclusion, NetInvariant, Net}
 use Rattle.cif_model.specs.Parts.{parts, is_narrow, part_divides, divides, is_narrow_expr}
 use Rattle.cif_model.specs.Rules.{Evaluated, edge_evaluated, evaluated, is_plain_expr, invariant_keeps, is_plain}

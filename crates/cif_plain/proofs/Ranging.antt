@@ -1,11 +1,10 @@
 -- Intervals of expressions that don't name the received value, and that of an expression whose parts are in 64 bits.
-use Rattle.std.proofs.Common.{◌≡◌, ℕ, ℤ, pos, Bool, true, false, ◌&&◌, List, [], ◌∷◌, ◌++◌, map, refl, sym, ◌∙◌, ap, subst, arith}
+use Rattle.std.proofs.Common.{◌≡◌, ℕ, Bool, true, List, [], ◌∷◌, ◌++◌, refl, ◌∙◌, ap, arith}
 use Rattle.std.specs.List.{list_all}
-use Rattle.std.specs.Int.{int_min, int_max}
 use Rattle.std.proofs.lemmas.Int.{ints}
 use Rattle.cif_system.specs.System.{Range}
 use Rattle.cif_term.specs.Tree.{MulOp, NetExpr, net_expr, NetForm, n_truth, n_number, n_loc, n_var, n_input, n_alg, n_received, n_minus, n_plus, n_not, n_abs, n_min, n_max, n_sum, n_product, n_compare, n_and, n_or, n_implies, n_iff, n_if, NetTerms, no_net_terms, net_terms, NetFactors, no_net_factors, net_factors, NetBranches, no_net_branches, net_branches}
-use Rattle.cif_model.specs.Interval.{point, truths, joined, join_all, neg_range, add_ranges, mul_ranges, abs_range, min_ranges, max_ranges, Ranges, range_of, form_range, sum_range, product_range, cases_range}
+use Rattle.cif_model.specs.Interval.{joined, join_all, neg_range, add_ranges, mul_ranges, abs_range, min_ranges, max_ranges, Ranges, range_of, form_range, sum_range, product_range, cases_range}
 use Rattle.cif_model.specs.Parts.{add_term, add_factor, parts, form_parts, sum_parts, product_parts, is_narrow}
 use Rattle.cif_model.specs.Reads.{names_in, form_names, term_names, factor_names, branch_names}
 use Rattle.cif_model.proofs.Passing.{and-left, and-right, both-pass}

@@ -1,31 +1,26 @@
 -- A net in which algebraic variables are replaced by their definitions is as large and as deep as the net.
-use Rattle.std.proofs.Common.{◌≡◌, ℕ, zero, suc, ◌+◌, ◌<◌, max, Bool, true, false, ◌&&◌, ◌||◌, cond, List, [], ◌∷◌, map, length, sum_by, Option, Some, None, refl, sym, ◌∙◌, ap, slice_get, arith}
+use Rattle.std.proofs.Common.{◌≡◌, ℕ, ◌+◌, ◌<◌, max, Bool, true, false, ◌||◌, cond, List, [], ◌∷◌, map, length, sum_by, refl, sym, ◌∙◌, ap, arith}
 use Rattle.std.specs.Prelude.{nat_lt, nat_eq, flat_map, filter}
-use Rattle.std.specs.List.{list_all}
 use Rattle.std.proofs.Math.Path.{fun_ext}
-use Rattle.std.proofs.lemmas.Bool.Decides.{nat_tests}
 use Rattle.std.proofs.lemmas.List.Sums.{sum_by-cons}
 use Rattle.cif_system.specs.Choices.{choices, event_numbers}
 use Rattle.cif_system.specs.Step.{Choice}
 use Rattle.cif_system.specs.System.{System}
 use Rattle.cif_system.specs.Words.{Member}
 use Rattle.cif_system.proofs.Lists.{map-length}
-use Rattle.cif_system.proofs.Picks.{all-at}
 use Rattle.cif_term.specs.Tree.{NetExpr}
-use Rattle.cif_model.specs.Net.{NetAuto, one_value, by_loc, NetAlg, NetExclusion, Net}
+use Rattle.cif_model.specs.Net.{NetAlg, NetExclusion, Net}
 use Rattle.cif_model.specs.Counts.{Measure, no_form, all_beside, by_location, measure_by, alg_measure, alg_measures, measure, sizes, size_of, exclusions_of, invariant_exprs, choice_nodes, event_nodes, nodes, depth, is_too_large, most_nodes, most_depth}
 use Rattle.cif_model.specs.Exprs.{edge_exprs, all_exprs}
-use Rattle.cif_model.specs.Facts.{auto_stands, alg_stands, is_net}
+use Rattle.cif_model.specs.Facts.{alg_stands, is_net}
 use Rattle.cif_model.specs.Inline.{replaced, alg_replaced, net_replaced, defined_by, by_places}
-use Rattle.cif_model.specs.Kinds.{places_of}
 use Rattle.cif_model.specs.Listing.{moves_of, edges_taken}
-use Rattle.cif_model.specs.Meaning.{system_of_net}
 use Rattle.cif_model.proofs.MeasureLaws.{replaced-measure, by_places-measure}
 use Rattle.cif_model.proofs.Passing.{and-left, and-right, all-member}
 use Rattle.cif_model.proofs.ValueLaws.{ap-two}
 use Rattle.cif_plain.proofs.Lists.{map-map, map-after}
 use Rattle.cif_plain.proofs.Means.{system-same}
-use Rattle.cif_plain.proofs.Naming.{some-place, autos-stand, algs-stand}
+use Rattle.cif_plain.proofs.Naming.{some-place, algs-stand}
 use Rattle.cif_plain.proofs.Settled.{Settled}
 use Rattle.cif_plain.proofs.Solved as solved
 use Rattle.cif_plain.proofs.Solved.{alg-cases}

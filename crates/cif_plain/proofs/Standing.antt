@@ -1,18 +1,17 @@
 -- A net in which algebraic variables are replaced by their definitions is a net.
-use Rattle.std.proofs.Common.{◌≡◌, ℕ, zero, suc, ◌+◌, ◌<◌, ◌≤◌, Bool, true, false, not, ◌&&◌, ◌||◌, List, [], ◌∷◌, ◌++◌, map, length, sum, slice_get, Option, Some, None, option_map, is_none, refl, sym, ◌∙◌, ap, subst, length-append, arith}
+use Rattle.std.proofs.Common.{◌≡◌, ℕ, suc, ◌+◌, ◌<◌, ◌≤◌, Bool, true, not, ◌&&◌, ◌||◌, List, [], ◌∷◌, ◌++◌, map, length, sum, slice_get, Option, Some, None, option_map, refl, sym, ◌∙◌, ap, subst, length-append, arith}
 use Rattle.std.specs.Prelude.{nat_eq, nat_lt, nat_le, flat_map, option_to_list}
 use Rattle.std.specs.List.{list_all, list_any}
 use Rattle.std.proofs.lemmas.Bool.Decides.{nat_tests}
 use Rattle.cif_base.specs.declared.types.Ty.{Ty}
 use Rattle.cif_system.specs.System.{Role, syncing, sending, receiving}
 use Rattle.cif_system.specs.Step.{same_role}
-use Rattle.cif_system.specs.Words.{Member}
 use Rattle.cif_system.proofs.Lists.{map-length}
 use Rattle.cif_system.proofs.Picks.{at-member}
-use Rattle.cif_term.specs.Tree.{NetExpr, net_expr, n_alg, n_loc, NetUpdate, net_set, net_choose, NetUpdates, no_net_updates, net_updates, NetUpdateBranches, no_net_update_branches, net_update_branches}
-use Rattle.cif_model.specs.Net.{NetChan, no_net_chan, void_net_chan, net_chan_of, NetEdge, NetAuto, AlgValue, one_value, by_loc, NetAlg, NetExclusion, NetInvariant, Net}
-use Rattle.cif_model.specs.Exprs.{expr_at, Written, writes_all, targets, edge_values}
-use Rattle.cif_model.specs.Kinds.{Kind, bool_kind, kind_of, has_type, places_of, alg_fits, received_fits, kinds_in, fits, branches_fit, fits_type}
+use Rattle.cif_term.specs.Tree.{NetExpr, net_expr, n_alg, NetUpdate, net_set, net_choose, NetUpdates, no_net_updates, net_updates, NetUpdateBranches, no_net_update_branches, net_update_branches}
+use Rattle.cif_model.specs.Net.{NetChan, no_net_chan, void_net_chan, net_chan_of, NetEdge, NetAuto, NetAlg, NetExclusion, NetInvariant, Net}
+use Rattle.cif_model.specs.Exprs.{Written, writes_all, targets, edge_values}
+use Rattle.cif_model.specs.Kinds.{Kind, bool_kind, kind_of, has_type, places_of, alg_fits, kinds_in, fits, branches_fit, fits_type}
 use Rattle.cif_model.specs.Facts.{has, are_apart, are_all_apart, var_kind, assigns_kind, updates_stand, update_stands, branches_stand, channel_of, received_type, role_stands, has_use, is_one_role, edge_stands, auto_stands, auto_targets, alg_stands, exclusion_stands, invariant_stands, things, is_net}
 use Rattle.cif_model.specs.Inline.{replaced, updates_replaced, update_replaced, update_branches_replaced, edge_replaced, auto_replaced, alg_replaced, net_replaced, place_branches, last_of, by_places, defined_by}
 use Rattle.cif_model.proofs.Passing.{and-left, and-right, all-member}
@@ -20,7 +19,7 @@ use Rattle.cif_model.proofs.PlainLaws.{never}
 use Rattle.cif_model.proofs.ValueLaws.{ap-two}
 use Rattle.cif_plain.proofs.Fitting.{kind-told, places-same, alg_fits-same, kinds-same, replaced-fits}
 use Rattle.cif_plain.proofs.Induction as induction
-use Rattle.cif_plain.proofs.Lists.{and-both, any-more, all-more, map-map, map-after}
+use Rattle.cif_plain.proofs.Lists.{and-both, any-more, map-after}
 use Rattle.cif_plain.proofs.Naming.{some-place, algs-stand, autos-stand, exclusions-stand, invariants-stand}
 use Rattle.cif_plain.proofs.Settled.{Settled}
 use Rattle.cif_plain.proofs.Solved.{alg-cases}

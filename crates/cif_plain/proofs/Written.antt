@@ -1,21 +1,21 @@
 -- What stands in a net in which algebraic variables are replaced: its expressions, edges and updates, each replaced.
-use Rattle.std.proofs.Common.{◌≡◌, ℕ, zero, suc, ◌+◌, List, [], ◌∷◌, ◌++◌, map, length, Option, Some, None, option_map, slice_get, refl, sym, ◌∙◌, ap}
-use Rattle.std.specs.Prelude.{flat_map, filter, filter_map, zip, option_to_list}
+use Rattle.std.proofs.Common.{◌≡◌, ℕ, zero, suc, ◌+◌, List, [], ◌∷◌, ◌++◌, map, Option, Some, None, option_map, slice_get, refl, sym, ◌∙◌, ap}
+use Rattle.std.specs.Prelude.{flat_map, filter_map, zip, option_to_list}
 use Rattle.std.specs.List.{cons_option, enumerate_from}
 use mathlib.Core.List.{map-append}
 use Rattle.cif_system.specs.Step.{Choice}
 use Rattle.cif_term.specs.Tree.{NetExpr, NetUpdate, net_set, net_choose, NetUpdates, no_net_updates, net_updates, NetUpdateBranches, no_net_update_branches, net_update_branches}
-use Rattle.cif_model.specs.Net.{NetEdge, NetAuto, one_value, by_loc, NetAlg, NetExclusion, NetInvariant, Net}
+use Rattle.cif_model.specs.Net.{NetEdge, NetAuto, NetAlg, NetExclusion, NetInvariant, Net}
 use Rattle.cif_model.specs.Interval.{truths}
 use Rattle.cif_model.specs.Exprs.{updates_exprs, update_exprs, branches_exprs, Written, writes_all, writes_by, writes_in, targets, edge_exprs, alg_exprs, all_edges, other_exprs, all_exprs}
 use Rattle.cif_model.specs.Facts.{channel_of}
 use Rattle.cif_model.specs.Inline.{replaced, updates_replaced, update_replaced, update_branches_replaced, edge_replaced, auto_replaced, alg_replaced, net_replaced}
-use Rattle.cif_model.specs.Listing.{move_if, moves_of, edge_at, edges_taken, syncs_on}
-use Rattle.cif_model.specs.Counts.{exclusions_of, invariant_exprs}
+use Rattle.cif_model.specs.Listing.{move_if, moves_of, edge_at, edges_taken}
+use Rattle.cif_model.specs.Counts.{invariant_exprs}
 use Rattle.cif_model.specs.Rules.{Evaluated, edge_evaluated, evaluated}
 use Rattle.cif_model.specs.Shown.{channel_range}
 use Rattle.cif_model.proofs.ValueLaws.{ap-two}
-use Rattle.cif_plain.proofs.Lists.{map-map, map-after}
+use Rattle.cif_plain.proofs.Lists.{map-map}
 use Rattle.cif_plain.proofs.Solved.{alg-cases}
 
 append-map : {A B : Type 0} (f : A → B) (xs ys : List A) (vs ws : List B) → vs ≡ map f xs → ws ≡ map f ys → vs ++ ws ≡ map f (xs ++ ys)
