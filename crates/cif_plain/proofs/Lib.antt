@@ -15,3 +15,4 @@ pub mod Parting
 pub mod Ranging
 pub mod Cleared
 pub mod Plain
+pub mod Faced

@@ -10,6 +10,7 @@ ghost use Rattle.cif_model.specs.Meaning.{system_of_net};
 ghost use Rattle.cif_model.specs.Net.{Net};
 ghost use Rattle.cif_model.specs.Parts.{divides, is_narrow_expr};
 ghost use Rattle.cif_model.specs.Rules.{Evaluated, evaluated, is_plain};
+ghost use Rattle.cif_plain.specs.Face.{HasSameFace};
 
 /// A net in which algebraic variables are replaced by their definitions has the same automata, guards, sent values,
 /// assignments, outputs, exclusions and state invariants, as functions of the state.
@@ -25,4 +26,10 @@ pub fn unfolded_nets_are_plain()
         list_all (λ (x : Evaluated). divides (declared_ranges n x.received) x.value) (evaluated n) ≡ true →
         list_all (λ (x : Evaluated). is_narrow_expr (declared_ranges n x.received) x.value) (evaluated n) ≡ true →
         is_too_large n ≡ false → is_plain p ≡ true }
+{}
+
+/// It differs from the net in expressions alone: events, inputs and variables are the same, and so are paths, types, literals,
+/// locations, alphabets, and the events, ends and places of edges.
+pub fn unfolded_nets_have_the_same_face()
+    ensures { (n p : Net) → Unfolds n p → HasSameFace n p }
 {}

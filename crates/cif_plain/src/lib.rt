@@ -3,4 +3,6 @@
 
 mod laws;
 
-pub use laws::{unfolded_nets_are_plain, unfolded_nets_mean_the_same};
+pub use laws::{
+    unfolded_nets_are_plain, unfolded_nets_have_the_same_face, unfolded_nets_mean_the_same,
+};
