@@ -1,19 +1,20 @@
 #!/usr/bin/env python3
-"""Compares the scans of generated programs with a simulation of their sources, on random automata that synchronise, with data,
-definitions and without.
+"""Compares the scans of generated programs with a simulation of their sources, on random automata that synchronise, with data, inputs,
+algebraic variables and definitions, and without.
 
     tools/compare_scans.py PROGRAM [SOURCES [SEED]]
     tools/compare_scans.py --self-test
 
-A scan makes its rounds of the uncontrollable events, and then those of the controllable ones. A round takes the events of its
-class in ascending number, and for each the first choice that makes a step, if there is one: the automata that have the event in
-their alphabet take an edge for it whose guard is so, or stay where they monitor it and have no such edge. What the edges assign is
-computed in the state before, and there is no step where a value leaves its range. `generate` writes the program of a source, and
-`replay` gives the locations and values after each scan. Compared are that table, and the variables in which the program holds
-these. And each scan is to be legal, by a search over all choices: a run of uncontrollable events and then one of
-controllable events leads from one state to the next, where a run of fewer events than the bound of its class ends where none of the
-class has a step. The status is 1 where something differs. The simulation is in `plain_nets.py`; with `--self-test` it and the search
-are compared with worked examples, which the program is asked for, too.
+A scan takes a row of values for the inputs, which stay so throughout, makes its rounds of the uncontrollable events, and then those of
+the controllable ones. A round takes the events of its class in ascending number, and for each the first choice that makes a step, if
+there is one: the automata that have the event in their alphabet take an edge for it whose guard is so, or stay where they monitor it and
+have no such edge. What the edges assign is computed in the state before, and there is no step where a value leaves its range. `generate`
+writes the program of a source, and `replay` gives the locations, the values and those of the algebraic variables after each scan.
+Compared are that table, and the variables in which the program holds these. And each scan is to be legal, by a search over all choices:
+a run of uncontrollable events and then one of controllable events leads from one state to the next, where a run of fewer events than the
+bound of its class ends where none of the class has a step. The status is 1 where something differs. A source with a form for which
+`generate` tells that it is not built yet is passed over and counted. The simulation is in `plain_nets.py`; with `--self-test` it and the
+search are compared with worked examples, which the program is asked for, too.
 """
 import itertools
 import os
@@ -25,14 +26,14 @@ import tempfile
 from collections import Counter, namedtuple
 
 from plain_expressions import Argument
-from plain_nets import Net, Source, broken, line_of, names_of
+from plain_nets import LATER, Net, Party, Source, broken, line_of, names_of
 from random_nets import made_text, spelled, tokens_of
 
-MOST_SCANS, MOST_TRIED, DEFAULT_ROUNDS = 6, 400, 100
+MOST_SCANS, MOST_TRIED, MOST_NODES, DEFAULT_ROUNDS = 6, 400, 30000, 100
 # How many states the runs of a class in one scan may pass before the search gives up.
 MOST_PASSED = 20000
-# What is generated and replayed: a source, the words of its options, the most rounds of each class, and how many scans.
-Trial = namedtuple("Trial", "text options unc con scans")
+# What is generated and replayed: a source, the words of its options, the most rounds of each class, and a file of rows.
+Trial = namedtuple("Trial", "text options unc con file")
 
 
 # ---- random sources
@@ -61,24 +62,30 @@ def plant_alone(choose):
     return "\n".join(lines + ["end", ""])
 
 
-def automata_together(choose, has_data=False, has_definitions=False):
+def automata_together(choose, has_data=False, has_definitions=False, forms=()):
     """A source that breaks no rule and whose program isn't too long to try."""
     while True:
-        text = spelled(choose, tokens_of(made_text(choose, None, has_data, has_definitions)))
+        text = spelled(choose, tokens_of(made_text(choose, None, has_data, has_definitions, forms)))
         due, net = broken(Source(text))
-        if not due and sum(map(net.count, range(len(net.events)))) <= MOST_TRIED:
+        if not due and sum(map(net.count, range(len(net.events)))) <= MOST_TRIED and net.nodes() <= MOST_NODES:
             return text
 
 
+def some_forms(choose):
+    """Whether a source has inputs and algebraic variables."""
+    return choose.choice([(), (), ("input",), ("input",), ("alg",), ("input", "alg")])
+
+
 def data_together(choose):
-    return automata_together(choose, True)
+    return automata_together(choose, True, False, some_forms(choose))
 
 
 def instances_together(choose):
     """Definitions and instances, mostly with data, and mostly such that the first rounds lead on and arguments are read."""
     is_moved, is_read, has_data = choose.random() < 0.9, choose.random() < 0.5, choose.random() < 0.85
+    forms = some_forms(choose) if has_data else ()
     while True:
-        text = automata_together(choose, has_data, True)
+        text = automata_together(choose, has_data, True, forms)
         net = Net(Source(text))
         if is_moved and net.scan(2, 2, net.initial())[0] == net.initial():
             continue
@@ -97,7 +104,49 @@ def made(choose):
     text, unc, con = make(choose), rounds(choose, has_data), rounds(choose, has_data)
     options = [[word, str(number)] for word, number in (("--unc", unc), ("--con", con)) if number is not None]
     choose.shuffle(options)
-    return Trial(text, sum(options, []), unc or DEFAULT_ROUNDS, con or DEFAULT_ROUNDS, choose.randint(1, MOST_SCANS))
+    file = made_file(choose, Net(Source(text)), choose.randint(1, MOST_SCANS))
+    return Trial(text, sum(options, []), unc or DEFAULT_ROUNDS, con or DEFAULT_ROUNDS, file)
+
+
+# ---- rows
+
+TRUTHS = {"FALSE": 0, "false": 0, "0": 0, "TRUE": 1, "true": 1, "1": 1}
+
+
+def made_file(choose, net, scans):
+    """A file of random rows, with a column for each input, in any order."""
+    columns = list(zip(names_of("I", net.inputs), net.inputs))
+    columns.insert(0, ("scan", None))
+    if choose.random() < 0.3:
+        choose.shuffle(columns)
+    lines, row = [",".join(name for name, _ in columns)], {}
+    for scan in range(1, scans + 1):
+        for name, it in columns:
+            # what is there stays at times, as it does in a plant
+            if it and (name not in row or choose.random() < 0.7):
+                row[name] = made_cell(choose, it)
+        lines.append(",".join(row[name] if it else str(scan) for name, it in columns))
+    return "\n".join(lines + [""])
+
+
+def made_cell(choose, it):
+    if it.kind == "bool":
+        return choose.choice(sorted(TRUTHS))
+    lo, hi = it.range
+    return str(choose.choice([lo, hi, choose.randint(lo, hi), choose.randint(max(lo, -3), max(lo, min(hi, 9)))]))
+
+
+def rows_of(net, file):
+    """The rows of values for the inputs."""
+    header, *records = [line.split(",") for line in file.splitlines()]
+    places = [header.index(name) for name in names_of("I", net.inputs)]
+    return [[TRUTHS[record[place]] if it.kind == "bool" else int(record[place]) for place, it in zip(places, net.inputs)]
+            for record in records]
+
+
+def rows_alone(scans):
+    """A file of so many rows for a program without inputs."""
+    return "\n".join(["scan"] + ["%d" % scan for scan in range(1, scans + 1)] + [""])
 
 
 # ---- legal scans
@@ -151,12 +200,13 @@ def is_legal(unc_runs, con_runs, unc, con, before, after):
 
 def illegal_scans(net, trial, table, notes):
     """The numbers of the scans in a table that are not legal."""
-    values = {"FALSE": 0, "TRUE": 1}
-    states = [net.initial()] + [tuple(int(values.get(cell, cell)) for cell in line.split(",")[1:]) for line in table.splitlines()[1:]]
+    rows, before = rows_of(net, trial.file), net.initial()
     unc_runs, con_runs, found = Runs(net, "uncontrollable"), Runs(net, "controllable"), []
-    for scan in range(1, len(states)):
+    for scan, (line, row) in enumerate(zip(table.splitlines()[1:], rows), 1):
+        cells = line.split(",")[1:len(before) - len(row) + 1]
+        begin, before = net.latched(before, row), tuple(int(TRUTHS.get(cell, cell)) for cell in cells) + tuple(row)
         try:
-            if not is_legal(unc_runs, con_runs, trial.unc, trial.con, states[scan - 1], states[scan]):
+            if not is_legal(unc_runs, con_runs, trial.unc, trial.con, begin, before):
                 found.append(scan)
             notes["scans searched"] += 1
         except TooMany:
@@ -166,29 +216,39 @@ def illegal_scans(net, trial, table, notes):
 
 # ---- the comparison
 
-DECLARED = re.compile(r"""\b([LPVQ][0-9]\w*)\s*:\s*(?:BOOL|LINT\s*\(\s*(-?)\s*([0-9]+)\s*\.\.\s*(-?)\s*([0-9]+)\s*\))
+NOT_BUILT = re.compile(r"status 7 cif: source: 30 NotBuilt at [0-9]+\n\Z")
+BLOCK = re.compile(r"""\b(VAR|VAR_INPUT|VAR_OUTPUT)\b(.*?)\bEND_VAR\b""", re.S)
+DECLARED = re.compile(r"""\b([IHLVPQR][0-9]\w*)\s*:\s*(BOOL|LINT)(?:\s*\(\s*(-?)\s*([0-9]+)\s*\.\.\s*(-?)\s*([0-9]+)\s*\))?
     (?:\s*:=\s*(?:(TRUE|FALSE)|(-?)\s*([0-9]+)))?\s*;""", re.X)
 
 
 def declared(program):
-    """The variables of a program that hold locations and values, those that are outputs in their order: name, range, first value. A
-    BOOL has no range, and what has no first value begins with FALSE or its least number."""
-    found = []
-    for name, low_sign, low, high_sign, high, truth, sign, first in DECLARED.findall(program):
-        bounds = (int(low_sign + low), int(high_sign + high)) if low else None
-        begin = int(truth == "TRUE") if truth else int(sign + first) if first else bounds[0] if bounds else 0
-        found.append((name, bounds, begin))
-    return sorted(it for it in found if it[0][0] in "LV"), [it for it in found if it[0][0] in "PQ"]
+    """The variables of a program that hold locations, values and inputs, by their blocks, inputs and outputs in their order: name, type,
+    range, first value. What has no first value begins with FALSE, its least number, or 0."""
+    found = {"VAR": [], "VAR_INPUT": [], "VAR_OUTPUT": []}
+    for block, inner in BLOCK.findall(program):
+        for name, type_, low_sign, low, high_sign, high, truth, sign, first in DECLARED.findall(inner):
+            bounds = (int(low_sign + low), int(high_sign + high)) if low else None
+            begin = int(truth == "TRUE") if truth else int(sign + first) if first else bounds[0] if bounds else 0
+            found[block].append((name, type_, bounds, begin))
+    found["VAR"].sort()
+    return found
 
 
 def wanted_variables(net):
-    things = [((0, party.places - 1), party.first) for party in net.parties]
-    values = [(None if it.kind == "bool" else it.range, it.first) for it in net.variables]
+    def of_letter(letter, things):
+        return [(name,) + it for name, it in zip(names_of(letter, things), map(held_as, things))]
+    outputs = of_letter("P", net.parties) + of_letter("Q", net.variables)
+    outputs += [(name, "BOOL" if it.kind == "bool" else "LINT", None, 0) for name, it in zip(names_of("R", net.algebraic), net.algebraic)]
+    held = of_letter("L", net.parties) + of_letter("V", net.variables) + of_letter("H", net.inputs)
+    return {"VAR": sorted(held), "VAR_INPUT": of_letter("I", net.inputs), "VAR_OUTPUT": outputs}
 
-    def of_letters(of_places, of_values):
-        names = names_of(of_places, net.parties) + names_of(of_values, net.variables)
-        return [(name,) + it for name, it in zip(names, things + values)]
-    return sorted(of_letters("L", "V")), of_letters("P", "Q")
+
+def held_as(it):
+    """The type, range and first value of what holds the place of an automaton, a variable or an input."""
+    if isinstance(it, Party):
+        return "LINT", (0, it.places - 1), it.first
+    return ("BOOL", None, it.first) if it.kind == "bool" else ("LINT", it.range, it.first)
 
 
 def answers(program, folder, trial):
@@ -206,24 +266,30 @@ def answers(program, folder, trial):
     written("source", trial.text)
     generated = run("generate", "source", *trial.options)
     written("program", generated)
-    written("rows", "\n".join(["scan"] + ["%d" % scan for scan in range(1, trial.scans + 1)] + [""]))
+    written("rows", trial.file)
     return generated, run("replay", "program", "rows")
 
 
 def noted(net, trial, notes):
     """Counts what the trial shows in its first scan."""
-    after, is_bounded = net.scan(trial.unc, trial.con, net.initial())
+    first = net.latched(net.initial(), rows_of(net, trial.file)[0])
+    after, is_bounded = net.scan(trial.unc, trial.con, first)
     fired = [net.options(event) for (event, _), end in net.steps.items() if end is not None]
-    notes["move"] += after != net.initial()
+    notes["move"] += after != first
     notes["run to a bound"] += is_bounded
     notes["fire an event of several automata"] += any(len(options) > 1 for options in fired)
     notes["have an event that nobody takes part in"] += any(not net.options(event) for event in range(len(net.events)))
     notes["have no automaton"] += not net.parties
     notes["have variables"] += bool(net.variables)
-    notes["change a value"] += after[len(net.parties):] != net.initial()[len(net.parties):]
+    notes["change a value"] += after[len(net.parties):] != first[len(net.parties):]
     notes["leave a range"] += leaves_a_range(net)
     notes["have instances"] += any(body.instances for body in Source(trial.text).bodies)
     notes["read an argument"] += any(map(reads_an_argument, net.exprs()))
+    notes["have inputs"] += bool(net.inputs)
+    notes["do otherwise than with other inputs"] += after != net.latched(net.scan(trial.unc, trial.con, net.initial())[0], rows_of(net, trial.file)[0])
+    notes["have algebraic variables"] += bool(net.algebraic)
+    notes["have some that change"] += any(it.value_in(first) != it.value_in(after) for it in net.algebraic)
+    notes["have some by location"] += any(len(it.values) > 1 for it in net.algebraic)
 
 
 def reads_an_argument(expr):
@@ -238,12 +304,16 @@ def leaves_a_range(net):
 
 def differences(program, folder, trial, notes):
     """What is wrong with the answers, a line for each."""
-    net = Net(Source(trial.text))
-    noted(net, trial, notes)
+    source = Source(trial.text)
+    net = Net(source)
     generated, given = answers(program, folder, trial)
+    if source.forms & set(LATER) and NOT_BUILT.match(generated):
+        notes["not built"] += 1
+        return []
+    noted(net, trial, notes)
     if generated.startswith("status "):
         return ["generate: %s" % generated]
-    found, wanted = [], net.table(trial.unc, trial.con, trial.scans)
+    found, wanted = [], net.table(trial.unc, trial.con, rows_of(net, trial.file))
     if declared(generated) != wanted_variables(net):
         found.append("variables: wanted %s, given %s" % (wanted_variables(net), declared(generated)))
     if given != wanted:
@@ -260,8 +330,10 @@ def main(program, sources=500, seed=1):
             found = differences(program, folder, trial, notes)
             if found:
                 differ += 1
-                print("%r %s, %d scans\n  %s" % (trial.text, " ".join(trial.options), trial.scans, "\n  ".join(found)))
+                print("%r %s, rows %r\n  %s" % (trial.text, " ".join(trial.options), trial.file, "\n  ".join(found)))
     searched = "%d scans searched, %d not" % (notes.pop("scans searched", 0), notes.pop("scans not searched", 0))
+    if notes["not built"]:
+        print("%d sources were passed over, since a form of theirs is told to be not built" % notes.pop("not built"))
     shown = ", ".join("%d %s" % (count, what) for what, count in sorted(notes.items()))
     print("%d sources and the worked examples, of which in the first scan %s; %s: %d differences" % (sources, shown, searched, differ))
     return 1 if differ else 0
@@ -458,6 +530,66 @@ scan,P0_Sump,P1_Turn,P2_north_valve,P3_north_pump,P4_south_valve,P5_south_pump,Q
 ]
 
 
+# the same with algebraic variables
+LADDER = "".join("location p%d:%s equation v = %d;%s " % (k, " initial;" * (k == 0), k, " edge c goto p%d;" % (k + 1) if k < 499 else "")
+                 for k in range(500))
+ALGEBRAIC = [
+    # a definition for each location: that of the location after the scan is shown
+    ("automaton a: controllable c; alg int v; location p: initial; equation v = 3; edge c goto q; location q: equation v = 5; end", 100, 100,
+     "scan,P0_a,R0_a_v\n1,1,5\n"),
+    ("automaton a: alg int v; location: initial; equation v = 4; end", 100, 100, "scan,P0_a,R0_a_v\n1,0,4\n"),
+    ("automaton a: controllable c; alg int v; %send" % LADDER, 100, 600, "scan,P0_a,R0_a_v\n1,499,499\n"),
+    ("alg int q = -7 div 2; alg int r = -7 mod 2;", 100, 100, "scan,R0_q,R1_r\n1,-3,-1\n"),
+    # an equation of the component; the order of the text is that of the numbers alone
+    ("group g: alg bool b; equation b = not c; alg bool c = true; end", 1, 1, "scan,R0_g_b,R1_g_c\n1,FALSE,TRUE\n"),
+    ("automaton a: equation w = v + 1; alg int v = 1, w; location: initial; end", 1, 1, "scan,P0_a,R0_a_v,R1_a_w\n1,0,1,2\n"),
+    # those of the specification come before those of components that stand before them
+    ("automaton a: alg int v = 1; location: initial; end alg int w = a.v + 1;", 1, 1, "scan,P0_a,R0_w,R1_a_v\n1,0,2,1\n"),
+    # the range is not enforced, and a value of an enumeration is its place
+    ("alg int[0..1] v = 7;", 1, 1, "scan,R0_v\n1,7\n"),
+    ("enum T = r, g; alg T c = g; alg bool b = c = r;", 1, 1, "scan,R0_c,R1_b\n1,1,FALSE\n"),
+    # what is read is the state before the step, the location too
+    ("automaton a: controllable e; disc int[0..9] x = 1; alg int v = x + 1; location: initial; edge e do x := v; end", 1, 1,
+     "scan,P0_a,Q0_a_x,R0_a_v\n1,0,2,3\n2,0,3,4\n"),
+    ("automaton a: controllable c; alg int v; disc int[0..9] n; location p: initial; equation v = 3; edge c do n := v goto q; location q: "
+     "equation v = 5; edge c do n := n + v goto p; end", 1, 1, "scan,P0_a,Q0_a_n,R0_a_v\n1,1,3,5\n2,0,8,3\n3,1,3,5\n"),
+    # each instance has its own, by its own location
+    ("controllable e; p: D(); q: D(); automaton def D(): alg int v; controllable c; location x: initial; equation v = 1; edge c goto y; "
+     "location y: equation v = 2; end automaton w: disc int[0..9] n; location: initial; edge e when p.v > q.v or q.v = 2 do "
+     "n := p.v * 3 + q.v; end", 1, 1, "scan,P0_p,P1_q,P2_w,Q0_w_n,R0_p_v,R1_q_v\n1,1,1,0,0,2,2\n2,1,1,0,8,2,2\n"),
+    # a definition is read where it is written, and an argument where the instance stands
+    ("controllable e, f; alg bool k = true; p: D(e, k); q: D(f, not k); automaton def D(controllable c; alg bool g): alg bool k = false; "
+     "disc int[0..3] n = 0; location: initial; edge c when g do n := n + 1; end", 100, 2,
+     "scan,P0_p,P1_q,Q0_p_n,Q1_q_n,R0_k,R1_p_k,R2_q_k\n1,0,0,2,0,TRUE,FALSE,FALSE\n"),
+    ("p: C(q.v); q: C(5); group def C(alg int w): alg int v = w + 1; end", 1, 1, "scan,R0_p_v,R1_q_v\n1,7,6\n"),
+]
+
+# the same with inputs: the rows stand before the table
+WITH_INPUTS = [
+    ("input bool i; plant A: uncontrollable u; location x: initial; edge u when i goto y; location y: edge u when not i goto x; end", 100,
+     100, "scan,I0_i\n1,TRUE\n2,TRUE\n3,FALSE\n", "scan,P0_A\n1,1\n2,1\n3,0\n"),
+    # one row for the rounds of both classes
+    ("input int[0..9] k; plant A: uncontrollable u; controllable c; disc int[0..99] n; location: initial; edge u do n := n + k; edge c do "
+     "n := n + 10 * k; end", 2, 1, "scan,I0_k\n1,1\n2,3\n3,0\n", "scan,P0_A,Q0_A_n\n1,0,12\n2,0,48\n3,0,48\n"),
+    # a value that leaves its range by an input makes no step
+    ("input int[0..9] k; plant a: uncontrollable u; disc int[0..5] n; location: initial; edge u do n := k; edge u do n := n + 1; end", 1, 1,
+     "scan,I0_k\n1,7\n2,3\n3,9\n", "scan,P0_a,Q0_a_n\n1,0,1\n2,0,3\n3,0,4\n"),
+    # inputs of instances, and columns in any order
+    ("enum T = off, slow, fast; p: M(); q: M(); automaton def M(): input T mode; controllable c; disc T m = fast; location: initial; edge c "
+     "do m := mode; end", 1, 1, "I1_q_mode,scan,I0_p_mode\n2,1,0\n0,2,1\n", "scan,P0_p,P1_q,Q0_p_m,Q1_q_m\n1,0,0,0,2\n2,0,0,1,0\n"),
+    ("automaton a: input bool x; location: initial; end input bool z; group g: input bool x; end alg bool v = a.x and not z, w = g.x;", 1, 1,
+     "scan,I0_z,I1_a_x,I2_g_x\n1,0,1,0\n2,TRUE,true,1\n", "scan,P0_a,R0_v,R1_w\n1,0,TRUE,FALSE\n2,0,FALSE,TRUE\n"),
+    # inputs as arguments
+    ("input bool i_start, i_stop; start: Sensor(i_start); stop: Sensor(not i_stop); plant automaton def Sensor(alg bool signal): "
+     "uncontrollable u_on, u_off; location Off: initial; marked; edge u_on when signal goto On; location On: edge u_off when not signal "
+     "goto Off; end", 1, 1, "scan,I0_i_start,I1_i_stop\n1,1,0\n2,0,1\n3,0,1\n", "scan,P0_start,P1_stop\n1,1,1\n2,0,0\n3,0,0\n"),
+    # what algebraic variables show of the row is that of its scan
+    ("input int[-3..3] i; alg int v = i * i; alg bool b = i < 0;", 100, 100, "scan,I0_i\n1,-3\n2,2\n3,0\n",
+     "scan,R0_v,R1_b\n1,9,TRUE\n2,4,FALSE\n3,0,FALSE\n"),
+    ("input int i; alg int v = i;", 1, 1, "scan,I0_i\n1,-2147483648\n2,2147483647\n", "scan,R0_v\n1,-2147483648\n2,2147483647\n"),
+]
+
+
 # a source, the most rounds of each class, a state, and the states to which a legal scan may lead from it
 LEGAL = [
     # what can fire has fired, if the bound allows
@@ -488,6 +620,9 @@ LEGAL = [
     # what is read is the state before the step
     ("controllable e; plant A: disc int[0..2] x = 1, y = 2; location: initial; edge e when x < y do x := y, y := x; end", 1, 9,
      (0, 1, 2), {(0, 2, 1)}),
+    # inputs stay as they are, and decide what can fire
+    ("input bool i; controllable e; plant A: location x: initial; edge e when i goto y; location y; end", 1, 1, (0, 1), {(1, 1)}),
+    ("input bool i; controllable e; plant A: location x: initial; edge e when i goto y; location y; end", 1, 1, (0, 0), {(0, 0)}),
 ]
 
 
@@ -497,19 +632,21 @@ def example(name):
 
 
 def all_worked():
-    return WORKED + DEFINED + [(example(name), 1, 1, table) for name, table in EXAMPLES]
+    """The source, the most rounds of each class, the rows, and the table."""
+    alone = WORKED + DEFINED + ALGEBRAIC + [(example(name), 1, 1, table) for name, table in EXAMPLES]
+    return [(text, unc, con, rows_alone(table.count("\n") - 1), table) for text, unc, con, table in alone] + WITH_INPUTS
 
 
 def worked_trials():
-    return [Trial(text, ["--unc", str(unc), "--con", str(con)], unc, con, table.count("\n") - 1) for text, unc, con, table in all_worked()]
+    return [Trial(text, ["--unc", str(unc), "--con", str(con)], unc, con, file) for text, unc, con, file, _ in all_worked()]
 
 
 def self_test():
     worked = all_worked()
-    for text, unc, con, table in worked:
+    for text, unc, con, file, table in worked:
         due, net = broken(Source(text))
         assert not due, (text, list(map(line_of, due)))
-        given = net.table(unc, con, table.count("\n") - 1)
+        given = net.table(unc, con, rows_of(net, file))
         assert given == table, (text, table, given)
     for text, unc, con, before, ends in LEGAL:
         net = Net(Source(text))

@@ -7,7 +7,7 @@ from collections import namedtuple
 
 from plain_expressions import GREATEST, LEAST, Argument, Expr, branches_of, conjunction_of, evaluated, names_in
 from plain_names import (
-    ALG_PARAMETER, CONSTANT, DISC, EVENT_PARAMETER, LITERAL, LOCATION, LOCATION_PARAMETER, denoted, found_from, found_slot)
+    ALG, ALG_PARAMETER, CONSTANT, DISC, EVENT_PARAMETER, INPUT, LITERAL, LOCATION, LOCATION_PARAMETER, denoted, found_from, found_slot)
 
 # A type as written: `bool`, `int`, `range` with its two bounds, or `name` with its use.
 Type = namedtuple("Type", "form more")
@@ -125,6 +125,8 @@ class Data:
         for slot in source.valued:
             yield slot.home, slot.value, self.kind_of_type(slot.home, slot.type)
         yield from ((body, expr, BOOL) for body, expr in source.marks)
+        for body in source.bodies:
+            yield from ((body, it.value, self.kind_of_slot(body.slot(it.name))) for it in body.definitions)
         for body, expr, parameter in self.arguments():
             yield body, expr, self.kind_of_slot(parameter) if parameter.sort == ALG_PARAMETER else None
         for automaton in source.automata:
@@ -190,8 +192,8 @@ class Data:
 class Values:
     """What types, constants and expressions mean in components. The rules on names and kinds are kept.
 
-    `places` has what stands for a variable or a location in a state, by the frame and slot that declare it. What a constant or an
-    argument is is found once.
+    `places` has what stands for a variable, an input or a location in a state, and the algebraic variables, by the frame and slot that
+    declare them. What a constant or an argument is is found once.
     """
 
     def __init__(self, places=None):
@@ -267,10 +269,11 @@ class Values:
         at = at if found.at is None else found.at
         if found.argument:
             argument = self.argument(found.frame, found.argument)
-            return Expr("given", (), argument, argument.expr.at)
+            return Expr("given", (), argument, argument.values[0].at)
         if found.slot.sort in (CONSTANT, LITERAL):
             return Expr("number", (), self.value_of(found.frame, found.slot), at)
-        return Expr("var" if found.slot.sort == DISC else "place", (), self.places[found.frame, found.slot], at)
+        form = {DISC: "var", INPUT: "var", ALG: "alg", LOCATION: "place"}[found.slot.sort]
+        return Expr(form, (), self.places[found.frame, found.slot], at)
 
     def argument(self, frame, expr):
         """The argument that a component gave, one for all uses of its parameters."""

@@ -13,21 +13,55 @@ TRUTHS = ("not", "and", "or", "implies", "iff", "compare", "truth", "place")
 # An expression: its form, its operands, what else it is made of, and its place. What is read has `truth` and `number` with
 # their values, `name` with its use, `paren`, sums and products with their signs, `compare` with its sign, and `if` with how many
 # conditions each branch has. What stands in a net has no parentheses, one condition for each branch, and for names `number`,
-# `var` with its place in a state, `place` with that of an automaton and the location, and `given` with an argument.
+# `var` with its place in a state, `place` with that of an automaton and the location, `given` with an argument, and `alg` with an
+# algebraic variable.
 Expr = namedtuple("Expr", "form parts more at")
+# Sizes are told up to here, which is far more than any rule takes.
+MOST_SIZE = 10**9
 
 
-class Argument:
-    """The argument of a parameter of an instance: an expression of a net that is read wherever the parameter is named. What was told
-    of it is kept, since it may be named often."""
+class Defined:
+    """What is read wherever a name of it stands: expressions of a net, of which a state decides which one is meant. What was told of
+    it is kept, since it may be named often."""
 
-    def __init__(self, expr):
-        self.expr, self.known = expr, {}
+    def __init__(self, values):
+        self.values, self.known = values, {}
 
     def told(self, what, tell):
         if what not in self.known:
             self.known[what] = tell()
         return self.known[what]
+
+    def size(self):
+        """Several definitions are one `if` with a test of a location before each but the last."""
+        return self.told("size", lambda: min(MOST_SIZE, sum(map(size, self.values)) + (len(self.values) if len(self.values) > 1 else 0)))
+
+    def depth(self):
+        return self.told("depth", lambda: max(map(depth, self.values)) + (len(self.values) > 1))
+
+
+class Argument(Defined):
+    """The argument of a parameter of an instance."""
+
+    def __init__(self, expr):
+        super().__init__([expr])
+
+    def meant(self, state):
+        return self.values[0]
+
+
+class Algebraic(Defined):
+    """An algebraic variable: its path and kind, and its one definition, or one for each location of the automaton with that number."""
+
+    def __init__(self, path, kind):
+        super().__init__([])
+        self.path, self.kind, self.automaton = path, kind, None
+
+    def meant(self, state):
+        return self.values[0 if self.automaton is None else state[self.automaton]]
+
+    def value_in(self, state):
+        return evaluated(self.meant(state), state)
 
 
 # ---- the reader
@@ -155,9 +189,9 @@ def is_so(sign, x, y):
 
 def evaluated(expr, state=(), meets=None):
     """The value of an expression of a net in a state. `meets` is handed each result that is met, and None for a divisor 0."""
+    while expr.form in ("given", "alg"):
+        expr = expr.more.meant(state)
     form, more = expr.form, expr.more
-    if form == "given":
-        return evaluated(more.expr, state, meets)
     if form in ("number", "var", "place"):
         value = more if form == "number" else state[more] if form == "var" else int(state[more[0]] == more[1])
     elif form in ("sum", "product"):
@@ -213,8 +247,11 @@ def joined(sign, one, other):
 def interval(expr, ranges, due):
     """The interval of an expression of a net, over the ranges by places of a state. What rules on widths it breaks is added to
     `due`. What is due at an argument as a whole is due where the argument stands, or the parentheses round its parameter."""
+    if expr.form == "alg":
+        # what is due in its definitions is due there
+        return in_64_bits(expr.more.told("interval", lambda: joined_interval(expr.more.values, ranges, set())), expr, due)
     if expr.form == "given":
-        found, more = expr.more.told(("interval", expr.at), lambda: interval_and_due(expr.more.expr._replace(at=expr.at), ranges))
+        found, more = expr.more.told(("interval", expr.at), lambda: interval_and_due(expr.more.values[0]._replace(at=expr.at), ranges))
         due.update(more)
         return found
     parts = [interval(part, ranges, due) for part in expr.parts]
@@ -227,6 +264,12 @@ def interval(expr, ranges, due):
             found = in_64_bits(joined(sign, found, part), expr, due)
         return found
     return in_64_bits(simple_interval(expr, parts, ranges), expr, due)
+
+
+def joined_interval(exprs, ranges, due):
+    """The least interval round those of several expressions."""
+    found = [interval(expr, ranges, due) for expr in exprs]
+    return min(lo for lo, _ in found), max(hi for _, hi in found)
 
 
 def interval_and_due(expr, ranges):
@@ -259,14 +302,14 @@ def in_64_bits(found, expr, due):
 # ---- sizes
 
 def size(expr):
-    """How many forms an expression of a net has, with arguments for their parameters."""
-    if expr.form == "given":
-        return expr.more.told("size", lambda: size(expr.more.expr))
+    """How many forms an expression of a net has, with arguments for their parameters and definitions for algebraic variables."""
+    if expr.form in ("given", "alg"):
+        return expr.more.size()
     return 1 + sum(map(size, expr.parts))
 
 
 def depth(expr):
     """How deep they nest."""
-    if expr.form == "given":
-        return expr.more.told("depth", lambda: depth(expr.more.expr))
+    if expr.form in ("given", "alg"):
+        return expr.more.depth()
     return 1 + max(map(depth, expr.parts)) if expr.parts else 0

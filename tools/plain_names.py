@@ -43,9 +43,18 @@ class Body:
         self.instances = []
         # the bodies of components in it, without those of definitions
         self.inner = []
+        self.index = None
+
+    def is_whole(self):
+        """Notes where the slots of each name are, of which none is added from here on."""
+        self.index = {}
+        for number, slot in enumerate(self.slots):
+            self.index.setdefault(slot.name, []).append(number)
 
     def slot(self, name, from_=0):
         """The first slot of that name, or none."""
+        if self.index is not None:
+            return next((self.slots[number] for number in self.index.get(name, ()) if number >= from_), None)
         return next((slot for slot in self.slots[from_:] if slot.name == name), None)
 
 

@@ -1,26 +1,29 @@
 """Reads sources of automata with data and definitions, and says what they mean: which rules they break, their choices and scans.
 
 Plain and slow on purpose, and shares nothing with the program: the CIF 3 language reference ("Syntax", "Scoping", "Component
-definition and instantiation", "Synchronization", "Monitoring", "Updates") and the rules that README and `docs/DEFINITIONS.md` print,
-written down once more. A parameter is followed to its argument wherever it is named, and nothing is put in its place. Inputs,
-algebraic variables, channels and invariants are not read here.
+definition and instantiation", "Synchronization", "Monitoring", "Updates", "Algebraic variables", "Input variables") and the rules that
+README and `docs/DEFINITIONS.md` print, written down once more. A parameter is followed to its argument wherever it is named, and an
+algebraic variable to its definition, and nothing is put in its place. Channels and invariants are not read here.
 """
 import itertools
 import re
 import sys
 from collections import namedtuple
 
+from plain_algebra import Definition, definitions_of, in_order, of_cycles, of_equations
 from plain_data import Data, If, Set, Type, Values, assigned, exprs_of, kinds_due
-from plain_expressions import Expr, ExpressionReader, depth, evaluated, interval, names_in, size
+from plain_expressions import Algebraic, Expr, ExpressionReader, depth, evaluated, interval, joined_interval, names_in, size
 from plain_names import (
-    ALG_PARAMETER, COMPONENT, CONSTANT, DEFINITION, DISC, EVENT, EVENT_PARAMETER, INSTANCE, LITERAL, LOCATION, LOCATION_PARAMETER, TYPE,
-    Body, Frame, Instance, Slot, denoted, due as names_due)
+    ALG, ALG_PARAMETER, COMPONENT, CONSTANT, DEFINITION, DISC, EVENT, EVENT_PARAMETER, INPUT, INSTANCE, LITERAL, LOCATION,
+    LOCATION_PARAMETER, TYPE, Body, Frame, Instance, Slot, denoted, due as names_due)
 from plain_tokens import Unread
 
 # Arguments that name parameters nest as deep as instances do.
 sys.setrecursionlimit(4000)
 
 CLASSES = ("event", "controllable", "uncontrollable")
+# The words of declarations for which a program may tell that they are not built yet. Who has built all of one takes it out of here.
+LATER = ("input", "alg", "equation")
 AUTOMATON_WORDS = ("automaton", "plant", "requirement", "supervisor")
 MOST_OBJECTS, MOST_NODES, MOST_DEPTH, MOST_CHOICES = 100000, 1000000, 100, 16384
 
@@ -36,23 +39,26 @@ class Source(ExpressionReader):
     """What a text declares: bodies as written, those of definitions too, in text order.
 
     Also all automata, and all types with the bodies in which they stand, the slots that have a value, and the predicates of
-    declarations and locations. A body has its own types and slots with values, the number of its marking predicates, and its automaton,
-    or None. A slot of a type, a constant, a variable or a parameter has its body as `home`, and its `type` and `value`; one of an event
-    or an event parameter has the `word` of its class, one of an enumeration the names of its `literals`, and one of a literal the slot
-    `enum`.
+    declarations and locations. A body has its own types and slots with values, the number of its marking predicates, its definitions of
+    algebraic variables and the number of equations among its declarations, and its automaton, or None. A slot of a type, a constant, a
+    variable or a parameter has its body as `home`, and its `type` and `value`; one of an event or an event parameter has the `word` of
+    its class, one of an enumeration the names of its `literals`, and one of a literal the slot `enum`. `forms` has the words of the
+    declarations that stand in it, of those in LATER.
     """
 
     def __init__(self, text):
         super().__init__(text)
         self.bodies, self.automata = [], []
-        self.types, self.valued, self.marks, self.frames = [], [], [], None
+        self.types, self.valued, self.marks, self.forms, self.frames = [], [], [], set(), None
         self.root = self.body_in(None, False)
         while self.next < len(self.tokens):
             self.item(self.root)
+        for body in self.bodies:
+            body.is_whole()
 
     def body_in(self, outer, is_automaton):
         body = Body(outer, is_automaton)
-        body.types, body.valued, body.mark_count, body.automaton = [], [], 0, None
+        body.types, body.valued, body.mark_count, body.definitions, body.equation_count, body.automaton = [], [], 0, [], 0, None
         self.bodies.append(body)
         return body
 
@@ -129,6 +135,35 @@ class Source(ExpressionReader):
         self.listed(one)
         self.take(";")
 
+    def inputs(self, body):
+        self.take("input")
+        type_ = self.type_in(body)
+        for slot in self.listed(lambda: self.declare(body, INPUT)):
+            slot.type = type_
+        self.take(";")
+
+    def algebraic(self, body):
+        """Algebraic variables of one type, each with its definition or without."""
+        self.take("alg")
+        type_ = self.type_in(body)
+
+        def one():
+            slot = self.declare(body, ALG)
+            slot.type = type_
+            if self.skipped("="):
+                body.definitions.append(Definition(slot.name, None, self.expression_in(body)))
+        self.listed(one)
+        self.take(";")
+
+    def equation(self, body, place=None):
+        self.take("equation")
+        token = self.take("ID")
+        body.own.append((token.text, token.at, ALG))
+        self.take("=")
+        body.definitions.append(Definition(token.text, place, self.expression_in(body)))
+        body.equation_count += place is None
+        self.take(";")
+
     def predicates(self, body):
         """Marking predicates."""
         self.take("marked")
@@ -139,6 +174,7 @@ class Source(ExpressionReader):
 
     def declaration(self, body):
         """Whether a declaration comes next, which is taken then."""
+        self.forms.update(form for form in LATER if self.is_next(form))
         if self.is_next(*CLASSES):
             self.events(body)
         elif self.is_next("type"):
@@ -149,6 +185,12 @@ class Source(ExpressionReader):
             self.typed(body, "const", CONSTANT, True)
         elif self.is_next("marked"):
             body.mark_count += self.predicates(body)
+        elif self.is_next("input"):
+            self.inputs(body)
+        elif self.is_next("alg"):
+            self.algebraic(body)
+        elif self.is_next("equation"):
+            self.equation(body)
         else:
             return False
         return True
@@ -247,9 +289,12 @@ class Source(ExpressionReader):
         automaton.places.append(self.declare(automaton.body, LOCATION).name if self.is_next("ID") else None)
         if self.take(";", ":").kind == ";":
             return
-        while self.is_next("initial", "marked", "edge"):
+        while self.is_next("initial", "marked", "equation", "edge"):
             if self.is_next("edge"):
                 self.edge(automaton)
+            elif self.is_next("equation"):
+                self.forms.add("equation")
+                self.equation(automaton.body, len(automaton.places) - 1)
             elif self.is_next("initial"):
                 self.take("initial")
                 automaton.initials.append(len(automaton.places) - 1)
@@ -299,7 +344,7 @@ class Source(ExpressionReader):
 
 def note_needs(slot):
     """Notes what a type or a constant needs: the names in its type and value."""
-    if slot.sort == DISC:
+    if slot.sort not in (TYPE, CONSTANT):
         return
     exprs = list(slot.type.more) if slot.type.form == "range" else []
     uses = [slot.type.more] if slot.type.form == "name" else []
@@ -320,10 +365,11 @@ def of_initials(source):
 # ---- components
 
 def objects_in(body):
-    """The component itself, its declarations, locations and edges; a literal is none, and each predicate of a declaration is one."""
-    declared = sum(slot.sort in (EVENT, TYPE, CONSTANT, DISC) for slot in body.slots)
+    """The component itself, its declarations, locations and edges. A literal is none, nor is what a location has besides edges, and each
+    predicate of a declaration is one."""
+    declared = sum(slot.sort in (EVENT, TYPE, CONSTANT, DISC, INPUT, ALG) for slot in body.slots)
     automaton = body.automaton
-    return 1 + declared + body.mark_count + (len(automaton.places) + len(automaton.edges) if automaton else 0)
+    return 1 + declared + body.mark_count + body.equation_count + (len(automaton.places) + len(automaton.edges) if automaton else 0)
 
 
 def components_of(source):
@@ -385,18 +431,24 @@ STAYS = None
 
 
 class Net:
-    """What a source says that breaks no rule up to those on instances. A state has the places of all automata, and then the values
-    of all variables."""
+    """What a source says that breaks no rule up to those on instances. A state has the places of all automata, then the values of all
+    variables, and then those of all inputs. From `cycles` on all is asked only where no algebraic variable needs itself."""
 
     def __init__(self, source):
         frames, _ = components_of(source)
-        self.data, automata, events, variables = Data(source), automata_in(frames), declared_in(frames, EVENT), declared_in(frames, DISC)
+        self.data, automata, events = Data(source), automata_in(frames), declared_in(frames, EVENT)
+        variables, inputs = declared_in(frames, DISC), declared_in(frames, INPUT)
         self.numbers = {event: number for number, event in enumerate(events)}
-        self.values = Values(self.meanings(automata, variables))
+        algebraic = {it: Algebraic(dotted(*it), self.data.kind_of_slot(it[1])) for it in declared_in(frames, ALG)}
+        self.values = Values({**self.meanings(automata, variables + inputs), **algebraic})
         self.events = [Event(dotted(frame, slot), slot.word) for frame, slot in events]
         self.variables = [self.variable(frame, slot) for frame, slot in variables]
+        self.inputs = [self.variable(frame, slot) for frame, slot in inputs]
+        self.define(algebraic, automata)
+        self.algebraic = list(algebraic.values())
+        self.ordered = in_order(self.algebraic)
         self.parties = [self.party(frame) for frame in automata]
-        self.ranges = [(0, party.places - 1) for party in self.parties] + [it.range for it in self.variables]
+        self.ranges = [(0, party.places - 1) for party in self.parties] + [it.range for it in self.variables + self.inputs]
         self.ways, self.listed, self.steps = [[] for _ in events], {}, {}
         for number, party in enumerate(self.parties):
             for event in party.alphabet:
@@ -413,6 +465,16 @@ class Net:
             places = [slot for slot in frame.body.slots if slot.sort == LOCATION]
             found.update({(frame, slot): (number, place) for place, slot in enumerate(places)})
         return found
+
+    def define(self, algebraic, automata):
+        """Gives algebraic variables their definitions, read in their components."""
+        numbers, of_bodies = {frame: number for number, frame in enumerate(automata)}, {}
+        for (frame, slot), found in algebraic.items():
+            if frame.body not in of_bodies:
+                of_bodies[frame.body] = definitions_of(frame.body)
+            own = of_bodies[frame.body][slot.name]
+            found.automaton = None if own[0].place is None else numbers[frame]
+            found.values = [self.values.resolved(frame, it.value) for it in own]
 
     def number(self, frame, use):
         return self.numbers[event_of(frame, use)]
@@ -432,13 +494,36 @@ class Net:
         return Arc(self.number(frame, edge.use), edge.origin, target, guard, updates)
 
     def initial(self):
-        return tuple([party.first for party in self.parties] + [it.first for it in self.variables])
+        return tuple([party.first for party in self.parties] + [it.first for it in self.variables + self.inputs])
 
     def exprs(self):
-        """The guards, conditions and right sides of all edges."""
+        """The guards, conditions and right sides of all edges, and the definitions of algebraic variables."""
         for party in self.parties:
             for arc in party.arcs:
                 yield from exprs_of_arc(arc)
+        for it in self.algebraic:
+            yield from it.values
+
+    # the rules on algebraic variables, widths and sizes
+
+    def cycles(self):
+        return of_cycles(self.algebraic, self.ordered)
+
+    def widths(self):
+        due = set()
+        for it in self.ordered:
+            it.told("interval", lambda: joined_interval(it.values, self.ranges, due))
+        for expr in self.exprs():
+            interval(expr, self.ranges, due)
+        return due
+
+    def nodes(self):
+        """What all choices count, and once all definitions of algebraic variables."""
+        return sum(it.size() for it in self.ordered) + sum(map(self.weight, range(len(self.events))))
+
+    def depth(self):
+        """How deep the deepest expression nests."""
+        return max([it.depth() for it in self.ordered] + list(map(depth, self.exprs())), default=0)
 
     # choices
 
@@ -518,6 +603,10 @@ class Net:
 
     # scans
 
+    def latched(self, state, row):
+        """The state with a row of values for the inputs."""
+        return state[:len(state) - len(self.inputs)] + tuple(row)
+
     def after_rounds(self, word, rounds, state):
         """The state after the rounds of a class, and whether the bound was what ended them."""
         events = [number for number, event in enumerate(self.events) if event.word == word]
@@ -532,23 +621,25 @@ class Net:
         return state, True
 
     def scan(self, unc, con, state):
-        """The state after a scan, and whether a bound ended its rounds."""
+        """The state after a scan from one in which its row is latched, and whether a bound ended its rounds."""
         state, by_unc = self.after_rounds("uncontrollable", unc, state)
         state, by_con = self.after_rounds("controllable", con, state)
         return state, by_unc or by_con
 
-    def table(self, unc, con, scans):
-        """What `replay` writes over so many rows."""
-        lines, state = [",".join(["scan"] + names_of("P", self.parties) + names_of("Q", self.variables))], self.initial()
-        for scan in range(1, scans + 1):
-            state, _ = self.scan(unc, con, state)
+    def table(self, unc, con, rows):
+        """What `replay` writes over these rows."""
+        names = names_of("P", self.parties) + names_of("Q", self.variables) + names_of("R", self.algebraic)
+        lines, state = [",".join(["scan"] + names)], self.initial()
+        for scan, row in enumerate(rows, 1):
+            state, _ = self.scan(unc, con, self.latched(state, row))
             lines.append(",".join([str(scan)] + self.cells(state)))
         return "\n".join(lines + [""])
 
     def cells(self, state):
-        """The state as a row of a table: truths are words, all else is numbers."""
-        kinds = ["int"] * len(self.parties) + [it.kind for it in self.variables]
-        return [("FALSE", "TRUE")[value] if kind == "bool" else str(value) for kind, value in zip(kinds, state)]
+        """What is shown of a state, as a row of a table: truths are words, all else is numbers."""
+        kinds = ["int"] * len(self.parties) + [it.kind for it in self.variables + self.algebraic]
+        values = state[:len(state) - len(self.inputs)] + tuple(it.value_in(state) for it in self.algebraic)
+        return [("FALSE", "TRUE")[value] if kind == "bool" else str(value) for kind, value in zip(kinds, values)]
 
 
 def dotted(frame, slot):
@@ -579,8 +670,8 @@ def tidied(path):
 
 NUMBERS = {"BadByte": 1, "NumberTooBig": 2, "OpenComment": 3, "NotRead": 4, "Unknown": 5, "Duplicate": 6, "WrongKind": 7,
            "DefinitionCycle": 8, "Mismatch": 9, "NotConstant": 10, "Initials": 11, "NotOwn": 12, "AssignedTwice": 13, "AlphabetLacks": 14,
-           "TooManyObjects": 17, "ConstantRange": 18, "ZeroDivisor": 20, "TooWide": 21, "TooLarge": 24, "TooManyChoices": 25,
-           "Unclassed": 28, "NotBuilt": 30}
+           "Equations": 16, "TooManyObjects": 17, "ConstantRange": 18, "AlgCycle": 19, "ZeroDivisor": 20, "TooWide": 21, "TooLarge": 24,
+           "TooManyChoices": 25, "Unclassed": 28, "NotBuilt": 30}
 
 
 def line_of(refusal):
@@ -598,15 +689,8 @@ def of_components(source):
     yield from of_ranges(frames)
 
 
-def of_widths(net):
-    due = set()
-    for expr in net.exprs():
-        interval(expr, net.ranges, due)
-    return due
-
-
 def of_size(net):
-    nodes, deepest = sum(map(net.weight, range(len(net.events)))), max(map(depth, net.exprs()), default=0)
+    nodes, deepest = net.nodes(), net.depth()
     if nodes > MOST_NODES or deepest > MOST_DEPTH:
         yield ("TooLarge", ("nodes", min(nodes, MOST_NODES + 1)), ("depth", min(deepest, MOST_DEPTH + 1)))
 
@@ -619,13 +703,13 @@ def of_choices(net):
 def broken(source):
     """The refusals of the first phase in which the source, which is read, breaks a rule, and its net where it breaks none."""
     data = Data(source)
-    for phase in (lambda: names_due(source.root, source.bodies), lambda: list(of_initials(source)) + list(kinds_due(data)),
-                  lambda: of_components(source)):
+    for phase in (lambda: names_due(source.root, source.bodies),
+                  lambda: list(of_initials(source)) + list(kinds_due(data)) + list(of_equations(source)), lambda: of_components(source)):
         found = set(phase())
         if found:
             return found, None
     net = Net(source)
-    for phase in (lambda: list(of_widths(net)) + list(of_size(net)), lambda: of_choices(net)):
+    for phase in (net.cycles, lambda: list(net.widths()) + list(of_size(net)), lambda: of_choices(net)):
         found = set(phase())
         if found:
             return found, None

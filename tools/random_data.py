@@ -1,11 +1,15 @@
-"""Makes the data of random sources: types, enumerations, constants and variables, expressions, guards and updates.
+"""Makes the data of random sources: types, enumerations, constants and variables, expressions, guards and updates. What has inputs and
+algebraic variables too names these mostly.
 
 What is made keeps the rules mostly: divisors are rarely 0, values mostly in their ranges, and names find what they are written
 for. Where faults are asked for, what breaks one rule stands here and there.
 """
 from plain_expressions import ORDERS
-from plain_names import CONSTANT, DISC, LITERAL, PARAMETERS, TYPE, Slot
+from plain_names import ALG, CONSTANT, DISC, INPUT, LITERAL, PARAMETERS, TYPE, Slot
 from random_definitions import TRUTH, Chosen, Unreached
+
+# What is named most where it may be.
+FAVOURED = PARAMETERS | {INPUT, ALG}
 
 
 class DataMaker:
@@ -27,6 +31,10 @@ class DataMaker:
         for automaton in self.automata:
             for _ in range(self.choose.choice([0, 1, 1, 2, 3])):
                 self.variable(automaton)
+        if "input" in self.forms:
+            self.declare_inputs()
+        if "alg" in self.forms:
+            self.declare_algebraic()
         for scope in self.groups + self.automata:
             if self.maybe(0.1):
                 scope.items.append(lambda scope=scope: "marked %s;" % ", ".join(self.conditions(scope.body)))
@@ -121,7 +129,7 @@ class DataMaker:
     # ---- expressions, level by level of the grammar
 
     def everything(self):
-        return self.constants + self.variables + self.locations + self.parameters
+        return self.constants + self.variables + self.inputs + self.algebraics + self.locations + self.parameters
 
     def value(self, body, kind, depth, known):
         """An expression of a kind over what is known."""
@@ -137,7 +145,7 @@ class DataMaker:
             return self.spelled(self.odd_name())
         slots = {slot for slot in known if slot.kind == kind}
         found = [thing for thing in self.things(body) if thing.slot in slots]
-        own = [thing for thing in found if thing.slot.sort in PARAMETERS]
+        own = [thing for thing in found if thing.slot.sort in FAVOURED]
         return self.written_name(self.choose.choice(own if own and self.maybe(0.6) else found)) if found else None
 
     def member_kinds(self, body):
@@ -270,7 +278,7 @@ class DataMaker:
 
     def assignment(self, body, slot):
         if self.fails("own"):
-            slot = self.choose.choice(self.variables)
+            slot = self.choose.choice(self.variables + self.inputs + self.algebraics)
         target = self.named(body, None, []) or self.exact(body, slot, not self.fails("own"))
         if slot.kind == "int" and self.maybe(0.6):
             name = self.exact(body, slot)

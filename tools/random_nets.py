@@ -1,11 +1,12 @@
-"""Makes random sources of automata that synchronise, with data, definitions and without, sound ones and, where faults are asked for,
-others.
+"""Makes random sources of automata that synchronise, with data, inputs, algebraic variables and definitions, and without, sound ones and,
+where faults are asked for, others.
 
 Names come from a few for each source, so that they shadow one another, and stand as dotted names, through instances too, and as names
 from the root.
 """
 from plain_names import COMPONENT, DEFINITION, EVENT, INSTANCE, LOCATION, PARAMETERS, Body, Slot, found_slot
 from plain_tokens import RESERVED, lexed
+from random_algebra import AlgebraMaker
 from random_data import DataMaker
 from random_definitions import EVENTS, DefinitionMaker, Thing, Unreached
 
@@ -17,12 +18,12 @@ NAMES = ["a", "b", "e", "x", "A", "E", "Lamp", "on", "_", "__", "_k1", "__a__b",
 HEADS = ["automaton", "plant", "requirement", "supervisor", "plant automaton", "supervisor automaton"]
 BLANKS = [[""], [" "], ["\n"], [" ", " ", "\n", "\n  "], ["", " ", "\t", "\r\n", " /* edge $ @ ** */ ", " // c /* \n", "/**/"]]
 # Forms of other sources: declarations, what stands in automata alone, in locations, and behind the uses of an edge.
-LATER_ITEMS = ["const int k = ?;", "type t = int[0..?];", "input bool i;", "alg bool b = true;", "equation k = 1;", "invariant true;",
+LATER_ITEMS = ["const int k = ?;", "type t = int[0..?];", "input int[?..1] i;", "alg bool b = ?;", "equation k = ?;", "invariant true;",
                "requirement a needs true;", "plant invariant true;", "marked true, ?;", "group def d(event void m): end",
                "automaton def d(location l; controllable bool m): location; end", "group def d(alg int[0..?] k): end", "x: d(?);",
                "x: d(a, 1 + ?);", "event void m;", "event bool m;", "event a b;", "controllable int[0..3] m;"]
 LATER_PARTS = ["disc int n = ?;", "disc int[0..abs(?)] n;"]
-LATER_ELEMENTS = ["marked not ?;", "equation k = 1;", "marked a, ?;"]
+LATER_ELEMENTS = ["marked not ?;", "equation k = 1 + ?;", "marked a, ?;"]
 LATER_ENDS = ["when ?", "do n := ?", "when a, b do n := 1 + ?", "do if ?: n := 1 end"]
 LATER_ROLES = ["!", "! 1", "?"]
 
@@ -32,12 +33,12 @@ MOST_PARTS = 5
 
 
 class Scope:
-    """A group, an automaton or a definition that is made: what stands in it, in order, the body by which names are looked up, and the
-    nearest definition outward, which may be itself."""
+    """A group, an automaton or a definition that is made: what stands in it, in order, what writes the equations of each location, the body
+    by which names are looked up, and the nearest definition outward, which may be itself."""
 
     def __init__(self, outer, name, is_automaton, is_definition=False):
         self.name, self.is_automaton, self.is_definition, self.items, self.places = name, is_automaton, is_definition, [], []
-        self.outer, self.path = outer, [] if outer is None else outer.path + [name]
+        self.outer, self.path, self.equations = outer, [] if outer is None else outer.path + [name], []
         self.definition = self if is_definition else outer and outer.definition
         self.body = Body(None if outer is None else outer.body, is_automaton)
 
@@ -48,16 +49,18 @@ def spelled_name(parts):
     return ".".join(words)
 
 
-class Maker(DefinitionMaker, DataMaker):
+class Maker(DefinitionMaker, DataMaker, AlgebraMaker):
     """Makes one source. Faults are chances by what is to be wrong: "name", "twice" for one declared twice, "goto", "initials" for
     the initial locations, "alphabet" for it and what is monitored, "class" for an event without one, "later" for a form of other
     sources; "kind" of an expression, "constant" for one that names what is none, "own" for a variable of another automaton, "doubly"
-    for one assigned twice, "range" for constants, "divisor" and "wide"; "cycle" of definitions, "count" of arguments, "argument" for
-    any one, and "unfit" for one of another kind or class. Unreached is raised where what is wanted has no name."""
+    for one assigned twice, "range" for constants, "divisor" and "wide"; "equations" for the number of definitions of an algebraic
+    variable, "loop" for one that may need itself; "cycle" of definitions, "count" of arguments, "argument" for any one, and "unfit" for
+    one of another kind or class. With data `forms` may have "input" and "alg". Unreached is raised where what is wanted has no name."""
 
-    def __init__(self, choose, faults=None, has_data=False, has_definitions=False):
-        self.choose, self.faults, self.has_data, self.has_definitions = choose, faults or {}, has_data, has_definitions
+    def __init__(self, choose, faults=None, has_data=False, has_definitions=False, forms=()):
+        self.choose, self.faults, self.has_data, self.has_definitions, self.forms = choose, faults or {}, has_data, has_definitions, forms
         self.enums, self.types, self.constants, self.variables, self.locations, self.parameters = [], [], [], [], [], []
+        self.inputs, self.algebraics = [], []
         self.names = choose.sample(NAMES, choose.randint(5, 12))
         self.root = Scope(None, None, False)
         self.groups, self.automata, self.events, self.definitions, self.instances = [self.root], [], [], [], []
@@ -234,6 +237,7 @@ class Maker(DefinitionMaker, DataMaker):
             elements = [self.choose.choice(["initial;", "initial;", "initial true;", "initial; initial;"])] * (number in initials)
             if self.has_data and self.maybe(0.05):
                 elements.append("marked %s;" % ", ".join(self.conditions(scope.body)))
+            elements += self.equations_at(scope)
             elements += ["marked;"] * self.maybe(0.2) + [self.choose.choice(LATER_ELEMENTS)] * self.fails("later")
             elements += [self.edge(scope, used, found) for _ in range(self.choose.choice([0, 1, 1, 2, 2, 3])) if used]
             if self.maybe(0.2):
@@ -295,11 +299,11 @@ class Maker(DefinitionMaker, DataMaker):
         return clauses
 
 
-def made_text(choose, faults=None, has_data=False, has_definitions=False):
+def made_text(choose, faults=None, has_data=False, has_definitions=False, forms=()):
     """The text of a source."""
     while True:
         try:
-            return Maker(choose, faults, has_data, has_definitions).text
+            return Maker(choose, faults, has_data, has_definitions, forms).text
         except Unreached:
             pass
 
