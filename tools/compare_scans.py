@@ -16,6 +16,7 @@ bound of its class ends where none of the class has a step. The status is 1 wher
 `generate` tells that it is not built yet is passed over and counted. The simulation is in `plain_nets.py`; with `--self-test` it and the
 search are compared with worked examples, which the program is asked for, too.
 """
+import functools
 import itertools
 import os
 import random
@@ -62,11 +63,17 @@ def plant_alone(choose):
     return "\n".join(lines + ["end", ""])
 
 
+@functools.lru_cache(maxsize=8)
+def judged(text):
+    """The refusals that are due of a source, and its net."""
+    return broken(Source(text))
+
+
 def automata_together(choose, has_data=False, has_definitions=False, forms=()):
     """A source that breaks no rule and whose program isn't too long to try."""
     while True:
         text = spelled(choose, tokens_of(made_text(choose, None, has_data, has_definitions, forms)))
-        due, net = broken(Source(text))
+        due, net = judged(text)
         if not due and sum(map(net.count, range(len(net.events)))) <= MOST_TRIED and net.nodes() <= MOST_NODES:
             return text
 
@@ -77,7 +84,36 @@ def some_forms(choose):
 
 
 def data_together(choose):
-    return automata_together(choose, True, False, some_forms(choose))
+    forms = some_forms(choose)
+    return lively(choose, lambda: automata_together(choose, True, False, forms))
+
+
+def lively(choose, make):
+    """A source in which the inputs decide what the first scan does, mostly, if it has any, and algebraic variables change in it."""
+    text = make()
+    for _ in range(choose.choice([0, 3, 6, 10])):
+        _, net = judged(text)
+        files = [made_file(choose, net, 1) for _ in range(3)]
+        if any(is_heard(net, file) for file in files) and (not net.algebraic or any(is_changed(net, file) for file in files)):
+            break
+        text = make()
+    return text
+
+
+def is_heard(net, file):
+    """Whether there are no inputs, or a scan with the first row does otherwise than one with the first values."""
+    if not net.inputs:
+        return True
+    row = rows_of(net, file)[0]
+    ends = [net.scan(2, 2, state)[0] for state in (net.initial(), net.latched(net.initial(), row))]
+    return net.latched(ends[0], row) != ends[1]
+
+
+def is_changed(net, file):
+    """Whether an algebraic variable changes in a scan with the first row."""
+    first = net.latched(net.initial(), rows_of(net, file)[0])
+    after, _ = net.scan(2, 2, first)
+    return any(it.value_in(first) != it.value_in(after) for it in net.algebraic)
 
 
 def instances_together(choose):
@@ -85,8 +121,8 @@ def instances_together(choose):
     is_moved, is_read, has_data = choose.random() < 0.9, choose.random() < 0.5, choose.random() < 0.85
     forms = some_forms(choose) if has_data else ()
     while True:
-        text = automata_together(choose, has_data, True, forms)
-        net = Net(Source(text))
+        text = lively(choose, lambda: automata_together(choose, has_data, True, forms))
+        _, net = judged(text)
         if is_moved and net.scan(2, 2, net.initial())[0] == net.initial():
             continue
         if not (is_read and has_data) or any(map(reads_an_argument, net.exprs())):
@@ -104,7 +140,7 @@ def made(choose):
     text, unc, con = make(choose), rounds(choose, has_data), rounds(choose, has_data)
     options = [[word, str(number)] for word, number in (("--unc", unc), ("--con", con)) if number is not None]
     choose.shuffle(options)
-    file = made_file(choose, Net(Source(text)), choose.randint(1, MOST_SCANS))
+    file = made_file(choose, judged(text)[1], choose.randint(1, MOST_SCANS))
     return Trial(text, sum(options, []), unc or DEFAULT_ROUNDS, con or DEFAULT_ROUNDS, file)
 
 
@@ -272,6 +308,7 @@ def answers(program, folder, trial):
 
 def noted(net, trial, notes):
     """Counts what the trial shows in its first scan."""
+    net.steps = {}
     first = net.latched(net.initial(), rows_of(net, trial.file)[0])
     after, is_bounded = net.scan(trial.unc, trial.con, first)
     fired = [net.options(event) for (event, _), end in net.steps.items() if end is not None]
@@ -286,9 +323,9 @@ def noted(net, trial, notes):
     notes["have instances"] += any(body.instances for body in Source(trial.text).bodies)
     notes["read an argument"] += any(map(reads_an_argument, net.exprs()))
     notes["have inputs"] += bool(net.inputs)
-    notes["do otherwise than with other inputs"] += after != net.latched(net.scan(trial.unc, trial.con, net.initial())[0], rows_of(net, trial.file)[0])
+    notes["do otherwise by their inputs"] += bool(net.inputs) and is_heard(net, trial.file)
     notes["have algebraic variables"] += bool(net.algebraic)
-    notes["have some that change"] += any(it.value_in(first) != it.value_in(after) for it in net.algebraic)
+    notes["have some that change"] += is_changed(net, trial.file)
     notes["have some by location"] += any(len(it.values) > 1 for it in net.algebraic)
 
 
@@ -304,10 +341,9 @@ def leaves_a_range(net):
 
 def differences(program, folder, trial, notes):
     """What is wrong with the answers, a line for each."""
-    source = Source(trial.text)
-    net = Net(source)
+    _, net = judged(trial.text)
     generated, given = answers(program, folder, trial)
-    if source.forms & set(LATER) and NOT_BUILT.match(generated):
+    if net.forms & set(LATER) and NOT_BUILT.match(generated):
         notes["not built"] += 1
         return []
     noted(net, trial, notes)

@@ -436,6 +436,7 @@ class Net:
 
     def __init__(self, source):
         frames, _ = components_of(source)
+        self.forms = source.forms
         self.data, automata, events = Data(source), automata_in(frames), declared_in(frames, EVENT)
         variables, inputs = declared_in(frames, DISC), declared_in(frames, INPUT)
         self.numbers = {event: number for number, event in enumerate(events)}

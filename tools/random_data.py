@@ -245,12 +245,15 @@ class DataMaker:
 
     def conditions(self, body):
         count = self.choose.choice([1, 1, 1, 1, 2])
-        return [self.truth(body, self.choose.choice([0, 1, 1, 2, 3]), self.everything()) for _ in range(count)]
+        known = self.inputs + self.algebraics
+        if not known or self.maybe(0.4):
+            known = self.everything()
+        return [self.truth(body, self.choose.choice([0, 1, 1, 2, 3]), known) for _ in range(count)]
 
     def end_of_edge(self, scope):
         """Guards and updates of an edge, of either sometimes none."""
         text, own = "", [slot for slot in self.variables if slot.scope is scope]
-        if self.has_data and self.maybe(0.6 if scope.definition else 0.35):
+        if self.has_data and self.maybe(0.6 if scope.definition or self.inputs or self.algebraics else 0.35):
             text += " when " + ", ".join(self.conditions(scope.body))
         if own and self.maybe(0.75):
             text += " do " + self.updates(scope.body, own, 2)
