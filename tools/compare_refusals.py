@@ -5,12 +5,13 @@
     tools/compare_refusals.py --self-test
 
 Where rules are broken, what is told is to be one of the refusals of the first phase that has any: tokens, grammar, forms that are
-not built yet, names, bodies as written, those of definitions too (kinds, arguments, constants, initial locations, what is assigned),
-components, instances among them (alphabets, the number of objects, ranges of constants), the widths and sizes of what choices
-evaluate, their number. Then `generate` asks that each event has a class. A source that breaks none is accepted. Besides random sources,
-about half of them with definitions, there are the worked examples and some at each limit. The status is 1 where the two differ. The
-rules are in `plain_nets.py`, `plain_data.py` and `plain_names.py`; with `--self-test` they are compared with worked examples. How deep
-a source nests is not bounded here.
+not built yet, names, bodies as written, those of definitions too (kinds, arguments, constants, initial locations, what is assigned, the
+definitions of algebraic variables), components, instances among them (alphabets, the number of objects, ranges of constants), algebraic
+variables that need themselves, the widths and sizes of what is evaluated, the number of choices. Then `generate` asks that each event has
+a class. A source that breaks none is accepted. Besides random sources, about half of them with definitions, there are the worked
+examples and some at each limit. The status is 1 where the two differ. A source with inputs or algebraic variables of which it is told
+that its forms are not built yet is passed over and counted. The rules are in `plain_nets.py`, `plain_algebra.py`, `plain_data.py` and
+`plain_names.py`; with `--self-test` they are compared with worked examples. How deep a source nests is not bounded here.
 """
 import itertools
 import os
@@ -23,16 +24,17 @@ from collections import Counter, namedtuple
 
 from compare_grammar import CIF
 from earley import Grammar, changed, judged
-from plain_nets import MOST_CHOICES, MOST_NODES, Source, broken, line_of, unclassed
+from plain_nets import LATER, MOST_CHOICES, MOST_NODES, Source, broken, line_of, unclassed
 from plain_tokens import Token, Unread, lexed
 from random_nets import made_text, spelled, tokens_of
 
 GRAMMAR = Grammar(CIF)
 # Longer programs are checked, and not generated.
 LONGEST = 50000
-# What is due: the lines that may be told, those that `generate` may tell, and what all choices count. A line that ends in `at`
-# may have any place in the text.
-Verdict = namedtuple("Verdict", "lines generated nodes")
+# What is due: the lines that may be told, those that `generate` may tell, and what all choices and algebraic variables count. A line that
+# ends in `at` may have any place in the text. A source with one of the LATER forms may be told to be not built, too.
+Verdict = namedtuple("Verdict", "lines generated nodes has_later")
+NOT_BUILT = re.compile(r"(30 NotBuilt at) ([0-9]+)$")
 
 
 # ---- what is due
@@ -41,15 +43,16 @@ def judgement(text):
     """The verdict on a source."""
     tokens, due = lexed(text)
     if due:
-        return Verdict(set(map(line_of, due)), set(), 0)
+        return Verdict(set(map(line_of, due)), set(), 0, False)
     try:
         source = Source(text)
     except Unread:
-        return Verdict({unread_line(text, tokens)}, set(), 0)
+        return Verdict({unread_line(text, tokens)}, set(), 0, False)
     due, net = broken(source)
+    has_later = bool(source.forms & set(LATER))
     if due:
-        return Verdict(set(map(line_of, due)), set(), 0)
-    return Verdict(set(), set(map(line_of, unclassed(net))), sum(map(net.weight, range(len(net.events)))))
+        return Verdict(set(map(line_of, due)), set(), 0, has_later)
+    return Verdict(set(), set(map(line_of, unclassed(net))), net.nodes(), has_later)
 
 
 def unread_line(text, tokens):
@@ -65,7 +68,7 @@ def status_of(line):
 
 def is_allowed(line, lines, text):
     """Whether a line is one of those that may be told."""
-    place = re.match(r"(30 NotBuilt at) ([0-9]+)$", line)
+    place = NOT_BUILT.match(line)
     if place and int(place.group(2)) <= len(text):
         line = place.group(1)
     return line in lines
@@ -75,7 +78,8 @@ def is_allowed(line, lines, text):
 
 FAULTS = {"name": 0.15, "twice": 0.1, "goto": 0.3, "initials": 0.4, "alphabet": 0.5, "class": 0.3, "later": 0.05, "kind": 0.06,
           "constant": 0.6, "own": 0.3, "doubly": 0.3, "range": 0.2, "divisor": 0.5, "wide": 0.05, "cycle": 1, "count": 0.3, "argument": 0.2,
-          "unfit": 0.4}
+          "unfit": 0.4, "equations": 0.3, "loop": 0.7}
+OF_ALGEBRA = ("name", "kind", "constant", "own", "divisor", "wide", "equations", "equations", "loop", "loop")
 OF_DEFINITIONS = ("name", "cycle", "count", "argument", "unfit", "unfit", "unfit", "alphabet", "alphabet", "divisor", "wide", "class")
 OF_DATA = ("name", "twice", "kind", "constant", "own", "doubly", "range", "divisor", "wide")
 ODD_PIECES = ["@", "$", "#", '"', "\x00", "\xe9", "$1", "~", " 2147483648 ", " 2147483647 ", " 99999999999999999999 ", "/*"]
@@ -86,10 +90,12 @@ def faulty(choose):
     has_data, has_definitions = choose.random() < 0.65, choose.random() < 0.5
     faults = OF_DATA if has_data and choose.random() < 0.7 else FAULTS
     faults = OF_DEFINITIONS if has_definitions and choose.random() < 0.5 else faults
+    forms = choose.choice([(), (), ("input",), ("alg",), ("alg",), ("input", "alg")]) if has_data else ()
+    faults = OF_ALGEBRA if forms and choose.random() < 0.5 else faults
     kinds = choose.sample(sorted(faults), choose.choice([0, 1, 1, 1, 2, 2, 3]))
     # a fault in one place, or in many
     rarity = choose.choice([0.3, 1]) if has_data else 1
-    tokens = tokens_of(made_text(choose, {kind: FAULTS[kind] * rarity for kind in kinds}, has_data, has_definitions))
+    tokens = tokens_of(made_text(choose, {kind: FAULTS[kind] * rarity for kind in kinds}, has_data, has_definitions, forms))
     if choose.random() < 0.15:
         tokens = changed([Token(word, word, 0) for word in GRAMMAR.tokens + ["tau"]], choose, tokens)
         tokens = [token._replace(text={"ID": "a", "NUMBER": "7"}.get(token.text, token.text)) for token in tokens]
@@ -266,13 +272,60 @@ def with_definitions():
     ]
 
 
+def summed(count, guard="true"):
+    """Algebraic variables of which each is the sum of the one before and itself; the first is an input."""
+    text = "input int[0..1] i; alg int v0 = i; " + "".join("alg int v%d = v%d + v%d; " % (k, k - 1, k - 1) for k in range(1, count + 1))
+    return text + "automaton a: event e; location: initial; edge e when %s; end" % guard
+
+
+def chained(count, inner="v%d", kind="int"):
+    """Algebraic variables of which each names the one before, from an input on."""
+    last = "alg %s v%%d = %s; " % (kind, inner)
+    return "input %s i; alg %s v0 = i; " % (kind, kind) + "".join(last % (k, k - 1) for k in range(1, count))
+
+
+def by_location(count, value="%d"):
+    """An algebraic variable with an equation in each of so many locations."""
+    first = "automaton a: alg int v; location p0: initial; equation v = %s; " % (value % 0 if "%" in value else value)
+    return first + "".join("location p%d: equation v = %s; " % (k, value % k if "%" in value else value) for k in range(1, count)) + "end"
+
+
+def with_algebra():
+    size, many, deep = "24 TooLarge nodes 1000001 depth %d", "17 TooManyObjects count 100001", "24 TooLarge nodes %d depth 101"
+    wide = "alg int w = 1%s; %s" % (" + 1" * 1994, by_location(2, "w" + " + w" * 249))
+    return [
+        # variable k counts 2 ** (k + 1) - 1 forms, all up to it 2 ** (k + 2) - k - 3, and the choice three more
+        ("eighteen variables of which each names the one before twice", summed(17), None),
+        ("nineteen such variables", summed(18), size % 18),
+        ("thirty such variables", summed(29), size % 29),
+        ("sixty-two such variables", summed(61), size % 61),
+        ("eighteen such variables and a guard with the last one", summed(17, "v17 >= 0"), None),
+        ("eighteen such variables and a guard that counts as much as all", summed(17, "v17 + v17 >= 0"), size % 19),
+        ("1000 variables of bare names", chained(1000), None),
+        ("1000 variables that count 1000000", chained(1000, "v%d + 0"), deep % 1000000),
+        ("a chain of depth 100", chained(101, "not v%d", "bool"), None),
+        ("a chain of depth 101", chained(102, "not v%d", "bool"), deep % 5253),
+        ("the specification, an input and 99998 variables of bare names", chained(99998), None),
+        ("one variable more", chained(99999), many),
+        ("an equation is an object", chained(99997).replace("v0 = i;", "v0; equation v0 = i;"), None),
+        ("one equation more", chained(99998).replace("v0 = i;", "v0; equation v0 = i;"), many),
+        ("equations of locations are no objects", by_location(60000), None),
+        ("a definition by location of depth 100", by_location(2, "-" * 99 + "1"), None),
+        ("a definition by location of depth 101", by_location(2, "-" * 100 + "1"), deep % 204),
+        ("a definition of one location of depth 100", by_location(1, "-" * 100 + "1"), None),
+        # 1996 forms of w, and 499001 for each of the two locations, and two for the `if`
+        ("a definition by location with which 1000000 are counted", wide, None),
+        ("a variable more", wide + " alg int z = 1;", size % 3),
+    ]
+
+
 # ---- the comparison
 
 class Tool:
     """The program that is asked, in a folder of its own."""
 
     def __init__(self, program, folder):
-        self.program, self.folder = os.path.abspath(program), folder
+        self.program, self.folder, self.not_built = os.path.abspath(program), folder, 0
 
     def tells(self, command, text):
         """The status, what is written, and the line that is told, without what stands before the refusal."""
@@ -282,9 +335,12 @@ class Tool:
         told = re.match(r"cif: a\.cif: ([^\n]*)\n\Z", ran.stderr.decode("latin-1"))
         return ran.returncode, ran.stdout.decode("latin-1"), told.group(1) if told else ran.stderr.decode("latin-1")
 
-    def fault(self, command, text, lines):
+    def fault(self, command, text, lines, has_later=False):
         """What is wrong with the answer, or None; without lines the source is to be accepted."""
         status, out, line = self.tells(command, text)
+        if has_later and status == 7 and NOT_BUILT.match(line):
+            self.not_built += command == "check"
+            return None
         if lines:
             is_right = is_allowed(line, lines, text) and status == status_of(line) and out == ""
         else:
@@ -295,9 +351,9 @@ class Tool:
         return "%s: wanted %s, given status %d %r %r" % (command, wanted, status, line, out[:60])
 
     def faults(self, text, verdict):
-        found = [self.fault("check", text, verdict.lines)]
+        found = [self.fault("check", text, verdict.lines, verdict.has_later)]
         if verdict.nodes <= LONGEST:
-            found.append(self.fault("generate", text, verdict.lines or verdict.generated))
+            found.append(self.fault("generate", text, verdict.lines or verdict.generated, verdict.has_later))
         return [fault for fault in found if fault]
 
 
@@ -309,18 +365,21 @@ def main(program, sources=1000, seed=1):
     choose, differ, notes = random.Random(seed), 0, Counter()
     with tempfile.TemporaryDirectory() as folder:
         tool = Tool(program, folder)
-        for what, text, line in at_limits() + with_data() + with_definitions():
-            fault = tool.fault("check", text, {line} if line else set())
+        limits = [it + (False,) for it in at_limits() + with_data() + with_definitions()] + [it + (True,) for it in with_algebra()]
+        for what, text, line, has_later in limits:
+            fault = tool.fault("check", text, {line} if line else set(), has_later)
             if fault:
                 differ += 1
                 print("%s: %s" % (what, fault))
-        for text in itertools.chain([it[0] for it in WORKED + DATA + DEFINED], (made(choose) for _ in range(sources))):
+        for text in itertools.chain([it[0] for it in WORKED + DATA + DEFINED + ALGEBRA], (made(choose) for _ in range(sources))):
             verdict = judgement(text)
             notes.update({line.split()[0] for line in verdict.lines | verdict.generated} or {"none"})
             found = tool.faults(text, verdict)
             if found:
                 differ += 1
                 print("%r\n  %s" % (text[:4000], "\n  ".join(found)))
+    if tool.not_built:
+        print("%d sources were passed over, since a form of theirs is told to be not built" % tool.not_built)
     shown = ", ".join("%s %d" % pair for pair in sorted(notes.items(), key=lambda pair: (len(pair[0]), pair[0])))
     print("%d sources and the worked examples (%s), and those at the limits: %d differences" % (sources, shown, differ))
     return 1 if differ else 0
@@ -335,7 +394,6 @@ WORKED = [
     ("automaton a: /*/", {"3 OpenComment at 13"}, set()),
     ("event e", {"4 NotRead at 7"}, set()),
     ("automaton a: alphabet; alphabet; location: initial; end", {"4 NotRead at 23"}, set()),
-    ("alg bool b = z;", {"30 NotBuilt at"}, set()),
     ("const int k = ?;", {"30 NotBuilt at"}, set()),
     ("automaton a: location: marked true; end", {"11 Initials at 10 count 0"}, set()),
     ("automaton a: location: initial; marked true; end", set(), set()),
@@ -444,7 +502,7 @@ DEFINED = [
     ("group def D(alg int v;): end", {"4 NotRead at 22"}, set()),
     ("automaton a: x: D(); location: initial; end", {"4 NotRead at 13"}, set()),
     ("group def D(event void m): end", {"30 NotBuilt at"}, set()),
-    ("group def D(alg int v): alg int w = v; end", {"30 NotBuilt at"}, set()),
+    ("group def D(alg int v): invariant v > 0; end", {"30 NotBuilt at"}, set()),
     ("p: D(?); group def D(alg int v): end", {"30 NotBuilt at"}, set()),
     # what is instantiated is a definition, with an argument for each parameter
     ("x: D();", {"5 Unknown at 3"}, set()),
@@ -535,16 +593,121 @@ DEFINED = [
 ]
 
 
+# the same for sources with inputs and algebraic variables
+GUARDED = "automaton a: event e; location: initial; edge e when %s; end"
+ALGEBRA = [
+    # what is not read, and what is not built
+    ("input int i = 1;", {"4 NotRead at 12"}, set()),
+    ("input v;", {"4 NotRead at 7"}, set()),
+    ("alg v = 1;", {"4 NotRead at 6"}, set()),
+    ("equation a.b = 1;", {"4 NotRead at 10"}, set()),
+    ("automaton a: location: initial; alg int v = 1; end", {"4 NotRead at 32"}, set()),
+    ("alg int v = ?;", {"30 NotBuilt at"}, set()),
+    ("input bool i; invariant i;", {"30 NotBuilt at"}, set()),
+    ("input bool i; alg bool b = i;", set(), set()),
+    ("input bool i; event e;", set(), {"28 Unclassed event e"}),
+    # names
+    ("alg bool b = z;", {"5 Unknown at 13"}, set()),
+    ("input bool i, i;", {"6 Duplicate at 14 first 11"}, set()),
+    ("event e; alg bool b = e;", {"7 WrongKind at 22"}, set()),
+    ("alg int a = b; alg int b = 1;", set(), set()),
+    # the left side of an equation is an algebraic variable of the same body, looked up there alone
+    ("equation z = 1;", {"5 Unknown at 9"}, set()),
+    ("input int z; equation z = 1;", {"7 WrongKind at 22"}, set()),
+    ("alg int v = 1; automaton a: equation v = 1; location: initial; end", {"5 Unknown at 37"}, set()),
+    ("automaton a: location: initial; equation z = 1; end", {"5 Unknown at 41"}, set()),
+    ("automaton a: location p: initial; equation p = true; end", {"7 WrongKind at 43"}, set()),
+    ("group def D(alg int v): equation v = 1; end", {"7 WrongKind at 33"}, set()),
+    # what is assigned is a discrete variable
+    ("input int i; automaton a: event e; location: initial; edge e do i := 1; end", {"7 WrongKind at 64"}, set()),
+    ("alg int v = 1; automaton a: event e; location: initial; edge e do v := 1; end", {"7 WrongKind at 66"}, set()),
+    # arguments for events and locations
+    ("input bool i; p: D(i); group def D(location l): end", {"7 WrongKind at 19"}, set()),
+    ("input bool i; p: D(i); group def D(event e): end", {"7 WrongKind at 19"}, set()),
+    ("input bool i; p: D(i); group def D(alg bool v): alg bool w = v; end", set(), set()),
+    # kinds
+    ("alg bool b = 1;", {"9 Mismatch at 13"}, set()),
+    ("alg int v; equation v = true;", {"9 Mismatch at 24"}, set()),
+    ("input int i; alg bool b = i;", {"9 Mismatch at 26"}, set()),
+    ("enum T = r; input T c; alg bool b = c = 1;", {"9 Mismatch at 40"}, set()),
+    ("automaton a: alg int v; location: initial; equation v = not true; end", {"9 Mismatch at 56"}, set()),
+    ("input int i; p: D(i); group def D(alg bool v): end", {"9 Mismatch at 18"}, set()),
+    ("input int i; " + GUARDED % "i", {"9 Mismatch at 66"}, set()),
+    # neither is a constant
+    ("input int i; const int k = i;", {"10 NotConstant at 27"}, set()),
+    ("input int i; type t = int[0..i];", {"10 NotConstant at 29"}, set()),
+    ("input int i; input int[0..i] j;", {"10 NotConstant at 26"}, set()),
+    ("input int i; automaton a: disc int n = i; location: initial; end", {"10 NotConstant at 39"}, set()),
+    ("alg int v = 1; const int k = v;", {"10 NotConstant at 29"}, set()),
+    ("alg int v = 1; alg int[0..v] w = 0;", {"10 NotConstant at 26"}, set()),
+    # one definition, in an automaton one for each location
+    ("alg bool b;", {"16 Equations at 9 count 0"}, set()),
+    ("alg int v = 1, w;", {"16 Equations at 15 count 0"}, set()),
+    ("alg bool b = true; equation b = false;", {"16 Equations at 9 count 2"}, set()),
+    ("alg bool b; equation b = true; equation b = false; equation b = b;", {"16 Equations at 9 count 3"}, set()),
+    ("group def D(): alg int v; end", {"16 Equations at 23 count 0"}, set()),
+    ("automaton a: alg int v; location: initial; end", {"16 Equations at 21 count 0"}, set()),
+    ("automaton a: alg int v; equation v = 1; location p: initial; location q; end", set(), set()),
+    ("automaton a: alg int v; location p: initial; equation v = 1; location q; end", {"16 Equations at 21 count 0"}, set()),
+    ("automaton a: alg int v = 1; location p: initial; equation v = 1; location q; end", {"16 Equations at 21 count 2"}, set()),
+    ("automaton a: alg int v = 1; equation v = 1; location p: initial; equation v = 1; location q; end",
+     {"16 Equations at 21 count 3", "16 Equations at 21 count 2"}, set()),
+    ("automaton a: alg int v; location p: initial; equation v = 1; equation v = 2; location q; end",
+     {"16 Equations at 21 count 2", "16 Equations at 21 count 0"}, set()),
+    ("automaton a: alg int v; location p: equation v = 1; location q; end", {"11 Initials at 10 count 0", "16 Equations at 21 count 0"}, set()),
+    # ranges
+    ("input int[3..2] i;", {"18 ConstantRange at 10"}, set()),
+    ("alg int[0..2147483647 + 1] v = 1;", {"18 ConstantRange at 11"}, set()),
+    ("alg int[0..3] v = 7;", set(), set()),
+    # the first variable that needs itself, whatever the values
+    ("alg int p = q; alg int q = p;", {"19 AlgCycle alg p"}, set()),
+    ("alg int p = p;", {"19 AlgCycle alg p"}, set()),
+    ("alg bool b = true or b;", {"19 AlgCycle alg b"}, set()),
+    ("alg int o = p; alg int p = q; alg int q = p;", {"19 AlgCycle alg p"}, set()),
+    ("alg int o = o + r; alg int p = q; alg int q = p; alg int r = p;", {"19 AlgCycle alg o"}, set()),
+    ("alg int p = q; alg int q = r; alg int r = q + s; alg int s = t; alg int t = s;", {"19 AlgCycle alg q"}, set()),
+    ("group g: alg int p = .q; end alg int q = g.p;", {"19 AlgCycle alg q"}, set()),
+    ("alg int z = 1; group a: alg int $if; equation $if = $if; end group b: alg int y = y; end", {"19 AlgCycle alg a.if"}, set()),
+    ("automaton a: alg int x = b.y; location: initial; end automaton b: alg int y; location p: initial; equation y = 1; location q: "
+     "equation y = a.x; end", {"19 AlgCycle alg a.x"}, set()),
+    # through arguments
+    ("p: D(p.w); group def D(alg int v): alg int w = v + 1; end", {"19 AlgCycle alg p.w"}, set()),
+    ("p: D(1); q: D(r.w); r: D(q.w + p.w); group def D(alg int v): alg int w = v + 1; end", {"19 AlgCycle alg q.w"}, set()),
+    ("p: D(q.w); q: D(1); group def D(alg int v): alg int w = v; end", set(), set()),
+    ("p: D(q); alg int q = p.x; group def D(alg int v): alg int x = 1; end", set(), set()),
+    ("p: D(p.w); group def D(alg int v): alg int w = 1; end", set(), set()),
+    ("group def D(): alg int v = v; end", set(), set()),
+    # nothing else is asked of algebraic variables then
+    ("alg int p = p; alg int q = 1 div 0;", {"19 AlgCycle alg p"}, set()),
+    # intervals: of an input its range, of an algebraic variable that of its definitions, and not the declared one
+    ("input int[0..3] i; alg int q = 7 div i;", {"20 ZeroDivisor at 37"}, set()),
+    ("input int[1..3] i; alg int q = 7 div i;", set(), set()),
+    ("alg int q = 7 div d; alg int d = 0;", {"20 ZeroDivisor at 18"}, set()),
+    ("alg int[1..3] v = 0; alg int w = 1 div v;", {"20 ZeroDivisor at 39"}, set()),
+    ("automaton a: alg int v; location p: initial; equation v = 1; location q: equation v = -1; end alg int w = 6 mod a.v;",
+     {"20 ZeroDivisor at 112"}, set()),
+    ("automaton a: alg int v; location p: initial; equation v = 1; location q: equation v = +2; end alg int w = 6 mod a.v;", set(), set()),
+    ("input int[0..3] i; alg int v = i + 1; " + GUARDED % "1 div v = 1", set(), NO_CLASS),
+    ("input int[0..3] i; alg int v = i - 1; " + GUARDED % "1 div (v) = 1", {"20 ZeroDivisor at 97"}, set()),
+    ("p: D(i); input int[0..3] i; group def D(alg int v): alg int w = 7 div v; end", {"20 ZeroDivisor at 5"}, set()),
+    ("input int i; alg int w = i * i * i;", {"21 TooWide at 25"}, set()),
+    ("input int i; alg int w = i * i; alg int v = w * w;", {"21 TooWide at 44"}, set()),
+    ("input int i; alg int w = i * i; alg int v = w + w - 1;", {"21 TooWide at 44"}, set()),
+    ("input int i; alg int w = i * i * i; alg int v = w;", {"21 TooWide at 25", "21 TooWide at 48"}, set()),
+    ("input int i; alg bool b = i * i * i > 0; " + GUARDED % "b", {"21 TooWide at 26"}, set()),
+]
+
+
 def self_test():
-    for text, lines, generated in WORKED + DATA + DEFINED:
+    for text, lines, generated in WORKED + DATA + DEFINED + ALGEBRA:
         verdict = judgement(text)
         assert verdict.lines == lines and (lines or verdict.generated == generated), (text, verdict)
-    short = [it for it in at_limits() + with_data() + with_definitions() if len(it[1]) < 200000]
+    short = [it for it in at_limits() + with_data() + with_definitions() + with_algebra() if len(it[1]) < 200000]
     for what, text, line in short:
         assert judgement(text).lines == ({line} if line else set()), what
     assert judgement("event e, f; " + crowd([2] * 13 + [1] * 47) + crowd([2923], {0}, "f")).nodes == MOST_NODES
     assert judgement("event e; " + crowd([128, 128])).nodes == 5 * MOST_CHOICES
-    print("the rules agree with %d worked examples and %d sources at limits" % (len(WORKED + DATA + DEFINED), len(short)))
+    print("the rules agree with %d worked examples and %d sources at limits" % (len(WORKED + DATA + DEFINED + ALGEBRA), len(short)))
     return 0
 
 
