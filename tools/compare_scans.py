@@ -104,14 +104,13 @@ def is_heard(net, file):
     """Whether there are no inputs, or a scan with the first row does otherwise than one with the first values."""
     if not net.inputs:
         return True
-    row = rows_of(net, file)[0]
-    ends = [net.scan(2, 2, state)[0] for state in (net.initial(), net.latched(net.initial(), row))]
-    return net.latched(ends[0], row) != ends[1]
+    one, other = [net.scan(2, 2, state)[0] for state in (net.initial(), first_begin(net, file))]
+    return one[:-len(net.inputs)] != other[:-len(net.inputs)]
 
 
 def is_changed(net, file):
     """Whether an algebraic variable changes in a scan with the first row."""
-    first = net.latched(net.initial(), rows_of(net, file)[0])
+    first = first_begin(net, file)
     after, _ = net.scan(2, 2, first)
     return any(it.value_in(first) != it.value_in(after) for it in net.algebraic)
 
@@ -178,6 +177,12 @@ def rows_of(net, file):
     places = [header.index(name) for name in names_of("I", net.inputs)]
     return [[TRUTHS[record[place]] if it.kind == "bool" else int(record[place]) for place, it in zip(places, net.inputs)]
             for record in records]
+
+
+def first_begin(net, file):
+    """The state in which the first scan begins."""
+    rows = rows_of(net, file)
+    return net.latched(net.initial(), rows[0]) if rows else net.initial()
 
 
 def rows_alone(scans):
@@ -309,7 +314,7 @@ def answers(program, folder, trial):
 def noted(net, trial, notes):
     """Counts what the trial shows in its first scan."""
     net.steps = {}
-    first = net.latched(net.initial(), rows_of(net, trial.file)[0])
+    first = first_begin(net, trial.file)
     after, is_bounded = net.scan(trial.unc, trial.con, first)
     fired = [net.options(event) for (event, _), end in net.steps.items() if end is not None]
     notes["move"] += after != first
