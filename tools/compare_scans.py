@@ -31,6 +31,8 @@ from plain_nets import LATER, Net, Party, Source, broken, line_of, names_of
 from random_nets import made_text, spelled, tokens_of
 
 MOST_SCANS, MOST_TRIED, MOST_NODES, DEFAULT_ROUNDS = 6, 400, 30000, 100
+# How often a source is made anew until its inputs and algebraic variables matter.
+TRIES = [0, 3, 6, 10]
 # How many states the runs of a class in one scan may pass before the search gives up.
 MOST_PASSED = 20000
 # What is generated and replayed: a source, the words of its options, the most rounds of each class, and a file of rows.
@@ -84,20 +86,18 @@ def some_forms(choose):
 
 
 def data_together(choose):
-    forms = some_forms(choose)
-    return lively(choose, lambda: automata_together(choose, True, False, forms))
+    """A source with data, mostly such that inputs and algebraic variables matter."""
+    forms, tries = some_forms(choose), choose.choice(TRIES)
+    while True:
+        text, tries = automata_together(choose, True, False, forms), tries - 1
+        if tries < 0 or is_lively(choose, judged(text)[1]):
+            return text
 
 
-def lively(choose, make):
-    """A source in which the inputs decide what the first scan does, mostly, if it has any, and algebraic variables change in it."""
-    text = make()
-    for _ in range(choose.choice([0, 3, 6, 10])):
-        _, net = judged(text)
-        files = [made_file(choose, net, 1) for _ in range(3)]
-        if any(is_heard(net, file) for file in files) and (not net.algebraic or any(is_changed(net, file) for file in files)):
-            break
-        text = make()
-    return text
+def is_lively(choose, net):
+    """Whether inputs decide what a first scan does, if there are any, and algebraic variables change in it."""
+    files = [made_file(choose, net, 1) for _ in range(3)]
+    return any(is_heard(net, file) for file in files) and (not net.algebraic or any(is_changed(net, file) for file in files))
 
 
 def is_heard(net, file):
@@ -118,13 +118,15 @@ def is_changed(net, file):
 def instances_together(choose):
     """Definitions and instances, mostly with data, and mostly such that the first rounds lead on and arguments are read."""
     is_moved, is_read, has_data = choose.random() < 0.9, choose.random() < 0.5, choose.random() < 0.85
-    forms = some_forms(choose) if has_data else ()
+    forms, tries = some_forms(choose) if has_data else (), choose.choice(TRIES)
     while True:
-        text = lively(choose, lambda: automata_together(choose, has_data, True, forms))
+        text, tries = automata_together(choose, has_data, True, forms), tries - 1
         _, net = judged(text)
         if is_moved and net.scan(2, 2, net.initial())[0] == net.initial():
             continue
-        if not (is_read and has_data) or any(map(reads_an_argument, net.exprs())):
+        if is_read and has_data and not any(map(reads_an_argument, net.exprs())):
+            continue
+        if tries < 0 or is_lively(choose, net):
             return text
 
 
