@@ -122,7 +122,8 @@ def instances_together(choose):
     while True:
         text, tries = automata_together(choose, has_data, True, forms), tries - 1
         _, net = judged(text)
-        if is_moved and net.scan(2, 2, net.initial())[0] == net.initial():
+        begin = first_begin(net, made_file(choose, net, 1))
+        if is_moved and net.scan(2, 2, begin)[0] == begin:
             continue
         if is_read and has_data and not any(map(reads_an_argument, net.exprs())):
             continue
