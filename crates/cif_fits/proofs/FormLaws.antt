@@ -1,5 +1,4 @@
--- What the forms built so far leave of the components of a source: no inputs, algebraic variables, channels and invariants, and
--- edges that synchronise.
+-- What the forms built so far leave of the components of a source: no channels and invariants, and edges that synchronise.
 use Rattle.std.proofs.Common.{◌≡◌, Bool, true, false, refl}
 use Rattle.std.specs.Prelude.{◌&&◌}
 use Rattle.std.specs.List.{list_all}
@@ -15,10 +14,23 @@ use Rattle.cif_image.proofs.StandingLaws.{edge-stands, enumerated}
 use Rattle.cif_written.proofs.Bodies.{components-written}
 use Rattle.cif_written.proofs.RuleLaws.{bodies-pass}
 
+-- ---- declarations
+
+-- where a test holds of all declarations, it holds of those of components
+passes : (t : Source) (test : DeclTree → Bool) → every_decl test t ≡ true → (c : Component) → Member c (components_of t) → (d : DeclTree) → Member d (decls_of c) → test d ≡ true
+passes t test all c m d k = all-member test (decls_of c) d (bodies-pass t (λ b. list_all test (decls_in b)) all c (components-written t c m)) k
+
+pub decl-algebra : (t : Source) → is_built t ≡ true → (c : Component) → Member c (components_of t) → (d : DeclTree) → Member d (decls_of c) → is_no_algebra d ≡ true
+decl-algebra t built =
+    passes t is_no_algebra
+    (and-left (every_decl is_no_algebra t) (every_location has_no_equations t)
+    (and-left (has_no_algebra t) (has_no_channels t)
+    (and-left (has_no_algebra t && has_no_channels t) (has_no_invariants t)
+    (and-left (has_no_algebra t && has_no_channels t && has_no_invariants t) (has_no_received t) built))))
+
 -- ---- the forms, one by one
 
 pub record HasForms (t : Source) : Type 0 where
-  pub no_algebra : has_no_algebra t ≡ true
   pub no_channels : has_no_channels t ≡ true
   pub no_invariants : has_no_invariants t ≡ true
   pub no_received : has_no_received t ≡ true
@@ -28,7 +40,6 @@ forms-of t built =
     let three = and-left (has_no_algebra t && has_no_channels t && has_no_invariants t) (has_no_received t) built in
     let two = and-left (has_no_algebra t && has_no_channels t) (has_no_invariants t) three in
     record {
-      no_algebra = and-left (has_no_algebra t) (has_no_channels t) two;
       no_channels = and-right (has_no_algebra t) (has_no_channels t) two;
       no_invariants = and-right (has_no_algebra t && has_no_channels t) (has_no_invariants t) three;
       no_received = and-right (has_no_algebra t && has_no_channels t && has_no_invariants t) (has_no_received t) built;
@@ -43,19 +54,13 @@ module _ (t : Source) (forms : HasForms t) where
   decls-and-edges : (every_decl is_no_channel t && every_edge (λ e. list_all only_syncs e.uses) t) ≡ true
   decls-and-edges = and-left (every_decl is_no_channel t && every_edge (λ e. list_all only_syncs e.uses) t) (every_item takes_no_channel t) forms.no_channels
 
-  -- ---- declarations
-
-  passes : (test : DeclTree → Bool) → every_decl test t ≡ true → (c : Component) → Member c (components_of t) → (d : DeclTree) → Member d (decls_of c) → test d ≡ true
-  passes test all c m d k = all-member test (decls_of c) d (bodies-pass t (λ b. list_all test (decls_in b)) all c (components-written t c m)) k
-
-  pub decl-algebra : (c : Component) → Member c (components_of t) → (d : DeclTree) → Member d (decls_of c) → is_no_algebra d ≡ true
-  decl-algebra = passes is_no_algebra (and-left (every_decl is_no_algebra t) (every_location has_no_equations t) forms.no_algebra)
+  -- ---- what is declared
 
   pub decl-channel : (c : Component) → Member c (components_of t) → (d : DeclTree) → Member d (decls_of c) → is_no_channel d ≡ true
-  decl-channel = passes is_no_channel (and-left (every_decl is_no_channel t) (every_edge (λ e. list_all only_syncs e.uses) t) decls-and-edges)
+  decl-channel = passes t is_no_channel (and-left (every_decl is_no_channel t) (every_edge (λ e. list_all only_syncs e.uses) t) decls-and-edges)
 
   pub decl-invariant : (c : Component) → Member c (components_of t) → (d : DeclTree) → Member d (decls_of c) → is_no_invariant d ≡ true
-  decl-invariant = passes is_no_invariant forms.no_invariants
+  decl-invariant = passes t is_no_invariant forms.no_invariants
 
   -- ---- each edge synchronises
 

@@ -1,5 +1,5 @@
--- A name that has a kind becomes an expression of that kind: a constant, a variable, a literal, a location or the argument of a
--- parameter.
+-- A name that has a kind becomes an expression of that kind: a constant, a variable, an input, an algebraic variable, a literal, a
+-- location or the argument of a parameter.
 use Rattle.std.proofs.Common.{◌≡◌, ℕ, zero, suc, ◌+◌, ◌<◌, pos, Bool, true, false, cond, inl, inr, List, [], ◌∷◌, ◌++◌, length, map, Option, Some, None, refl, sym, ◌∙◌, ap, subst, arith}
 use Rattle.std.specs.Prelude.{◌&&◌, ◌||◌, not, nat_lt, slice_get, int_le, int_lt, flat_map, filter_map, zip}
 use Rattle.std.specs.List.{list_any, position_or_len, cons_option}
@@ -19,18 +19,19 @@ use Rattle.cif_term.specs.Tree.{NetExpr, net_expr, n_number}
 use Rattle.cif_model.specs.Net.{Net}
 use Rattle.cif_model.specs.Kinds as net
 use Rattle.cif_model.specs.Kinds.{in_32_bits, places_of, stored_fits, fits, form_fits}
-use Rattle.cif_source.specs.Source.{InstanceTree, ParamTree, event_param, alg_param, location_param, instance_item, TypeTree, type_decl, enum_decl, event_decl, const_decl, alg_decl, input_decl, disc_decl, equation_decl, invariant_decl, marked_decl, SourceBody, group_body, automaton_body, Source}
+use Rattle.cif_source.specs.Source.{Text, DeclTree, InstanceTree, ParamTree, event_param, alg_param, location_param, instance_item, TypeTree, type_decl, enum_decl, event_decl, const_decl, alg_decl, input_decl, disc_decl, equation_decl, invariant_decl, marked_decl, SourceBody, group_body, automaton_body, Source}
 use Rattle.cif_source.specs.Components.{Component, blank, copy, specification_of, body_of, path_of, same_path, Entry, declared, literal, location, inner, definition, instance, parameter}
 use Rattle.cif_source.specs.Lookup.{ScopeEntry, reached, missing, blocked, definition_found, found, by_argument}
-use Rattle.cif_source.specs.Objects.{components_of, items_in, decls_of, locs_of, locs_in, declarations, variables, is_variable, number_in, automata, is_automaton, automaton_number}
+use Rattle.cif_source.specs.Objects.{components_of, items_in, decls_of, locs_of, locs_in, Declared, declarations, of_sort, declares, is_variable, is_input, is_alg, number_in, automata, is_automaton, automaton_number}
 use Rattle.cif_source.specs.Value.{constant}
 use Rattle.cif_source.proofs.NameLaws.{is_parameter, met, met_at, met_at-own, follow-met}
 use Rattle.cif_source.specs.Scoping.{as_instance, instances_of}
 use Rattle.cif_source.specs.Uses.{location_asked, is_asked}
 use Rattle.cif_rules.specs.Kinds.{Kind, bool_kind, int_kind, no_kind, same_kind, type_kind, kind_at, kind_of, Demand, operands}
-use Rattle.cif_rules.specs.Constants.{bound_values}
+use Rattle.cif_rules.specs.Constants.{bound_values, decl_types}
 use Rattle.cif_rules.specs.Demands.{asked_for, decl_demands, argument_demands, location_demands, Argument, arguments_at, arguments_in}
-use Rattle.cif_image.specs.Flat.{net_of_source, net_auto, net_stored, location_name}
+use Rattle.cif_image.specs.Flat.{net_of_source, net_auto, net_stored, net_alg, location_name}
+use Rattle.cif_image.specs.Types.{net_type}
 use Rattle.cif_image.specs.Translation.{net_object, net_name, net_with}
 use Rattle.cif_image.proofs.KeptLaws.{member-passes}
 use Rattle.cif_image.proofs.PathLaws.{path-told}
@@ -49,7 +50,6 @@ use Rattle.cif_fits.proofs.KindLaws.{texts-self, kind-self}
 use Rattle.cif_fits.proofs.ExprLaws.{is_valued, expr-fits}
 use Rattle.cif_fits.proofs.Places.{HoldsOfNames, HoldsOfThings, HoldsOfParameters, holds-of-names}
 use Rattle.cif_fits.proofs.SoundLaws.{IsSound, scopes, root}
-use Rattle.cif_fits.proofs.FormLaws.{decl-algebra}
 use Rattle.cif_fits.proofs.TypeLaws.{literal-fits, written, type-fits}
 
 -- ---- lists
@@ -145,22 +145,39 @@ module _ (t : Source) (s : IsSound t) where
   abbrev whole_net : Net
   whole_net = net_of_source t
 
-  -- ---- variables
+  -- ---- variables, inputs and algebraic variables
 
-  module _ (c : Component) (m : Member c (components_of t)) (x : TypeTree) (n : Ident) (e : Option Tree) (k : Member (disc_decl x n e) (decls_of c)) where
-    -- its number leads to it
-    variable-at : slice_get (whole_net).vars (number_in (variables (specification_of c)) c n.text) ≡ Some (net_stored (c, disc_decl x n e))
-    variable-at =
-        ap (λ r. slice_get (whole_net).vars (number_in (variables r) c n.text)) (root t s c m)
-        ∙ get-map net_stored (variables t) (number_in (variables t) c n.text) (c, disc_decl x n e)
-        (stands-at-number t s.few s.single is_variable c (disc_decl x n e) m k refl n.text (nat_list_eq_equiv.refl n.text))
+  -- the number of a declaration leads to what it becomes
+  number-leads : {A : Type 0} (sort : DeclTree → Bool) (f : Declared → A) (c : Component) → Member c (components_of t) → (d : DeclTree) → Member d (decls_of c) → sort d ≡ true → (x : Text) → declares x d ≡ true
+      → slice_get (map f (of_sort sort t)) (number_in (of_sort sort (specification_of c)) c x) ≡ Some (f (c, d))
+  number-leads sort f c m d k is x h =
+      ap (λ r. slice_get (map f (of_sort sort t)) (number_in (of_sort sort r) c x)) (root t s c m)
+      ∙ get-map f (of_sort sort t) (number_in (of_sort sort t) c x) (c, d) (stands-at-number t s.few s.single sort c d m k is x h)
 
-    pub variable-fits : is_valued (type_kind c x) ≡ true → stored_fits (net_kind (type_kind c x)) (slice_get (whole_net).vars (number_in (variables (specification_of c)) c n.text)) ≡ true
-    variable-fits v =
-        let f = type-fits t s whole_net c m x (written c (disc_decl x n e) x k (inl refl)) v in
-        ap (stored_fits (net_kind (type_kind c x))) variable-at
-        ∙ ap (net.same_kind (net_kind (type_kind c x))) f.same
-        ∙ kind-self (net_kind (type_kind c x))
+  module _ (c : Component) (m : Member c (components_of t)) (x : TypeTree) (n : Ident) (d : DeclTree) (k : Member d (decls_of c)) (typed : Member x (decl_types d)) (named : declares n.text d ≡ true)
+      (v : is_valued (type_kind c x) ≡ true) where
+    kind-stays : net.same_kind (net_kind (type_kind c x)) (net.kind_of (net_type c x).type_of (net_type c x).literals) ≡ true
+    kind-stays = ap (net.same_kind (net_kind (type_kind c x))) (type-fits t s whole_net c m x (written c d x k typed) v).same ∙ kind-self (net_kind (type_kind c x))
+
+    stored-there : (sort : DeclTree → Bool) → sort d ≡ true → stored_fits (net_kind (type_kind c x)) (Some (net_stored (c, d))) ≡ true
+        → stored_fits (net_kind (type_kind c x)) (slice_get (map net_stored (of_sort sort t)) (number_in (of_sort sort (specification_of c)) c n.text)) ≡ true
+    stored-there sort is fits = ap (stored_fits (net_kind (type_kind c x))) (number-leads sort net_stored c m d k is n.text named) ∙ fits
+
+  module _ (c : Component) (m : Member c (components_of t)) (x : TypeTree) (n : Ident) (v : is_valued (type_kind c x) ≡ true) where
+    pub variable-fits : (e : Option Tree) → Member (disc_decl x n e) (decls_of c) → form_fits whole_net None (net_kind (type_kind c x)) (net_object (c, declared (disc_decl x n e))) ≡ true
+    variable-fits e k =
+        stored-there c m x n (disc_decl x n e) k (inl refl) (nat_list_eq_equiv.refl n.text) v is_variable refl
+        (kind-stays c m x n (disc_decl x n e) k (inl refl) (nat_list_eq_equiv.refl n.text) v)
+
+    pub input-fits : Member (input_decl x n) (decls_of c) → form_fits whole_net None (net_kind (type_kind c x)) (net_object (c, declared (input_decl x n))) ≡ true
+    input-fits k =
+        stored-there c m x n (input_decl x n) k (inl refl) (nat_list_eq_equiv.refl n.text) v is_input refl
+        (kind-stays c m x n (input_decl x n) k (inl refl) (nat_list_eq_equiv.refl n.text) v)
+
+    pub alg-fits : (e : Option Tree) → Member (alg_decl x n e) (decls_of c) → form_fits whole_net None (net_kind (type_kind c x)) (net_object (c, declared (alg_decl x n e))) ≡ true
+    alg-fits e k =
+        ap (net.alg_fits (net_kind (type_kind c x))) (number-leads is_alg net_alg c m (alg_decl x n e) k refl n.text (nat_list_eq_equiv.refl n.text))
+        ∙ kind-stays c m x n (alg_decl x n e) k (inl refl) (nat_list_eq_equiv.refl n.text) v
 
   -- ---- constants
 
@@ -173,25 +190,23 @@ module _ (t : Source) (s : IsSound t) where
 
   -- ---- locations
 
+  -- the number of an automaton leads to it
+  pub automaton-at : (c : Component) → Member c (components_of t) → is_automaton (body_of c) ≡ true → slice_get (whole_net).autos (automaton_number (specification_of c) c) ≡ Some (net_auto c)
+  automaton-at c m is =
+      let listed = filter-member (λ a. is_automaton (body_of a)) (components_of t) c m is in
+      let at = at-position (λ a. same_path (path_of a) (path_of c)) (automata t) (member-passes (λ a. same_path (path_of a) (path_of c)) (automata t) c listed (texts-self (path_of c))) in
+      let there = filter-within (λ a. is_automaton (body_of a)) (components_of t) at.0 (at-member (automata t) (automaton_number t c) at.0 at.1) in
+      let one : at.0 ≡ c = paths-differ t (scopes t s) at.0 c there m (path-told (path_of at.0) (path_of c) at.2) in
+      ap (λ r. slice_get (whole_net).autos (automaton_number r c)) (root t s c m)
+      ∙ get-map net_auto (automata t) (automaton_number t c) at.0 at.1
+      ∙ ap (λ d. Some (net_auto d)) one
+
   module _ (c : Component) (m : Member c (components_of t)) (k : ℕ) (below : k < length (locs_of c)) where
-    automaton-listed : Member c (automata t)
-    automaton-listed = filter-member (λ a. is_automaton (body_of a)) (components_of t) c m (with-locations (body_of c) k below)
-
-    -- its number leads to the automaton
-    automaton-at : slice_get (whole_net).autos (automaton_number (specification_of c) c) ≡ Some (net_auto c)
-    automaton-at =
-        let at = at-position (λ a. same_path (path_of a) (path_of c)) (automata t) (member-passes (λ a. same_path (path_of a) (path_of c)) (automata t) c automaton-listed (texts-self (path_of c))) in
-        let there = filter-within (λ a. is_automaton (body_of a)) (components_of t) at.0 (at-member (automata t) (automaton_number t c) at.0 at.1) in
-        let is : at.0 ≡ c = paths-differ t (scopes t s) at.0 c there m (path-told (path_of at.0) (path_of c) at.2) in
-        ap (λ r. slice_get (whole_net).autos (automaton_number r c)) (root t s c m)
-        ∙ get-map net_auto (automata t) (automaton_number t c) at.0 at.1
-        ∙ ap (λ d. Some (net_auto d)) is
-
     place-below : (n : ℕ) → n ≡ length (locs_of c) → nat_lt k n ≡ true
     place-below n is = grind (arith, nat_tests)
 
     pub location-fits : form_fits whole_net None net.bool_kind (net_object (c, location k)) ≡ true
-    location-fits = ap (λ o. nat_lt k (places_of o)) automaton-at ∙ place-below (length (map location_name (locs_of c))) (map-length location_name (locs_of c))
+    location-fits = ap (λ o. nat_lt k (places_of o)) (automaton-at c m (with-locations (body_of c) k below)) ∙ place-below (length (map location_name (locs_of c))) (map-length location_name (locs_of c))
 
   -- ---- all
 
@@ -200,9 +215,9 @@ module _ (t : Source) (s : IsSound t) where
 
   thing-fits : (c : Component) (e : Entry) → Member c (components_of t) → IsOf c e → is_parameter e ≡ false → is_valued (kind_at (reached (c, e))) ≡ true → form_fits whole_net None (net_kind (kind_at (reached (c, e)))) (net_object (c, e)) ≡ true
   thing-fits c (declared (const_decl x n e)) l m p v = constant-fits c l x n e m v
-  thing-fits c (declared (disc_decl x n e)) l m p v = variable-fits c l x n e m v
-  thing-fits c (declared (alg_decl x n e)) l m p v = absurd (false-true refl (decl-algebra t s.forms c l (alg_decl x n e) m))
-  thing-fits c (declared (input_decl x n)) l m p v = absurd (false-true refl (decl-algebra t s.forms c l (input_decl x n) m))
+  thing-fits c (declared (disc_decl x n e)) l m p v = variable-fits c l x n v e m
+  thing-fits c (declared (alg_decl x n e)) l m p v = alg-fits c l x n v e m
+  thing-fits c (declared (input_decl x n)) l m p v = input-fits c l x n v m
   thing-fits c (declared (type_decl n x)) l m p v = absurd (false-true refl v)
   thing-fits c (declared (enum_decl n ls)) l m p v = absurd (false-true refl v)
   thing-fits c (declared (event_decl k h n)) l m p v = absurd (false-true refl v)

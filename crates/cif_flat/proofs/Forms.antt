@@ -16,4 +16,4 @@ pub declared-built : (t : Source) → is_built t ≡ true → (d : Declared) →
 declared-built t built d m =
     let c = declaration-cases t d m in
     let forms = forms-of t built in
-    record { algebra = decl-algebra t forms d.0 c.0 d.1 c.1; channel = decl-channel t forms d.0 c.0 d.1 c.1; invariant = decl-invariant t forms d.0 c.0 d.1 c.1 }
+    record { algebra = decl-algebra t built d.0 c.0 d.1 c.1; channel = decl-channel t forms d.0 c.0 d.1 c.1; invariant = decl-invariant t forms d.0 c.0 d.1 c.1 }

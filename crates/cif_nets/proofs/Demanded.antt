@@ -1,12 +1,12 @@
--- Each expression of a component has the kind that its position asks for, and so have the guards and the updates of an edge, where
--- nothing is received.
+-- Each expression of a component has the kind that its position asks for: those of declarations, equations, and the guards and the
+-- updates of an edge, where nothing is received.
 use Rattle.std.proofs.Common.{◌≡◌, inl, List, [], ◌∷◌, ◌++◌, refl, ◌∙◌, ap, subst}
 use Rattle.std.specs.Prelude.{flat_map}
 use Rattle.cif_ast.specs.Tree.{Tree}
 use Rattle.cif_system.specs.Words.{Member}
 use Rattle.cif_system.proofs.Picks.{append-left, append-right, flat_map-member}
 use Rattle.cif_system.proofs.Distinct.{member-flat_map}
-use Rattle.cif_source.specs.Source.{syncs, sends, receives, UseTree, EdgeTree, LocationTree, Source}
+use Rattle.cif_source.specs.Source.{syncs, sends, receives, UseTree, EdgeTree, EquationTree, LocationTree, DeclTree, Source}
 use Rattle.cif_source.specs.Components.{Component}
 use Rattle.cif_source.specs.Objects.{components_of, decls_of, locs_of}
 use Rattle.cif_rules.specs.Kinds.{Kind, bool_kind, int_kind, no_kind, enum_kind, Demand}
@@ -49,14 +49,29 @@ module _ (t : Source) (h : IsSound t) (c : Component) (m : Member c (components_
   all-met : AreMet c (demands c)
   all-met = demands-met t (matched t h) c (as-body t h c m)
 
+  pub decl-met : (d : DeclTree) → Member d (decls_of c) → AreMet c (decl_demands c d)
+  decl-met =
+      met-each c (decl_demands c) (decls_of c)
+      (met-right c (flat_map (asked_for c int_kind) (bound_values c)) (flat_map (decl_demands c) (decls_of c))
+      (met-left c (flat_map (asked_for c int_kind) (bound_values c) ++ flat_map (decl_demands c) (decls_of c)) (flat_map (argument_demands c) (arguments_in c))
+      (met-left c (flat_map (asked_for c int_kind) (bound_values c) ++ flat_map (decl_demands c) (decls_of c) ++ flat_map (argument_demands c) (arguments_in c)) (flat_map (location_demands c) (locs_of c)) all-met)))
+
+  location-met : (l : LocationTree) → Member l (locs_of c) → AreMet c (location_demands c l)
+  location-met =
+      met-each c (location_demands c) (locs_of c)
+      (met-right c (flat_map (asked_for c int_kind) (bound_values c) ++ flat_map (decl_demands c) (decls_of c) ++ flat_map (argument_demands c) (arguments_in c)) (flat_map (location_demands c) (locs_of c)) all-met)
+
+  pub equation-met : (l : LocationTree) → Member l (locs_of c) → (q : EquationTree) → Member q l.equations → AreMet c (equation_demands c q)
+  equation-met l k =
+      met-each c (equation_demands c) l.equations
+      (met-right c (flat_map (asked_for c bool_kind) l.marked) (flat_map (equation_demands c) l.equations)
+      (met-left c (flat_map (asked_for c bool_kind) l.marked ++ flat_map (equation_demands c) l.equations) (flat_map (edge_demands c) l.edges) (location-met l k)))
+
   edge-met : (e : EdgeTree) → Member e (edges_of c) → AreMet c (edge_demands c e)
   edge-met e k =
       let l = member-flat_map (λ (l : LocationTree). l.edges) e (locs_of c) k in
       met-each c (edge_demands c) l.0.edges
-      (met-right c (flat_map (asked_for c bool_kind) l.0.marked ++ flat_map (equation_demands c) l.0.equations) (flat_map (edge_demands c) l.0.edges)
-      (met-each c (location_demands c) (locs_of c)
-      (met-right c (flat_map (asked_for c int_kind) (bound_values c) ++ flat_map (decl_demands c) (decls_of c) ++ flat_map (argument_demands c) (arguments_in c)) (flat_map (location_demands c) (locs_of c)) all-met)
-      l.0 l.1)) e l.2
+      (met-right c (flat_map (asked_for c bool_kind) l.0.marked ++ flat_map (equation_demands c) l.0.equations) (flat_map (edge_demands c) l.0.edges) (location-met l.0 l.1)) e l.2
 
   pub guards-met : (e : EdgeTree) → Member e (edges_of c) → (g : Tree) → Member g e.guards → AreMet c (asked_for c bool_kind g)
   guards-met e k g i =

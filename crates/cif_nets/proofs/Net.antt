@@ -13,14 +13,14 @@ use Rattle.cif_model.specs.Exprs.{Written, writes_all, edge_values}
 use Rattle.cif_model.specs.Facts.{is_net, things, event_stands, stored_stands, auto_stands, alg_stands, exclusion_stands, invariant_stands, edge_stands, updates_stand, are_below, has, auto_targets, are_all_apart}
 use Rattle.cif_source.specs.Source.{tree_at, syncs, DeclTree, type_decl, enum_decl, event_decl, const_decl, alg_decl, input_decl, disc_decl, equation_decl, invariant_decl, marked_decl, SourceBody, group_body, automaton_body, AutomatonTree, Source}
 use Rattle.cif_source.specs.Components.{Component, as_written, body_of}
-use Rattle.cif_source.specs.Objects.{components_of, automata, is_automaton, locs_of, EventEdge, event_edges, events, variables, is_variable, Declared, declarations, decls_of}
+use Rattle.cif_source.specs.Objects.{components_of, automata, is_automaton, locs_of, EventEdge, event_edges, events, is_input, is_variable, is_alg, of_sort, Declared, declarations, decls_of}
 use Rattle.cif_source.specs.Step.{end_of, first_place, role_of}
 use Rattle.cif_rules.specs.BodyRules.{targets_of_all}
 use Rattle.cif_fits.specs.Forms.{HasSmallArguments}
 use Rattle.cif_fits.proofs.SoundLaws as fits
 use Rattle.cif_fits.proofs.TypeLaws.{type-fits}
 use Rattle.cif_image.specs.Built.{is_built}
-use Rattle.cif_image.specs.Flat.{net_of_source, net_auto, net_edge, net_event, net_stored, event_number, location_name, alphabet_of, monitored_in, sent_tree, net_updates_of, variable_number}
+use Rattle.cif_image.specs.Flat.{net_of_source, net_auto, net_edge, net_event, net_stored, net_alg, event_number, location_name, alphabet_of, monitored_in, sent_tree, net_updates_of, variable_number}
 use Rattle.cif_image.specs.Translation.{net_of, net_guard}
 use Rattle.cif_image.specs.Small.{HasSmallParts}
 use Rattle.cif_image.specs.WellFormed.{algebraic, KeepsBefore}
@@ -29,7 +29,8 @@ use Rattle.cif_fits.proofs.FormLaws.{way-syncs}
 use Rattle.cif_nets.proofs.Sound.{edge-written, IsSound, as-body}
 use Rattle.cif_nets.proofs.Forms.{automaton-home, edge-of}
 use Rattle.cif_nets.proofs.Things.{net-is, things-few, events-stand, declared-home}
-use Rattle.cif_nets.proofs.Types.{variable-stands}
+use Rattle.cif_nets.proofs.Types.{variable-stands, input-stands}
+use Rattle.cif_nets.proofs.Algebra.{alg-stands}
 use Rattle.cif_nets.proofs.Targets.{from-small, end-small, first-small}
 use Rattle.cif_nets.proofs.Alphabets.{edge-numbered, edge-inside, alphabet-below, monitors-inside}
 use Rattle.cif_nets.proofs.Demanded.{guards-met, updates-met}
@@ -152,26 +153,52 @@ module _ (t : Source) (h : IsSound t) (s : fits.IsSound t) (small : HasSmallPart
       let tree = automaton-tree (body_of c.0) is in
       ap (auto_stands (net_of_source t)) c.2 ∙ one-auto c.0 c.1 tree.0 tree.1 is)
 
-  -- ---- variables
+  -- ---- variables, inputs and algebraic variables
 
-  one-stored : (c : Component) → Member c (components_of t) → (d : DeclTree) → Member d (decls_of c) → is_variable d ≡ true → stored_stands (net_stored (c, d)) ≡ true
-  one-stored c m (disc_decl ty n e) k v = variable-stands t s c m ty n e k
-  one-stored c m (type_decl n ty) k v = absurd (false-true refl v)
-  one-stored c m (enum_decl n ls) k v = absurd (false-true refl v)
-  one-stored c m (event_decl x y n) k v = absurd (false-true refl v)
-  one-stored c m (const_decl ty n e) k v = absurd (false-true refl v)
-  one-stored c m (alg_decl ty n e) k v = absurd (false-true refl v)
-  one-stored c m (input_decl ty n) k v = absurd (false-true refl v)
-  one-stored c m (equation_decl q) k v = absurd (false-true refl v)
-  one-stored c m (invariant_decl i) k v = absurd (false-true refl v)
-  one-stored c m (marked_decl p) k v = absurd (false-true refl v)
+  -- what holds of each declaration of a sort holds of what all of them become
+  all-stand : {A : Type 0} (sort : DeclTree → Bool) (f : Declared → A) (test : A → Bool) → ((c : Component) → Member c (components_of t) → (d : DeclTree) → Member d (decls_of c) → sort d ≡ true → test (f (c, d)) ≡ true)
+      → list_all test (map f (of_sort sort t)) ≡ true
+  all-stand sort f test each =
+      all-from test (map f (of_sort sort t)) (λ x m.
+      let d = member-map f x (of_sort sort t) m in
+      let k = declared-home t h d.0 (filter-within (λ (d : Declared). sort d.1) (declarations t) d.0 d.1) in
+      ap test d.2 ∙ each d.0.0 k.0 d.0.1 k.1 (filter-passes (λ (d : Declared). sort d.1) (declarations t) d.0 d.1))
 
-  stored-stand : list_all stored_stands (map net_stored (variables t)) ≡ true
-  stored-stand =
-      all-from stored_stands (map net_stored (variables t)) (λ x m.
-      let d = member-map net_stored x (variables t) m in
-      let k = declared-home t h d.0 (filter-within (λ (d : Declared). is_variable d.1) (declarations t) d.0 d.1) in
-      ap stored_stands d.2 ∙ one-stored d.0.0 k.0 d.0.1 k.1 (filter-passes (λ (d : Declared). is_variable d.1) (declarations t) d.0 d.1))
+  one-variable : (c : Component) → Member c (components_of t) → (d : DeclTree) → Member d (decls_of c) → is_variable d ≡ true → stored_stands (net_stored (c, d)) ≡ true
+  one-variable c m (disc_decl ty n e) k v = variable-stands t s c m ty n e k
+  one-variable c m (type_decl n ty) k v = absurd (false-true refl v)
+  one-variable c m (enum_decl n ls) k v = absurd (false-true refl v)
+  one-variable c m (event_decl x y n) k v = absurd (false-true refl v)
+  one-variable c m (const_decl ty n e) k v = absurd (false-true refl v)
+  one-variable c m (alg_decl ty n e) k v = absurd (false-true refl v)
+  one-variable c m (input_decl ty n) k v = absurd (false-true refl v)
+  one-variable c m (equation_decl q) k v = absurd (false-true refl v)
+  one-variable c m (invariant_decl i) k v = absurd (false-true refl v)
+  one-variable c m (marked_decl p) k v = absurd (false-true refl v)
+
+  one-input : (c : Component) → Member c (components_of t) → (d : DeclTree) → Member d (decls_of c) → is_input d ≡ true → stored_stands (net_stored (c, d)) ≡ true
+  one-input c m (input_decl ty n) k v = input-stands t s c m ty n k
+  one-input c m (type_decl n ty) k v = absurd (false-true refl v)
+  one-input c m (enum_decl n ls) k v = absurd (false-true refl v)
+  one-input c m (event_decl x y n) k v = absurd (false-true refl v)
+  one-input c m (const_decl ty n e) k v = absurd (false-true refl v)
+  one-input c m (alg_decl ty n e) k v = absurd (false-true refl v)
+  one-input c m (disc_decl ty n e) k v = absurd (false-true refl v)
+  one-input c m (equation_decl q) k v = absurd (false-true refl v)
+  one-input c m (invariant_decl i) k v = absurd (false-true refl v)
+  one-input c m (marked_decl p) k v = absurd (false-true refl v)
+
+  one-alg : (c : Component) → Member c (components_of t) → (d : DeclTree) → Member d (decls_of c) → is_alg d ≡ true → alg_stands (net_of_source t) (net_alg (c, d)) ≡ true
+  one-alg c m (alg_decl ty n e) k v = alg-stands t h s small kept c m ty n e k
+  one-alg c m (type_decl n ty) k v = absurd (false-true refl v)
+  one-alg c m (enum_decl n ls) k v = absurd (false-true refl v)
+  one-alg c m (event_decl x y n) k v = absurd (false-true refl v)
+  one-alg c m (const_decl ty n e) k v = absurd (false-true refl v)
+  one-alg c m (input_decl ty n) k v = absurd (false-true refl v)
+  one-alg c m (disc_decl ty n e) k v = absurd (false-true refl v)
+  one-alg c m (equation_decl q) k v = absurd (false-true refl v)
+  one-alg c m (invariant_decl i) k v = absurd (false-true refl v)
+  one-alg c m (marked_decl p) k v = absurd (false-true refl v)
 
   -- ---- the net
 
@@ -181,10 +208,10 @@ module _ (t : Source) (h : IsSound t) (s : fits.IsSound t) (small : HasSmallPart
       net-tests (nat_le (things n) 100000) (list_all event_stands n.events) (list_all stored_stands n.inputs) (list_all stored_stands n.vars) (list_all (auto_stands n) n.autos) (list_all (alg_stands n) n.algs) (list_all (exclusion_stands n) n.exclusions) (list_all (invariant_stands n) n.invariants) (are_all_apart (map auto_targets n.autos))
       (le-true (things n) 100000 (things-few t h))
       (events-stand t h)
-      (ap (λ (x : Net). list_all stored_stands x.inputs) (net-is t h))
-      stored-stand
+      (all-stand is_input net_stored stored_stands one-input)
+      (all-stand is_variable net_stored stored_stands one-variable)
       autos-stand
-      (ap (λ (x : Net). list_all (alg_stands n) x.algs) (net-is t h))
+      (all-stand is_alg net_alg (alg_stands n) one-alg)
       (ap (λ (x : Net). list_all (exclusion_stands n) x.exclusions) (net-is t h))
       (ap (λ (x : Net). list_all (invariant_stands n) x.invariants) (net-is t h))
       (autos-apart t h)

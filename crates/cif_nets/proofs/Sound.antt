@@ -7,9 +7,9 @@ use Rattle.cif_source.specs.Components.{Component, specification_of, as_written}
 use Rattle.cif_source.specs.Objects.{components_of, most_objects, bodies, locs_in}
 use Rattle.cif_source.specs.Scoping.{UnknownDue, DuplicateDue, WrongKindDue}
 use Rattle.cif_source.proofs.ReachLaws.{frames-listed}
-use Rattle.cif_rules.specs.BodyRules.{edges_of, MismatchDue, InitialsDue, NotOwnDue, AssignedTwiceDue}
+use Rattle.cif_rules.specs.BodyRules.{edges_of, MismatchDue, InitialsDue, NotOwnDue, AssignedTwiceDue, EquationsDue}
 use Rattle.cif_rules.specs.InstanceRules.{AlphabetLacksDue, TooManyObjectsDue, ConstantRangeDue}
-use Rattle.cif_image.specs.WellFormed.{unknown, duplicate, wrong_kind, mismatch, initials, not_own, assigned_twice, alphabet_lacks, too_many_objects, constant_range, algebraic, KeepsBefore}
+use Rattle.cif_image.specs.WellFormed.{unknown, duplicate, wrong_kind, mismatch, initials, not_own, assigned_twice, equations, alphabet_lacks, too_many_objects, constant_range, algebraic, KeepsBefore}
 use Rattle.cif_image.proofs.RuleLaws.{few-kept}
 use Rattle.cif_image.proofs.DistinctLaws.{ScopesAreSingle}
 use Rattle.cif_image.proofs.SingleLaws.{scopes-single}
@@ -48,6 +48,9 @@ module _ (t : Source) (h : IsSound t) where
 
   pub once : (at : ℕ) → AssignedTwiceDue t at → ⊥
   once at = h.keeps (assigned_twice at) (omega arith)
+
+  pub defined : (at count : ℕ) → EquationsDue t at count → ⊥
+  defined at count = h.keeps (equations at count) (omega arith)
 
   pub alphabets : (at : ℕ) → AlphabetLacksDue t at → ⊥
   alphabets at = h.keeps (alphabet_lacks at) (omega arith)

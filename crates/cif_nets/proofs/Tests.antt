@@ -45,10 +45,6 @@ pub true-else : (b : Bool) → (b ≡ false → ⊥) → b ≡ true
 true-else true h = refl
 true-else false h = absurd (h refl)
 
-pub filter-nothing : {A : Type 0} (p : A → Bool) (xs : List A) → ((x : A) → Member x xs → p x ≡ false) → filter p xs ≡ []
-filter-nothing p [] h = refl
-filter-nothing p (x ∷ xs) h = ap (λ b. cond b (x ∷ filter p xs) (filter p xs)) (h x (inl refl)) ∙ filter-nothing p xs (λ y m. h y (inr m))
-
 pub one-any : {A : Type 0} (p : A → Bool) (xs : List A) → length (filter p xs) ≡ 1 → list_any p xs ≡ true
 one-any p [] e = absurd (omega (arith, e))
 one-any p (x ∷ xs) e =

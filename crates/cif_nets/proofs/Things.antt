@@ -1,4 +1,4 @@
--- The net of a source has automata, events and variables alone, no more than there may be, and no channels.
+-- The net of a source has automata, events, inputs, variables and algebraic variables alone, no more than there may be, and no channels.
 use Rattle.std.proofs.Common.{◌≡◌, ℕ, suc, ◌+◌, ◌≤◌, Bool, true, false, cond, inl, inr, List, [], ◌∷◌, length, map, refl, sym, ◌∙◌, ap, subst, arith}
 use Rattle.std.specs.Prelude.{flat_map, filter, sum}
 use Rattle.std.specs.List.{list_all}
@@ -11,42 +11,17 @@ use Rattle.cif_model.specs.Net.{NetAuto, Net}
 use Rattle.cif_model.specs.Facts.{things, event_stands}
 use Rattle.cif_source.specs.Source.{no_type, void_type, value_type, DeclTree, type_decl, enum_decl, event_decl, const_decl, alg_decl, input_decl, disc_decl, equation_decl, invariant_decl, marked_decl, Source}
 use Rattle.cif_source.specs.Components.{Component, body_of}
-use Rattle.cif_source.specs.Objects.{components_of, most_objects, automata, is_automaton, locs_of, event_edges, events, variables, is_event, is_input, is_variable, is_alg, Declared, declarations, decls_of}
+use Rattle.cif_source.specs.Objects.{components_of, most_objects, automata, is_automaton, locs_of, event_edges, events, inputs, variables, algs, is_event, is_input, is_variable, is_alg, Declared, declarations, decls_of}
 use Rattle.cif_rules.specs.InstanceRules.{decl_objects, component_objects, object_count}
-use Rattle.cif_image.specs.Built.{is_no_channel, is_no_invariant, is_no_algebra}
+use Rattle.cif_image.specs.Built.{is_no_channel, is_no_invariant}
 use Rattle.cif_image.specs.Flat.{net_of_source, net_auto, net_edge, net_event, net_stored, net_alg, net_exclusions, net_invariants, location_name}
 use Rattle.cif_image.proofs.RuleLaws.{declaration-cases, within-or-past, all-from}
 use Rattle.cif_image.proofs.NumberLaws.{append-kept}
 use Rattle.cif_image.proofs.StandingLaws.{flat-nothing}
-use Rattle.cif_fits.proofs.FormLaws.{decl-algebra, decl-channel, decl-invariant}
+use Rattle.cif_fits.proofs.FormLaws.{decl-channel, decl-invariant}
 use Rattle.cif_nets.proofs.Sound.{IsSound, sizes}
-use Rattle.cif_nets.proofs.Tests.{filter-nothing}
 
 -- ---- other forms
-
-no-input : (d : DeclTree) → is_no_algebra d ≡ true → is_input d ≡ false
-no-input (input_decl ty n) g = absurd (false-true refl g)
-no-input (alg_decl ty n e) g = refl
-no-input (equation_decl q) g = refl
-no-input (type_decl n ty) g = refl
-no-input (enum_decl n ls) g = refl
-no-input (event_decl k x n) g = refl
-no-input (const_decl ty n e) g = refl
-no-input (disc_decl ty n e) g = refl
-no-input (invariant_decl i) g = refl
-no-input (marked_decl e) g = refl
-
-no-alg : (d : DeclTree) → is_no_algebra d ≡ true → is_alg d ≡ false
-no-alg (alg_decl ty n e) g = absurd (false-true refl g)
-no-alg (input_decl ty n) g = refl
-no-alg (equation_decl q) g = refl
-no-alg (type_decl n ty) g = refl
-no-alg (enum_decl n ls) g = refl
-no-alg (event_decl k x n) g = refl
-no-alg (const_decl ty n e) g = refl
-no-alg (disc_decl ty n e) g = refl
-no-alg (invariant_decl i) g = refl
-no-alg (marked_decl e) g = refl
 
 no-exclusion : (c : Component) (d : DeclTree) → is_no_invariant d ≡ true → net_exclusions (c, d) ≡ []
 no-exclusion c (invariant_decl i) g = absurd (false-true refl g)
@@ -112,8 +87,12 @@ sort-length sort (c ∷ cs) =
       length-append (filter (λ (d : Declared). sort d.1) (map (λ d. (c, d)) (decls_of c))) (filter (λ (d : Declared). sort d.1) (flat_map (λ c. map (λ d. (c, d)) (decls_of c)) cs)),
     )
 
--- an event and a variable are one declaration each
-one-object : (d : DeclTree) → length (filter is_event (d ∷ [])) + length (filter is_variable (d ∷ [])) ≤ decl_objects d
+-- how many of these declarations are events, inputs, variables or algebraic variables
+abbrev counted : List DeclTree → ℕ
+counted ds = length (filter is_event ds) + length (filter is_input ds) + length (filter is_variable ds) + length (filter is_alg ds)
+
+-- each of them is one declaration
+one-object : (d : DeclTree) → counted (d ∷ []) ≤ decl_objects d
 one-object (event_decl c x n) = omega arith
 one-object (type_decl n ty) = omega arith
 one-object (enum_decl n ls) = omega arith
@@ -132,9 +111,21 @@ filter-first sort d ds =
       | false ↦ omega arith
     ])
 
-declared-fewer : (ds : List DeclTree) → length (filter is_event ds) + length (filter is_variable ds) ≤ sum (map decl_objects ds)
+declared-fewer : (ds : List DeclTree) → counted ds ≤ sum (map decl_objects ds)
 declared-fewer [] = omega arith
-declared-fewer (d ∷ ds) = omega (arith, declared-fewer ds, one-object d, filter-first is_event d ds, filter-first is_variable d ds, sum-map decl_objects (d ∷ ds), sum_by-cons decl_objects d ds, sum-map decl_objects ds)
+declared-fewer (d ∷ ds) =
+    omega (
+      arith,
+      declared-fewer ds,
+      one-object d,
+      filter-first is_event d ds,
+      filter-first is_input d ds,
+      filter-first is_variable d ds,
+      filter-first is_alg d ds,
+      sum-map decl_objects (d ∷ ds),
+      sum_by-cons decl_objects d ds,
+      sum-map decl_objects ds,
+    )
 
 abbrev auto_things : NetAuto → ℕ
 auto_things a = length a.locs + length a.edges
@@ -142,10 +133,14 @@ auto_things a = length a.locs + length a.edges
 abbrev autos_of : List Component → List Component
 autos_of cs = filter (λ c. is_automaton (body_of c)) cs
 
-things-fewer : (cs : List Component) → length (autos_of cs) + sum (map auto_things (map net_auto (autos_of cs))) + sort_total is_event cs + sort_total is_variable cs ≤ sum (map component_objects cs)
+-- those that components declare
+abbrev all_counted : List Component → ℕ
+all_counted cs = sort_total is_event cs + sort_total is_input cs + sort_total is_variable cs + sort_total is_alg cs
+
+things-fewer : (cs : List Component) → length (autos_of cs) + sum (map auto_things (map net_auto (autos_of cs))) + all_counted cs ≤ sum (map component_objects cs)
 things-fewer [] = omega arith
 things-fewer (c ∷ cs) =
-    (elim (is_automaton (body_of c)) as (λ b. length (cond b (c ∷ autos_of cs) (autos_of cs)) + sum (map auto_things (map net_auto (cond b (c ∷ autos_of cs) (autos_of cs)))) + sort_total is_event (c ∷ cs) + sort_total is_variable (c ∷ cs) ≤ sum (map component_objects (c ∷ cs))) [
+    (elim (is_automaton (body_of c)) as (λ b. length (cond b (c ∷ autos_of cs) (autos_of cs)) + sum (map auto_things (map net_auto (cond b (c ∷ autos_of cs) (autos_of cs)))) + all_counted (c ∷ cs) ≤ sum (map component_objects (c ∷ cs))) [
       | true ↦
           omega (
             arith,
@@ -169,9 +164,17 @@ things-fewer (c ∷ cs) =
 
 -- ---- the net
 
--- the automata, events and variables alone
+-- the automata, events, inputs, variables and algebraic variables alone
 abbrev data_net : Source → Net
-data_net t = record { autos = map net_auto (automata t); events = map net_event (events t); inputs = []; vars = map net_stored (variables t); algs = []; exclusions = []; invariants = [] }
+data_net t = record {
+  autos = map net_auto (automata t);
+  events = map net_event (events t);
+  inputs = map net_stored (inputs t);
+  vars = map net_stored (variables t);
+  algs = map net_alg (algs t);
+  exclusions = [];
+  invariants = [];
+}
 
 module _ (t : Source) (h : IsSound t) where
   pub declared-home : (d : Declared) → Member d (declarations t) → Member d.0 (components_of t) × Member d.1 (decls_of d.0)
@@ -181,9 +184,9 @@ module _ (t : Source) (h : IsSound t) where
   net-is = λ i. record {
     autos = map net_auto (automata t);
     events = map net_event (events t);
-    inputs = map net_stored (filter-nothing (λ (d : Declared). is_input d.1) (declarations t) (λ d m. let k = declared-home d m in no-input d.1 (decl-algebra t h.forms d.0 k.0 d.1 k.1)) i);
+    inputs = map net_stored (inputs t);
     vars = map net_stored (variables t);
-    algs = map net_alg (filter-nothing (λ (d : Declared). is_alg d.1) (declarations t) (λ d m. let k = declared-home d m in no-alg d.1 (decl-algebra t h.forms d.0 k.0 d.1 k.1)) i);
+    algs = map net_alg (algs t);
     exclusions = flat-nothing net_exclusions (declarations t) (λ d m. let k = declared-home d m in no-exclusion d.0 d.1 (decl-invariant t h.forms d.0 k.0 d.1 k.1)) i;
     invariants = flat-nothing net_invariants (declarations t) (λ d m. let k = declared-home d m in no-invariant d.0 d.1 (decl-invariant t h.forms d.0 k.0 d.1 k.1)) i;
   }
@@ -205,8 +208,12 @@ module _ (t : Source) (h : IsSound t) where
         objects,
         map-length net_event (events t),
         sort-counted is_event,
+        map-length net_stored (inputs t),
+        sort-counted is_input,
         map-length net_stored (variables t),
         sort-counted is_variable,
+        map-length net_alg (algs t),
+        sort-counted is_alg,
         map-length net_auto (automata t),
         ap length autos,
         ap (λ ds. sum (map auto_things (map net_auto ds))) autos,

@@ -1,4 +1,4 @@
--- The types that a source's types become are types of a net, and hold the first values of variables.
+-- The types that a source's types become are types of a net, and hold the first values of variables and inputs.
 use Rattle.std.proofs.Common.{◌≡◌, ℕ, zero, suc, ◌⊎◌, ℤ, pos, true, false, inl, inr, List, [], ◌∷◌, length, map, Option, Some, None, refl, sym, ◌∙◌, ap, arith}
 use Rattle.std.specs.Prelude.{◌&&◌, ◌-ℤ◌, int_le, int_lt, nat_lt, if◌then◌else◌}
 use Rattle.std.proofs.lemmas.Bool.Decides.{nat_tests}
@@ -20,10 +20,10 @@ use Rattle.cif_source.specs.Lookup.{Reached, reached, missing, blocked, found}
 use Rattle.cif_source.specs.Objects.{components_of, declarations, decls_of}
 use Rattle.cif_source.specs.Value.{constant}
 use Rattle.cif_source.specs.Types.{range_of, nearest_zero, first_of_type}
-use Rattle.cif_rules.specs.Constants.{types_of, Bounds, bounds_in, bounds_of, decl_constants, typed_constants}
+use Rattle.cif_rules.specs.Constants.{decl_types, types_of, Bounds, bounds_in, bounds_of, decl_constants, typed_constants}
 use Rattle.cif_rules.specs.InstanceRules.{FaultyConstant, LeavesRange, LongBound, EmptyRange}
 use Rattle.cif_image.specs.Types.{NetType, type_at, type_by, type_within, net_type}
-use Rattle.cif_image.specs.Flat.{net_of_source, net_stored}
+use Rattle.cif_image.specs.Flat.{net_of_source, stored_by, net_stored}
 use Rattle.cif_image.proofs.RuleLaws.{member-any}
 use Rattle.cif_image.proofs.TypeLaws.{range-same}
 use Rattle.cif_fits.proofs.SoundLaws.{IsSound, found-is}
@@ -57,7 +57,7 @@ near-typed (ty.Enum size) h = near-inside (pos 0) (pos size -ℤ pos 1) (some-li
 
 -- ---- types
 
-abbrev Fits : NetType → Type 0
+abbrev pub Fits : NetType → Type 0
 Fits n = (is_type n.type_of ≡ true) × (literals_fit n.type_of n.literals ≡ true)
 
 module _ (t : Source) (s : IsSound t) where
@@ -126,18 +126,36 @@ module _ (t : Source) (s : IsSound t) where
   within-fits zero = by-fits (λ c x. record { type_of = ty.Int (pos 0) (pos 0); literals = [] }) (λ c m x k. (refl, refl))
   within-fits (suc n) = by-fits (type_within n) (within-fits n)
 
+  -- the type of a declaration is one of the net, and has as many literals as that has
+  pub type-stands : (c : Component) → Member c (components_of t) → (d : DeclTree) → Member d (decls_of c) → (x : TypeTree) → Member x (decl_types d) → Fits (net_type c x)
+  type-stands c m d k x typed = within-fits (length (declarations (specification_of c))) c m x (written c d x k typed)
+
   -- ---- what is stored
 
+  -- the first value of a type is of it
+  nearest-inside : (c : Component) (x : TypeTree) → is_type (net_type c x).type_of ≡ true → in_range (type_range (net_type c x).type_of) (first_of_type c x None) ≡ true
+  nearest-inside c x is = ap (λ r. in_range (type_range (net_type c x).type_of) (nearest_zero r)) (sym (range-same c x)) ∙ near-typed (net_type c x).type_of is
+
   first-inside : (c : Component) → Member c (components_of t) → (x : TypeTree) (n : Ident) (e : Option Tree) → Member (disc_decl x n e) (decls_of c) → is_type (net_type c x).type_of ≡ true → in_range (type_range (net_type c x).type_of) (first_of_type c x e) ≡ true
-  first-inside c m x n None k is = ap (λ r. in_range (type_range (net_type c x).type_of) (nearest_zero r)) (sym (range-same c x)) ∙ near-typed (net_type c x).type_of is
+  first-inside c m x n None k is = nearest-inside c x is
   first-inside c m x n (Some e) k is =
       ap (λ r. in_range r (constant c e)) (range-same c x)
       ∙ value-inside c m x e (flat_map-member decl_constants (disc_decl x n (Some e)) (decls_of c) (x, e) k (inl refl))
 
+  by-stands : (c : Component) (x : TypeTree) (n : Ident) (e : Option Tree) → Fits (net_type c x) → in_range (type_range (net_type c x).type_of) (first_of_type c x e) ≡ true → stored_stands (stored_by c n x e) ≡ true
+  by-stands c x n e fits inside =
+      both (is_type (net_type c x).type_of && literals_fit (net_type c x).type_of (net_type c x).literals) (in_range (type_range (net_type c x).type_of) (first_of_type c x e))
+      (both (is_type (net_type c x).type_of) (literals_fit (net_type c x).type_of (net_type c x).literals) fits.0 fits.1)
+      inside
+
   -- a variable has a type, as many literals as that has, and a first value of it
   pub variable-stands : (c : Component) → Member c (components_of t) → (x : TypeTree) (n : Ident) (e : Option Tree) → Member (disc_decl x n e) (decls_of c) → stored_stands (net_stored (c, disc_decl x n e)) ≡ true
   variable-stands c m x n e k =
-      let fits = within-fits (length (declarations (specification_of c))) c m x (written c (disc_decl x n e) x k (inl refl)) in
-      both (is_type (net_type c x).type_of && literals_fit (net_type c x).type_of (net_type c x).literals) (in_range (type_range (net_type c x).type_of) (first_of_type c x e))
-      (both (is_type (net_type c x).type_of) (literals_fit (net_type c x).type_of (net_type c x).literals) fits.0 fits.1)
-      (first-inside c m x n e k fits.0)
+      let fits = type-stands c m (disc_decl x n e) k x (inl refl) in
+      by-stands c x n e fits (first-inside c m x n e k fits.0)
+
+  -- and so has an input
+  pub input-stands : (c : Component) → Member c (components_of t) → (x : TypeTree) (n : Ident) → Member (input_decl x n) (decls_of c) → stored_stands (net_stored (c, input_decl x n)) ≡ true
+  input-stands c m x n k =
+      let fits = type-stands c m (input_decl x n) k x (inl refl) in
+      by-stands c x n None fits (nearest-inside c x fits.0)

@@ -1,12 +1,12 @@
--- What holds in the body of a component holds in its declarations, its edges and the arguments of its instances, and bounds what
--- its edges assign.
-use Rattle.std.proofs.Common.{◌≡◌, ℕ, ◌<◌, inl, inr, List, [], ◌∷◌, map, length, sym, subst, arith}
+-- What holds in the body of a component holds in its declarations, its equations, its edges and the arguments of its instances, and
+-- bounds what its edges assign.
+use Rattle.std.proofs.Common.{◌≡◌, ℕ, ◌<◌, inl, inr, List, [], ◌∷◌, map, length, Some, None, refl, sym, subst, arith}
 use Rattle.std.specs.Prelude.{flat_map, filter_map}
 use Rattle.std.specs.List.{AllByRecursion, sum_by}
 use Rattle.std.proofs.lemmas.List.Sums.{sum_by-cons}
 use Rattle.cif_ast.specs.Tree.{Tree, declaration, component, definition, instance, ItemTrees, no_items, items, BodyTree, group, automaton}
 use Rattle.cif_ast.specs.View.{view}
-use Rattle.cif_ast.specs.Throughout.{HoldsInTree, HoldsInUpdateTrees, HoldsInExpr, HoldsInDecl, HoldsInEdge, HoldsInLoc, HoldsInItemTrees, HoldsInBodyTree}
+use Rattle.cif_ast.specs.Throughout.{HoldsInTree, HoldsInUpdateTrees, HoldsInExpr, HoldsInDecl, HoldsInEdge, HoldsInLocEquation, HoldsInLoc, HoldsInItemTrees, HoldsInBodyTree}
 use Rattle.cif_ast.specs.Countable.{count_of_edge, count_of_loc, count_of_body_tree}
 use Rattle.cif_ast.specs.SmallNumbers.{AreFewLiterals, small_parts}
 use Rattle.cif_ast.specs.declared.names.Ident.{Ident}
@@ -15,9 +15,10 @@ use Rattle.cif_ast.specs.declared.declarations.Decl.{Decl}
 use Rattle.cif_ast.specs.declared.declarations.Decl.TheVariants as decl
 use Rattle.cif_ast.specs.declared.edges.Edge.{Edge}
 use Rattle.cif_ast.specs.declared.edges.Loc.{Loc}
+use Rattle.cif_ast.specs.declared.edges.LocEquation.{LocEquation}
 use Rattle.cif_system.specs.Words.{Member}
 use Rattle.cif_system.proofs.Distinct.{member-append}
-use Rattle.cif_source.specs.Source.{EdgeTree, edge_tree, LocationTree, location_tree, InstanceTree, enum_decl, decl_tree, source_items, source_body, list_of_items}
+use Rattle.cif_source.specs.Source.{TypeTree, EdgeTree, edge_tree, EquationTree, equation_tree, LocationTree, location_tree, InstanceTree, DeclTree, enum_decl, alg_decl, equation_decl, decl_tree, source_items, source_body, list_of_items}
 use Rattle.cif_source.specs.Objects.{item_decls, items_in, decls_in, locs_in}
 use Rattle.cif_source.specs.Scoping.{as_instance}
 use Rattle.cif_rules.specs.BodyRules.{targets_of_all}
@@ -53,6 +54,76 @@ items-literals (items (instance i) is) h n ls m = items-literals is h.1 n ls m
 pub body-literals : (b : BodyTree) → HoldsInBodyTree small_parts b → (n : Ident) (ls : List Ident) → Member (enum_decl n ls) (decls_in (source_body b)) → AreFewLiterals ls
 body-literals (group is) h n ls m = items-literals is h n ls m
 body-literals (automaton a) h n ls m = decls-literals a.decls h.0 n ls m
+
+-- ---- definitions of algebraic variables
+
+decl-value : (d : Decl) → HoldsInDecl small_parts d → (ty : TypeTree) (n : Ident) (e : Tree) → alg_decl ty n (Some e) ≡ decl_tree d → HoldsInTree small_parts e
+decl-value (decl.Alg ty name (Some value)) h x n e is = let same : view value ≡ e = cc in subst (HoldsInTree small_parts) same h.1.0
+decl-value (decl.Alg ty name None) h x n e is = cc
+decl-value (decl.TypeName name ty) h x n e is = cc
+decl-value (decl.Enum name literals) h x n e is = cc
+decl-value (decl.Event class c name) h x n e is = cc
+decl-value (decl.Const ty name value) h x n e is = cc
+decl-value (decl.Input ty name) h x n e is = cc
+decl-value (decl.Disc ty name value) h x n e is = cc
+decl-value (decl.Equation name value) h x n e is = cc
+decl-value (decl.Inv i) h x n e is = cc
+decl-value (decl.Marked p) h x n e is = cc
+
+decl-equation : (d : Decl) → HoldsInDecl small_parts d → (q : EquationTree) → equation_decl q ≡ decl_tree d → HoldsInTree small_parts q.value
+decl-equation (decl.Equation name value) h q is = let same : record { name = name; value = view value } ≡ q = cc in subst (λ (x : EquationTree). HoldsInTree small_parts x.value) same h.0
+decl-equation (decl.Alg ty name value) h q is = cc
+decl-equation (decl.TypeName name ty) h q is = cc
+decl-equation (decl.Enum name literals) h q is = cc
+decl-equation (decl.Event class c name) h q is = cc
+decl-equation (decl.Const ty name value) h q is = cc
+decl-equation (decl.Input ty name) h q is = cc
+decl-equation (decl.Disc ty name value) h q is = cc
+decl-equation (decl.Inv i) h q is = cc
+decl-equation (decl.Marked p) h q is = cc
+
+-- what holds of each declaration with small parts holds of those of a body
+module _ (P : DeclTree → Type 0) (each : (d : Decl) → HoldsInDecl small_parts d → P (decl_tree d)) where
+  decls-each : (ds : List Decl) → AllByRecursion (HoldsInDecl small_parts) ds → (x : DeclTree) → Member x (map decl_tree ds) → P x
+  decls-each [] h x m = absurd m
+  decls-each (d ∷ ds) h x m = elim m [ inl e ↦ subst P (sym e) (each d h.0) | inr r ↦ decls-each ds h.1 x r ]
+
+  items-each : (is : ItemTrees) → HoldsInItemTrees small_parts is → (x : DeclTree) → Member x (flat_map item_decls (list_of_items (source_items is))) → P x
+  items-each no_items h x m = absurd m
+  items-each (items (declaration d) is) h x m = elim m [ inl e ↦ subst P (sym e) (each d h.0) | inr r ↦ items-each is h.1 x r ]
+  items-each (items (component n b) is) h x m = items-each is h.1 x m
+  items-each (items (definition n ps b) is) h x m = items-each is h.1 x m
+  items-each (items (instance i) is) h x m = items-each is h.1 x m
+
+  body-each : (b : BodyTree) → HoldsInBodyTree small_parts b → (x : DeclTree) → Member x (decls_in (source_body b)) → P x
+  body-each (group is) h x m = items-each is h x m
+  body-each (automaton a) h x m = decls-each a.decls h.0 x m
+
+-- the declared values of a body
+pub body-values : (b : BodyTree) → HoldsInBodyTree small_parts b → (ty : TypeTree) (n : Ident) (e : Tree) → Member (alg_decl ty n (Some e)) (decls_in (source_body b)) → HoldsInTree small_parts e
+body-values b h ty n e m =
+    body-each (λ x. (ty : TypeTree) (n : Ident) (e : Tree) → alg_decl ty n (Some e) ≡ x → HoldsInTree small_parts e) decl-value b h (alg_decl ty n (Some e)) m ty n e refl
+
+-- and its equations
+pub body-equations : (b : BodyTree) → HoldsInBodyTree small_parts b → (q : EquationTree) → Member (equation_decl q) (decls_in (source_body b)) → HoldsInTree small_parts q.value
+body-equations b h q m = body-each (λ x. (q : EquationTree) → equation_decl q ≡ x → HoldsInTree small_parts q.value) decl-equation b h (equation_decl q) m q refl
+
+equations-small : (qs : List LocEquation) → AllByRecursion (HoldsInLocEquation small_parts) qs → (q : EquationTree) → Member q (map equation_tree qs) → HoldsInTree small_parts q.value
+equations-small [] h q m = absurd m
+equations-small (x ∷ qs) h q m = elim m [ inl same ↦ subst (λ (y : EquationTree). HoldsInTree small_parts y.value) (sym same) h.0.0 | inr r ↦ equations-small qs h.1 q r ]
+
+locs-equations : (ls : List Loc) → AllByRecursion (HoldsInLoc small_parts) ls → (l : LocationTree) → Member l (map location_tree ls) → (q : EquationTree) → Member q l.equations → HoldsInTree small_parts q.value
+locs-equations [] h l m q k = absurd m
+locs-equations (x ∷ ls) h l m q k =
+    elim m [
+      | inl same ↦ equations-small x.equations h.0.1 q (subst (λ (y : LocationTree). Member q y.equations) same k)
+      | inr r ↦ locs-equations ls h.1 l r q k
+    ]
+
+-- and those of its locations
+pub body-located : (b : BodyTree) → HoldsInBodyTree small_parts b → (l : LocationTree) → Member l (locs_in (source_body b)) → (q : EquationTree) → Member q l.equations → HoldsInTree small_parts q.value
+body-located (group is) h l m q k = absurd m
+body-located (automaton a) h l m q k = locs-equations a.locs h.3 l m q k
 
 -- ---- edges
 

@@ -1,6 +1,6 @@
 -- Each body of a source stands for the tree of a body in the specification, so that it has small parts where the specification
 -- is counted and has small numbers.
-use Rattle.std.proofs.Common.{◌≡◌, ℕ, suc, ◌<◌, ◌^◌, inl, inr, map, sym, subst, refl, arith}
+use Rattle.std.proofs.Common.{◌≡◌, ℕ, suc, ◌<◌, ◌^◌, inl, inr, map, Some, sym, subst, refl, arith}
 use Rattle.std.specs.Prelude.{flat_map, filter_map}
 use Rattle.cif_ast.specs.Tree.{ItemTree, declaration, component, definition, instance, ItemTrees, no_items, items, BodyTree, group, automaton}
 use Rattle.cif_ast.specs.View.{view_items}
@@ -10,14 +10,14 @@ use Rattle.cif_ast.specs.SmallNumbers.{HasSmallNumbers, small_parts}
 use Rattle.cif_ast.specs.declared.components.Spec.{Spec}
 use Rattle.cif_system.specs.Words.{Member}
 use Rattle.cif_system.proofs.Distinct.{member-append}
-use Rattle.cif_source.specs.Source.{EdgeTree, LocationTree, enum_decl, param_tree, SourceBody, source_item, source_items, source_body, source_of}
+use Rattle.cif_source.specs.Source.{EdgeTree, LocationTree, enum_decl, alg_decl, equation_decl, param_tree, SourceBody, source_item, source_items, source_body, source_of}
 use Rattle.cif_source.specs.Components.{Component, whole, part, blank, body_of}
 use Rattle.cif_source.specs.Objects.{bodies, bodies_in, bodies_at, bodies_under, items_in, decls_in, locs_in}
 use Rattle.cif_source.specs.Scoping.{as_instance}
 use Rattle.cif_rules.specs.BodyRules.{edges_of}
 use Rattle.cif_image.specs.Small.{HasSmallParts}
 use Rattle.cif_fits.specs.Forms.{HasSmallArguments}
-use Rattle.cif_small.proofs.BodyLaws.{body-literals, body-edges, edge-guards, edge-updates, edge-few, body-arguments}
+use Rattle.cif_small.proofs.BodyLaws.{body-literals, body-values, body-equations, body-located, body-edges, edge-guards, edge-updates, edge-few, body-arguments}
 
 -- a body that is written, in which small parts stand, and that is counted below the limit
 pub record IsSmallBody (limit : ℕ) (b : SourceBody) : Type 0 where
@@ -73,6 +73,9 @@ small-parts spec counted small =
     body-edges (2 ^ 31) (all c m).written (all c m).holds (all c m).few x (subst (λ b. Member x (flat_map (λ (l : LocationTree). l.edges) (locs_in b))) (all c m).is k) in
     record {
       literals = λ c m n ls k. body-literals (all c m).written (all c m).holds n ls (subst (λ b. Member (enum_decl n ls) (decls_in b)) (all c m).is k);
+      declared = λ c m ty n e k. body-values (all c m).written (all c m).holds ty n e (subst (λ b. Member (alg_decl ty n (Some e)) (decls_in b)) (all c m).is k);
+      equations = λ c m q k. body-equations (all c m).written (all c m).holds q (subst (λ b. Member (equation_decl q) (decls_in b)) (all c m).is k);
+      located = λ c m l k. body-located (all c m).written (all c m).holds l (subst (λ b. Member l (locs_in b)) (all c m).is k);
       guards = λ c m x k. edge-guards (2 ^ 31) x (edge c m x k);
       updates = λ c m x k. edge-updates (2 ^ 31) x (edge c m x k);
       few = λ c m x k. edge-few (2 ^ 31) x (edge c m x k);
