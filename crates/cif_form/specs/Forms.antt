@@ -5,7 +5,7 @@ use Rattle.cif_source.specs.Source.{EdgeTree, LocationTree, DeclTree, ParamTree,
 use Rattle.cif_image.specs.Received.{without_received, updates_without, decl_without, param_without}
 use Rattle.cif_image.specs.Built.{is_nothing, only_syncs, is_no_algebra, is_no_channel, is_no_channel_param, is_no_invariant}
 
--- neither an input, an algebraic variable, an equation nor an invariant, an event that is no channel, and no `?` in it
+-- neither an algebraic variable, an equation nor an invariant, an event that is no channel, and no `?` in it
 abbrev pub decl_fits : DeclTree → Bool
 decl_fits d = is_no_algebra d && is_no_channel d && is_no_invariant d && decl_without d
 

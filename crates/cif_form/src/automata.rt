@@ -34,13 +34,13 @@ fn check_value(value: &Option<Expr>) -> Result<(), u32>
     }
 }
 
-/// A declaration of a type, an enumeration, a constant, a variable, an event that is no channel, or a marking predicate.
+/// A declaration of a type, an enumeration, a constant, an input, a variable, an event that is no channel, or a marking predicate.
 pub fn check_decl(decl: &Decl) -> Result<(), u32>
     ensures { Answers result (form.decl_fits (source.decl_tree decl.now)) }
 {
     match decl {
         Decl::Event { chan: Chan::No, .. } | Decl::Enum { .. } => Ok(()),
-        Decl::TypeName { name: _, ty } => check_type(ty),
+        Decl::TypeName { name: _, ty } | Decl::Input { ty, name: _ } => check_type(ty),
         Decl::Const { ty, name: _, value } => {
             check_type(ty)?;
             check_expr(value)
@@ -50,11 +50,9 @@ pub fn check_decl(decl: &Decl) -> Result<(), u32>
             check_value(value)
         }
         Decl::Marked(predicate) => check_expr(predicate),
-        Decl::Event { .. }
-        | Decl::Alg { .. }
-        | Decl::Input { .. }
-        | Decl::Equation { .. }
-        | Decl::Inv(_) => Err(decl_place(decl)),
+        Decl::Event { .. } | Decl::Alg { .. } | Decl::Equation { .. } | Decl::Inv(_) => Err(
+            decl_place(decl),
+        ),
     }
 }
 

@@ -1,7 +1,7 @@
 -- The forms of a source that are built so far. Each test names one form that is not built yet, and is about bodies as written.
 use Rattle.std.specs.Prelude.{Bool, true, false, ◌&&◌, List, [], ◌∷◌}
 use Rattle.std.specs.List.{list_all}
-use Rattle.cif_source.specs.Source.{ChannelTree, no_type, void_type, value_type, syncs, sends, receives, UseTree, EdgeTree, LocationTree, DeclTree, event_decl, alg_decl, input_decl, equation_decl, invariant_decl, ParamTree, event_param, SourceItem, definition_item, SourceBody, Source}
+use Rattle.cif_source.specs.Source.{ChannelTree, no_type, void_type, value_type, syncs, sends, receives, UseTree, EdgeTree, LocationTree, DeclTree, event_decl, alg_decl, equation_decl, invariant_decl, ParamTree, event_param, SourceItem, definition_item, SourceBody, Source}
 use Rattle.cif_source.specs.Components.{body_of}
 use Rattle.cif_source.specs.Objects.{bodies, items_in, decls_in, locs_in}
 use Rattle.cif_image.specs.Received.{decl_without, location_without, item_without}
@@ -63,11 +63,10 @@ is_no_invariant _ = true
 abbrev pub has_no_invariants : Source → Bool
 has_no_invariants t = every_decl is_no_invariant t
 
--- ---- inputs, algebraic variables and their equations
+-- ---- algebraic variables and their equations
 
 abbrev pub is_no_algebra : DeclTree → Bool
 is_no_algebra (alg_decl ty n e) = false
-is_no_algebra (input_decl ty n) = false
 is_no_algebra (equation_decl q) = false
 is_no_algebra _ = true
 
@@ -85,7 +84,7 @@ has_no_received t = every_decl decl_without t && every_location location_without
 
 -- ---- all
 
--- groups, automata, definitions and instances with events, locations and edges, discrete variables, constants, types, guards,
--- updates and marking predicates
+-- groups, automata, definitions and instances with events, locations and edges, inputs, discrete variables, constants, types,
+-- guards, updates and marking predicates
 abbrev pub is_built : Source → Bool
 is_built t = has_no_algebra t && has_no_channels t && has_no_invariants t && has_no_received t

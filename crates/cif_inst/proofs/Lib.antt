@@ -12,6 +12,8 @@ pub mod LackLaws
 pub mod AutomatonLaws
 pub mod TellLaws
 pub mod RowAutoLaws
+pub mod DeclarationLaws
+pub mod TypingLaws
 pub mod VariableLaws
 pub mod RuleLaws
 pub mod NetLaws

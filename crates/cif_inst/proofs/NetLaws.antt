@@ -6,10 +6,11 @@ use Rattle.std.specs.List.{position_or_len}
 use Rattle.std.proofs.lemmas.List.{length-append}
 use Rattle.cif_system.specs.Words.{Member}
 use Rattle.cif_system.proofs.Lists.{false-true, slice_get-below}
+use Rattle.cif_model.specs.Net.{Net}
 use Rattle.cif_model.specs.Facts.{is_net}
 use Rattle.cif_source.specs.Source.{Text, DeclTree, type_decl, enum_decl, event_decl, const_decl, alg_decl, input_decl, disc_decl, equation_decl, invariant_decl, marked_decl, AutomatonTree, SourceBody, group_body, automaton_body, Source}
 use Rattle.cif_source.specs.Components.{Component, whole, part, blank, copy, body_of, Path, path_of}
-use Rattle.cif_source.specs.Objects.{components_of, automata, is_automaton, locs_in, events, Declared, declarations, is_input, is_alg, variables}
+use Rattle.cif_source.specs.Objects.{components_of, automata, is_automaton, locs_in, events, Declared, declarations, is_alg, inputs, variables}
 use Rattle.cif_rules.specs.InstanceRules.{TooManyObjectsDue, ConstantRangeDue}
 use Rattle.cif_components.specs.declared.error.ComponentsErr.{ComponentsErr}
 use Rattle.cif_components.specs.declared.error.ComponentsErr.TheVariants as components
@@ -26,7 +27,7 @@ use Rattle.cif_net.specs.declared.data.Var.{Var}
 use Rattle.cif_net.specs.declared.data.Alg.{Alg}
 use Rattle.cif_net.specs.declared.predicates.Exclusion.{Exclusion}
 use Rattle.cif_net.specs.declared.predicates.Invariant.{Invariant}
-use Rattle.cif_net.specs.Parts.{auto_tree, event_tree, var_tree, net_of_parts}
+use Rattle.cif_net.specs.Parts.{auto_tree, event_tree, input_tree, var_tree, net_of_parts}
 use Rattle.cif_image.specs.Built.{is_no_algebra, is_no_invariant, is_built}
 use Rattle.cif_image.specs.Flat.{dotted, location_name, net_auto, net_event, net_stored, net_alg, net_exclusions, net_invariants, net_of_source}
 use Rattle.cif_image.specs.Represents.{Represents}
@@ -41,7 +42,8 @@ use Rattle.cif_translate.specs.declared.looking.Looking.{Looking}
 use Rattle.cif_inst.specs.Names.{AreBuiltNames}
 use Rattle.cif_inst.specs.Rows.{RowTree, prefix_of, row_for, rows_of}
 use Rattle.cif_inst.specs.Events.{rows_events}
-use Rattle.cif_inst.specs.Variables.{rows_variables}
+use Rattle.cif_inst.specs.Variables.{all_stored}
+use Rattle.cif_inst.specs.declared.declarations.Sort.TheVariants as sort
 use Rattle.cif_inst.specs.Autos.{is_initial, without_dot, auto_for, body_autos, rows_autos}
 use Rattle.cif_inst.specs.Net.{due, of_components, of_constants, KeepsInstances}
 use Rattle.cif_inst.specs.Alphabets.{rows_lacks, tells}
@@ -53,7 +55,7 @@ use Rattle.cif_inst.proofs.EventLaws.{events-are}
 use Rattle.cif_inst.proofs.AlphabetLaws.{alphabet-is, monitors-are}
 use Rattle.cif_inst.proofs.AutomatonLaws.{sound, edges}
 use Rattle.cif_inst.proofs.TellLaws.{lacks-due, lacks-none}
-use Rattle.cif_inst.proofs.VariableLaws.{variables-are}
+use Rattle.cif_inst.proofs.VariableLaws.{inputs-are, variables-are}
 use Rattle.cif_inst.proofs.RuleLaws.{no-roles, kept_before}
 
 -- ---- paths
@@ -119,18 +121,6 @@ filter-nothing : {A : Type 0} (p : A → Bool) (xs : List A) → ((x : A) → Me
 filter-nothing p [] h = refl
 filter-nothing p (x ∷ xs) h = ap (λ b. cond b (x ∷ filter p xs) (filter p xs)) (h x (inl refl)) ∙ filter-nothing p xs (λ y m. h y (inr m))
 
-no-input : (d : DeclTree) → is_no_algebra d ≡ true → is_input d ≡ false
-no-input (type_decl n ty) h = refl
-no-input (enum_decl n ls) h = refl
-no-input (event_decl k c n) h = refl
-no-input (const_decl ty n e) h = refl
-no-input (alg_decl ty n e) h = refl
-no-input (input_decl ty n) h = absurd (false-true refl h)
-no-input (disc_decl ty n e) h = refl
-no-input (equation_decl q) h = refl
-no-input (invariant_decl i) h = refl
-no-input (marked_decl p) h = refl
-
 no-alg : (d : DeclTree) → is_no_algebra d ≡ true → is_alg d ≡ false
 no-alg (type_decl n ty) h = refl
 no-alg (enum_decl n ls) h = refl
@@ -167,18 +157,22 @@ no-state c (equation_decl q) h = refl
 no-state c (invariant_decl i) h = absurd (false-true refl h)
 no-state c (marked_decl p) h = refl
 
-module _ (t : Source) (forms : HasForms t) where
+-- the automata, events, inputs and variables alone
+abbrev pub built_net : Source → Net
+built_net t = record { autos = map net_auto (automata t); events = map net_event (events t); inputs = map net_stored (inputs t); vars = map net_stored (variables t); algs = []; exclusions = []; invariants = [] }
+
+module _ (t : Source) (built : is_built t ≡ true) where
   no-algebra : (d : Declared) → Member d (declarations t) → is_no_algebra d.1 ≡ true
-  no-algebra d m = let p = declaration-cases t d m in decl-algebra t forms d.0 p.0 d.1 p.1
+  no-algebra d m = let p = declaration-cases t d m in decl-algebra t built d.0 p.0 d.1 p.1
 
   no-invariant : (d : Declared) → Member d (declarations t) → is_no_invariant d.1 ≡ true
-  no-invariant d m = let p = declaration-cases t d m in decl-invariant t forms d.0 p.0 d.1 p.1
+  no-invariant d m = let p = declaration-cases t d m in decl-invariant t (forms-of t built) d.0 p.0 d.1 p.1
 
-  pub net-parts : net_of_source t ≡ record { autos = map net_auto (automata t); events = map net_event (events t); inputs = []; vars = map net_stored (variables t); algs = []; exclusions = []; invariants = [] }
+  pub net-parts : net_of_source t ≡ built_net t
   net-parts = λ i. record {
     autos = map net_auto (automata t);
     events = map net_event (events t);
-    inputs = map net_stored (filter-nothing (λ (d : Declared). is_input d.1) (declarations t) (λ d m. no-input d.1 (no-algebra d m)) i);
+    inputs = map net_stored (inputs t);
     vars = map net_stored (variables t);
     algs = map net_alg (filter-nothing (λ (d : Declared). is_alg d.1) (declarations t) (λ d m. no-alg d.1 (no-algebra d m)) i);
     exclusions = flat-nothing net_exclusions (declarations t) (λ d m. no-exclusion d.0 d.1 (no-invariant d m)) i;
@@ -188,14 +182,15 @@ module _ (t : Source) (forms : HasForms t) where
 -- ---- the net
 
 -- what stands for the source's net
-pub record IsMade (l : Looking) (rows : List RowTree) (autos : List Auto) (all : List Event) (vars : List Var) : Type 0 where
+pub record IsMade (l : Looking) (rows : List RowTree) (autos : List Auto) (all : List Event) (ins : List Input) (vars : List Var) : Type 0 where
   pub names : AreBuiltNames l
   pub kinds : KeepsKinds (source_for l)
   pub kept : KeepsInstances (source_for l)
   pub of_source : rows ≡ rows_of (source_for l)
   pub made : map auto_tree autos ≡ rows_autos l 0 rows
   pub declared : map event_tree all ≡ rows_events rows
-  pub stored : map var_tree vars ≡ rows_variables (source_for l) 0 rows
+  pub read : map input_tree ins ≡ all_stored (source_for l) sort.Input rows
+  pub stored : map var_tree vars ≡ all_stored (source_for l) sort.Discrete rows
 
 pub built_names : (l : Looking) → AreNamesOf l → is_built (source_for l) ≡ true → KeepsKinds (source_for l) → AreBuiltNames l
 built_names l names built kinds = record { names = names; built = built; matched = kinds.mismatch }
@@ -215,37 +210,37 @@ pub source_fits : (l : Looking) → AreBuiltNames l → KeepsKinds (source_for l
     → is_net (net_of_source (source_for l)) ≡ true
 source_fits l names kinds kept nets small few = nets (source_for l) names.built (kept_before (source_for l) names.names.scopes.rules kinds kept) small few
 
-module _ (l : Looking) (rows : List RowTree) (autos : List Auto) (all : List Event) (vars : List Var) (m : IsMade l rows autos all vars) where
+module _ (l : Looking) (rows : List RowTree) (autos : List Auto) (all : List Event) (ins : List Input) (vars : List Var) (m : IsMade l rows autos all ins vars) where
   its-forms : HasForms (source_for l)
   its-forms = forms-of (source_for l) m.names.built
 
-  its-net : net_of_parts autos all [] vars [] [] [] ≡ net_of_source (source_for l)
+  its-net : net_of_parts autos all ins vars [] [] [] ≡ net_of_source (source_for l)
   its-net =
       (λ i. record {
         autos = autos-are l m.names rows autos m.of_source m.made i;
         events = (m.declared ∙ ap rows_events m.of_source ∙ events-are (source_for l) its-forms) i;
-        inputs = [];
-        vars = (m.stored ∙ ap (rows_variables (source_for l) 0) m.of_source ∙ variables-are (source_for l)) i;
+        inputs = (m.read ∙ ap (all_stored (source_for l) sort.Input) m.of_source ∙ inputs-are (source_for l)) i;
+        vars = (m.stored ∙ ap (all_stored (source_for l) sort.Discrete) m.of_source ∙ variables-are (source_for l)) i;
         algs = [];
         exclusions = [];
         invariants = [];
       })
-      ∙ sym (net-parts (source_for l) its-forms)
+      ∙ sym (net-parts (source_for l) m.names.built)
 
   its-rules : KeepsBefore (source_for l) algebraic
   its-rules = kept_before (source_for l) m.names.names.scopes.rules m.kinds m.kept
 
   -- with empty lists for what has no form yet
-  module _ (inputs : List Input) (algs : List Alg) (exclusions : List Exclusion) (invariants : List Invariant) (no_inputs : inputs ≡ []) (no_algs : algs ≡ []) (no_exclusions : exclusions ≡ []) (no_invariants : invariants ≡ []) where
-    whole-net : net_of_parts autos all inputs vars algs exclusions invariants ≡ net_of_source (source_for l)
-    whole-net = (λ k. net_of_parts autos all (no_inputs k) vars (no_algs k) (no_exclusions k) (no_invariants k)) ∙ its-net
+  module _ (algs : List Alg) (exclusions : List Exclusion) (invariants : List Invariant) (no_algs : algs ≡ []) (no_exclusions : exclusions ≡ []) (no_invariants : invariants ≡ []) where
+    whole-net : net_of_parts autos all ins vars algs exclusions invariants ≡ net_of_source (source_for l)
+    whole-net = (λ k. net_of_parts autos all ins vars (no_algs k) (no_exclusions k) (no_invariants k)) ∙ its-net
 
     pub fits_with : ((t : Source) → is_built t ≡ true → KeepsBefore t algebraic → HasSmallParts t → HasSmallArguments t → is_net (net_of_source t) ≡ true) → HasSmallParts (source_for l) → HasSmallArguments (source_for l)
-        → is_net (net_of_parts autos all inputs vars algs exclusions invariants) ≡ true
+        → is_net (net_of_parts autos all ins vars algs exclusions invariants) ≡ true
     fits_with nets small few = ap is_net whole-net ∙ source_fits l m.names m.kinds m.kept nets small few
 
     pub represents_with : ((t : Source) → is_built t ≡ true → KeepsBefore t algebraic → Represents (net_of_source t) t)
-        → Represents (net_of_parts autos all inputs vars algs exclusions invariants) (source_for l)
+        → Represents (net_of_parts autos all ins vars algs exclusions invariants) (source_for l)
     represents_with nets = subst (λ x. Represents x (source_for l)) (sym whole-net) (nets (source_for l) m.names.built its-rules)
 
 -- ---- refusals

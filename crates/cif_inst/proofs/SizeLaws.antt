@@ -13,8 +13,8 @@ use Rattle.cif_measure.proofs.IntervalLaws.{acyclic}
 use Rattle.cif_alg.specs.Tallies.{counted}
 use Rattle.cif_alg.specs.Outlines.{counted_auto, counted_exclusion, AreAsLarge}
 use Rattle.cif_source.specs.Source.{Source}
-use Rattle.cif_source.specs.Objects.{components_of, automata, events, variables}
-use Rattle.cif_image.specs.Flat.{net_auto, net_event, net_stored, net_of_source}
+use Rattle.cif_source.specs.Objects.{components_of, automata}
+use Rattle.cif_image.specs.Flat.{net_auto, net_of_source}
 use Rattle.cif_image.specs.NetRules.{TooLargeDue}
 use Rattle.cif_fits.proofs.FormLaws.{HasForms, forms-of}
 use Rattle.cif_translate.specs.Looking.{source_for}
@@ -32,7 +32,7 @@ use Rattle.cif_inst.specs.declared.error.InstErr.{InstErr}
 use Rattle.cif_inst.specs.declared.error.InstErr.TheVariants.{AlphabetLacks, TooManyObjects, ConstantRange, TooLarge, Memory}
 use Rattle.cif_inst.proofs.SoundLaws.{all-components}
 use Rattle.cif_inst.proofs.EventLaws.{events-are}
-use Rattle.cif_inst.proofs.NetLaws.{rows-made, net-parts}
+use Rattle.cif_inst.proofs.NetLaws.{rows-made, built_net, net-parts}
 use Rattle.cif_inst.proofs.OutlineLaws.{rows-as, edges_of, weights-are, depth_in, depth-append, together-deep}
 
 -- a count that stops is past its limit where the whole one is
@@ -63,8 +63,8 @@ module _ (l : Looking) (rows : List RowTree) (all : List Alphabet) (listed : Lis
   its-forms : HasForms t
   its-forms = forms-of t o.names.built
 
-  parts : net ≡ record { autos = map net_auto (automata t); events = map net_event (events t); inputs = []; vars = map net_stored (variables t); algs = []; exclusions = []; invariants = [] }
-  parts = net-parts t its-forms
+  parts : net ≡ built_net t
+  parts = net-parts t o.names.built
 
   no-algs : net.algs ≡ []
   no-algs = ap (λ (n : Net). n.algs) parts

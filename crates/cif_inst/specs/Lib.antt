@@ -1,4 +1,6 @@
 pub mod Rows
+pub mod Declarations
+pub mod Typing
 pub mod Views
 pub mod Events
 pub mod Names

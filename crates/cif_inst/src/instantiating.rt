@@ -26,7 +26,7 @@ use crate::events::all_events;
 use crate::measures::all_measures;
 use crate::rows::{Row, all_rows};
 use crate::sizes::check_sizes;
-use crate::variables::variables_of;
+use crate::variables::stored_of;
 use cif_alg::outlines_have_the_nodes_of_their_net;
 use cif_ast::Spec;
 use cif_base::Items;
@@ -94,7 +94,7 @@ fn net_of(alloc: Global, looking: &Looking<'_, '_>, constants: &Constants) -> Re
     let events = all_events(alloc, rows)?;
     let alphabets = alphabets_of(alloc, looking, rows, events.as_slice())?;
     let autos = all_autos(alloc, looking, rows, alphabets.as_slice())?;
-    let vars = variables_of(alloc, looking, rows, constants)?;
+    let stored = stored_of(alloc, looking, rows, constants)?;
     counted_trees_have_small_parts();
     trees_have_small_arguments();
     nets_of_sources_are_nets();
@@ -102,8 +102,8 @@ fn net_of(alloc: Global, looking: &Looking<'_, '_>, constants: &Constants) -> Re
     Ok(Net {
         autos,
         events,
-        inputs: Items::new(alloc),
-        vars,
+        inputs: stored.inputs,
+        vars: stored.vars,
         algs: Items::new(alloc),
         exclusions: Items::new(alloc),
         invariants: Items::new(alloc),

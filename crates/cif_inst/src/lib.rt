@@ -1,10 +1,11 @@
 //! The flat net of a CIF source: names are numbers there, and every component has its path, an instance of a definition as well as
 //! one that is written where it stands (CIF 3 language reference, "Groups", "Automata", "Component definition and
-//! instantiation", "Synchronization", "Discrete variables").
+//! instantiation", "Synchronization", "Discrete variables", "Input variables").
 #![tactic(auto)]
 
 mod alphabets;
 mod autos;
+mod declarations;
 mod edges;
 mod error;
 mod events;
@@ -14,6 +15,7 @@ mod outlines;
 mod rows;
 mod sizes;
 mod targets;
+mod typing;
 mod used;
 mod variables;
 

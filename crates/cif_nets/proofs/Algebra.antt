@@ -40,19 +40,13 @@ use Rattle.cif_fits.proofs.ExprLaws.{is_valued, kind-told}
 use Rattle.cif_fits.proofs.TypeLaws.{written}
 use Rattle.cif_fits.proofs.NameLaws.{mapped-member, automaton-at}
 use Rattle.cif_nets.proofs.Sound.{IsSound, as-body, scopes, defined}
-use Rattle.cif_nets.proofs.Tests.{both, lt-true, eq-true, eq-told, contained}
+use Rattle.cif_nets.proofs.Tests.{both, lt-true, eq-true}
+use Rattle.cif_nets.proofs.Defined.{located-once, some-automaton}
 use Rattle.cif_nets.proofs.Demanded.{met-left, decl-met, equation-met}
 use Rattle.cif_nets.proofs.Updates.{KeepKinds}
 use Rattle.cif_nets.proofs.Types.{type-stands}
 
 -- ---- lists
-
-one-else : (n : ℕ) → (n ≢ 1 → ⊥) → n ≡ 1
-one-else n h =
-    (elim (nat_eq n 1) as (λ b. nat_eq n 1 ≡ b → n ≡ 1) [
-      | true ↦ λ e. eq-told n 1 e
-      | false ↦ λ e. absurd (let g : n ≢ 1 = grind (arith, nat_tests) in h g)
-    ]) refl
 
 -- what is kept of a list comes from an element of it
 kept-from : {A B : Type 0} (f : A → Option B) (y : B) (xs : List A) → Member y (filter_map f xs) → (x : A) × Member x xs × (f x ≡ Some y)
@@ -90,26 +84,6 @@ decl-equation-told x (input_decl ty n) e h = absurd (none-some e h)
 decl-equation-told x (disc_decl ty n v) e h = absurd (none-some e h)
 decl-equation-told x (invariant_decl i) e h = absurd (none-some e h)
 decl-equation-told x (marked_decl p) e h = absurd (none-some e h)
-
--- ---- how many definitions
-
-counts-written : (c : Component) (x : Text) (e : Option Tree) → definition_counts c x e ≡ definition_counts (as_written c) x e
-counts-written (whole is) x e = refl
-counts-written (part o n b) x e = refl
-counts-written (blank o n ps b) x e = refl
-counts-written (copy o n ps b g i) x e = refl
-
--- those of a body, which a group counts once and an automaton for each location
-abbrev counts_in : SourceBody → ℕ → (LocationTree → ℕ) → List ℕ
-counts_in b own placed = elim b [ group_body is ↦ own ∷ [] | automaton_body a ↦ map placed a.locs ]
-
-placed-counted : (b : SourceBody) (own : ℕ) (placed : LocationTree → ℕ) (l : LocationTree) → Member l (locs_in b) → Member (placed l) (counts_in b own placed)
-placed-counted (group_body is) own placed l m = absurd m
-placed-counted (automaton_body a) own placed l m = map-member placed l a.locs m
-
-own-counted : (b : SourceBody) (own : ℕ) (placed : LocationTree → ℕ) → is_automaton b ≡ false → Member own (counts_in b own placed)
-own-counted (group_body is) own placed h = inl refl
-own-counted (automaton_body a) own placed h = absurd (false-true h refl)
 
 module _ (t : Source) (h : IsSound t) (s : fits.IsSound t) (small : HasSmallParts t) (kept : KeepKinds t) (c : Component) (m : Member c (components_of t)) where
   -- what stands in a component stands in it as written
@@ -170,35 +144,6 @@ module _ (t : Source) (h : IsSound t) (s : fits.IsSound t) (small : HasSmallPart
         let q = kept-from (equation_for n.text) d l.equations j in
         equation-fits q.0 d q.2 (equation-met t h c m l i q.0 q.1) (small.located (as_written c) (as-body t h c m) l (location-written l i) q.0 q.1)
 
-    -- ---- there is one
-
-    listed : Member {A = Ident × Option Tree} (n, e) (algs_of (as_written c))
-    listed = mapped-member alg_of (alg_decl x n e) (decls_of (as_written c)) (n, e) (decl-written (alg_decl x n e) k) refl
-
-    once : (count : ℕ) → Member count (definition_counts c n.text e) → count ≡ 1
-    once count i =
-        one-else count (λ other.
-        defined t h n.at count
-        (member-any (λ (b : Component). Any (λ (a : Ident × Option Tree). (a.0.at ≡ n.at) × Contains (definition_counts b a.0.text a.1) count × (count ≢ 1)) (algs_of b)) (as_written c) (bodies t) (as-body t h c m)
-        (member-any (λ (a : Ident × Option Tree). (a.0.at ≡ n.at) × Contains (definition_counts (as_written c) a.0.text a.1) count × (count ≢ 1)) (n, e) (algs_of (as_written c)) listed
-        (refl, contained (definition_counts (as_written c) n.text e) count (subst (Member count) (counts-written c n.text e) i), other))))
-
-    abbrev placed : LocationTree → ℕ
-    placed l = length (own_definitions c n.text e ++ location_definitions n.text l)
-
-    located-once : own_definitions c n.text e ≡ [] → (l : LocationTree) → Member l (locs_of c) → length (location_definitions n.text l) ≡ 1
-    located-once none l i =
-        ap (λ ds. length (ds ++ location_definitions n.text l)) (sym none)
-        ∙ once (placed l) (placed-counted (body_of c) (length (own_definitions c n.text e)) placed l i)
-
-    -- what has no definition of its own is a variable of an automaton
-    some-automaton : own_definitions c n.text e ≡ [] → is_automaton (body_of c) ≡ true
-    some-automaton none =
-        (elim (is_automaton (body_of c)) as (λ b. is_automaton (body_of c) ≡ b → b ≡ true) [
-          | true ↦ λ g. refl
-          | false ↦ λ g. absurd (omega (arith, ap length none, once (length (own_definitions c n.text e)) (own-counted (body_of c) (length (own_definitions c n.text e)) placed g)))
-        ]) refl
-
     -- ---- the value
 
     abbrev value_fits : AlgValue → Bool
@@ -218,14 +163,14 @@ module _ (t : Source) (h : IsSound t) (s : fits.IsSound t) (small : HasSmallPart
     located-stand none =
         let autos = (net_of_source t).autos in
         let number = automaton_number (specification_of c) c in
-        let at = automaton-at t s c m (some-automaton none) in
+        let at = automaton-at t s c m (some-automaton t (defined t h) c m x n e k none) in
         both (nat_lt number (length autos) && nat_eq (length (map located (locs_of c))) (places_of (slice_get autos number))) (list_all (fits (net_of_source t) None kind) (map located (locs_of c)))
         (both (nat_lt number (length autos)) (nat_eq (length (map located (locs_of c))) (places_of (slice_get autos number)))
         (lt-true number (length autos) (slice_get-below autos number (net_auto c) at))
         (eq-true (length (map located (locs_of c))) (places_of (slice_get autos number)) (map-length located (locs_of c) ∙ sym (ap places_of at ∙ map-length location_name (locs_of c)))))
         (all-from (fits (net_of_source t) None kind) (map located (locs_of c)) (λ y i.
         let l = member-map located y (locs_of c) i in
-        ap (fits (net_of_source t) None kind) l.2 ∙ definition-fits (location_definitions n.text l.0) (located-once none l.0 l.1) (located-fits l.0 l.1)))
+        ap (fits (net_of_source t) None kind) l.2 ∙ definition-fits (location_definitions n.text l.0) (located-once t (defined t h) c m x n e k none l.0 l.1) (located-fits l.0 l.1)))
 
     value-stands : value_fits (net_alg_value c n.text e) ≡ true
     value-stands =

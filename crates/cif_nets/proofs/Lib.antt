@@ -11,6 +11,7 @@ pub mod Alphabets
 pub mod Demanded
 pub mod Assigning
 pub mod Updates
+pub mod Defined
 pub mod Algebra
 pub mod Distinct
 pub mod Apart

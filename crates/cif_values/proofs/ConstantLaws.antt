@@ -27,10 +27,13 @@ pub declared-type : (c : Component) (d : DeclTree) (ty : TypeTree) → Member d 
 declared-type c d ty m g = append-right ty (flat_map param_types (params_of c)) (flat_map decl_types (decls_of c)) (flat_map-member decl_types d (decls_of c) ty m g)
 
 -- the value of a constant, or a first value
-pub declared-constant : (c : Component) (d : DeclTree) (v : TypeTree × Tree) → Member d (decls_of c) → Member v (decl_constants d) → Member v.1 (constants_of c)
-declared-constant c d v m g =
+pub typed-constant : (c : Component) (v : TypeTree × Tree) → Member v (typed_constants c) → Member v.1 (constants_of c)
+typed-constant c v m =
     append-right v.1 (bound_values c) (map (λ (w : TypeTree × Tree). w.1) (typed_constants c))
-    (map-member (λ (w : TypeTree × Tree). w.1) v (typed_constants c) (flat_map-member decl_constants d (decls_of c) v m g))
+    (map-member (λ (w : TypeTree × Tree). w.1) v (typed_constants c) m)
+
+pub declared-constant : (c : Component) (d : DeclTree) (v : TypeTree × Tree) → Member d (decls_of c) → Member v (decl_constants d) → Member v.1 (constants_of c)
+declared-constant c d v m g = typed-constant c v (flat_map-member decl_constants d (decls_of c) v m g)
 
 -- a bound of a type
 pub bound-constant : (c : Component) (lower upper e : Tree) → Member (range_type lower upper) (types_of c) → Member e (lower ∷ upper ∷ []) → Member e (constants_of c)

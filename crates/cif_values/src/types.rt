@@ -1,21 +1,21 @@
 //! The types of the flat net that types of a source become, and the first values of variables.
 
-ghost use Rattle.std.specs.Prelude.{◌≡◌, ℕ, map, option_map, IfOk};
+ghost use Rattle.std.specs.Prelude.{◌≡◌, ℕ, map, IfOk};
 ghost use Rattle.cif_ast.specs.View.{view};
+ghost use Rattle.cif_ast.specs.Tree.{Tree};
 ghost use Rattle.cif_ast.specs.declared.names.Ident.{Ident};
 ghost use Rattle.cif_system.specs.Words.{Member};
-ghost use Rattle.cif_source.specs.Source.{Source, type_tree, disc_decl};
+ghost use Rattle.cif_source.specs.Source.{Source, type_tree};
 ghost use Rattle.cif_source.specs.Components.{Component, as_written};
-ghost use Rattle.cif_source.specs.Objects.{components_of, decls_of};
+ghost use Rattle.cif_source.specs.Objects.{components_of};
 ghost use Rattle.cif_source.specs.Types.{first_of_type};
-ghost use Rattle.cif_rules.specs.Constants.{types_of};
-ghost use Rattle.cif_rules.specs.InstanceRules.{ConstantRangeDue};
+ghost use Rattle.cif_rules.specs.Constants.{types_of, typed_constants};
 ghost use Rattle.cif_scope.specs.Tables.{IsBody};
 ghost use Rattle.cif_constants.specs.Slots.{row_of, slot_of, decl_at};
 ghost use Rattle.cif_constants.specs.Typed.{IsTyped};
 ghost use Rattle.cif_image.specs.Types.{net_type};
 ghost use Rattle.cif_values.specs.Leaves as leaves;
-ghost use Rattle.cif_values.specs.Types.{net_type_of};
+ghost use Rattle.cif_values.specs.Types.{net_type_of, given_tree, typed_value};
 
 use cif_ast::{Decl, Expr, Ident, TypeUse};
 use cif_base::{Items, Memory, Text, Ty};
@@ -182,19 +182,19 @@ pub fn type_of(
     net_ty(alloc, leaf_of(types, turns, body, ty))
 }
 
-/// The value that a variable has at first in a component which is written as this body: its first value, or else the value of its
-/// type that is nearest to 0. `turns` is as for `type_of` (CIF 3 language reference, "Discrete variables").
+/// The value that a variable or an input has at first in a component which is written as this body: its first value, or else the value
+/// of its type that is nearest to 0. `turns` is as for `type_of` (CIF 3 language reference, "Discrete variables", "Input variables").
 pub fn first_value(
     types: &Types<'_>,
     turns: usize,
     body: u32,
     ty: &TypeUse,
-    value: &Option<Expr>,
+    value: Option<&Expr>,
 ) -> Result<i64, Memory>
-    ensures { (t : Source) (c : Component) (n : Ident) → IsTyped t types.now turns → ((at : ℕ) → ConstantRangeDue t at → ⊥)
-        → Member c (components_of t) → IsBody t body (as_written c)
-        → Member (disc_decl (type_tree ty.now) n (option_map view value.now)) (decls_of c)
-        → IfOk result (λ z. z ≡ first_of_type c (type_tree ty.now) (option_map view value.now)) }
+    ensures { (t : Source) (c : Component) → IsTyped t types.now turns → Member c (components_of t) → IsBody t body (as_written c)
+        → Member (type_tree ty.now) (types_of c)
+        → ((e : Tree) → given_tree value.entry ≡ Some e → Member (typed_value (type_tree ty.now) e) (typed_constants c))
+        → IfOk result (λ z. z ≡ first_of_type c (type_tree ty.now) (given_tree value.entry)) }
 {
     match value {
         Some(value) => Ok(value_or_zero(types, body, value)),

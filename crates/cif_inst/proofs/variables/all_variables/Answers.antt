@@ -1,6 +1,23 @@
-use Rattle.cif_inst.proofs.VariableLaws.{stands_row}
+use Rattle.std.proofs.Common.{[], ◌∷◌, ◌++◌, map, ◌∙◌, ap}
+use Rattle.std.proofs.lemmas.List.{map-append}
+use Rattle.cif_model.specs.Net.{NetStored}
+use Rattle.cif_net.specs.View.{var_tree}
+use Rattle.cif_inst.specs.Typing.{typed_source}
+use Rattle.cif_inst.specs.Variables.{stored}
+use Rattle.cif_inst.specs.Views.{datum_tree}
+use Rattle.cif_inst.proofs.TypingLaws.{datum_listed, kept_more}
 use Rattle.cif_inst.proofs.variables.all_variables.Goals as goal
 
-pub add_row-requires : goal.add_row-requires
-add_row-requires c =
-    stands_row c.args.typing.now c.args.rows.now c.loop-place.place c.in_ok-number.field-0 c.index-rows-place.result c.requires.types c.requires.rows c.loop-place-test.true c.index-rows-place.is c.in_ok-number.ensures.is
+pub variable-requires : goal.variable-requires
+variable-requires c = c.requires (datum_tree c.datum-item.result) (datum_listed c.args.found.now c.loop-datum.datum-index c.datum-item.result c.loop-datum-test.true c.datum-item.is)
+
+pub loop-datum-preserved : goal.loop-datum-preserved
+loop-datum-preserved c =
+    kept_more (stored (typed_source c.args.typing.now)) c.args.found.now c.loop-datum.datum-index c.datum-item.result (map var_tree c.loop-datum.all) (map var_tree c.push.new.self)
+    (map (stored (typed_source c.args.typing.now)) (map datum_tree c.args.found.now)) c.loop-datum-test.true c.datum-item.is
+    (
+    ap (map var_tree) c.in_ok-push.ensures.ok
+    ∙ map-append var_tree c.loop-datum.all (c.in_ok-variable.field-0 ∷ [])
+    ∙ ap (λ (x : NetStored). map var_tree c.loop-datum.all ++ x ∷ []) c.in_ok-variable.ensures
+    )
+    c.loop-datum.invariant

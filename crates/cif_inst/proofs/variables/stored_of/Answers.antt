@@ -3,11 +3,11 @@ use Rattle.cif_ast.specs.declared.declarations.Decl.{Decl}
 use Rattle.cif_constants.specs.Slots.{row_of}
 use Rattle.cif_translate.specs.Looking.{source_for}
 use Rattle.cif_inst.proofs.RuleLaws.{bounds_kept}
-use Rattle.cif_inst.proofs.variables.variables_of.Goals as goal
+use Rattle.cif_inst.proofs.variables.stored_of.Goals as goal
 
-pub all_variables-requires-clause-types : goal.all_variables-requires-clause-types
-all_variables-requires-clause-types c = record {
-  components = c.requires.names.components;
+pub all_stored-requires-clause-types : goal.all_stored-requires-clause-types
+all_stored-requires-clause-types c = record {
+  names = c.requires.names;
   typed = record {
     numbers = c.requires.names.scopes.numbers;
     few = c.requires.names.components.few;
@@ -17,5 +17,4 @@ all_variables-requires-clause-types c = record {
     rows = ap (λ (rs : List (List (Option (Bor Decl)))). map row_of rs) c.as_slice.ensures ∙ c.in_ok-declared.ensures;
     counted = c.in_ok-turns.ensures;
   };
-  ranges = c.requires.ranges;
 }

@@ -1,0 +1,7 @@
+use Rattle.std.proofs.Common.{◌≡◌, ◌++◌, map, drop}
+use Rattle.cif_inst.specs.Declarations.{rows_data}
+use Rattle.cif_inst.specs.Views.{row_tree, datum_tree}
+use Rattle.cif_inst.proofs.declarations.data_of.Given as goal
+
+abbrev pub invariant-loop-place : goal.invariant-loop-place
+invariant-loop-place l = map datum_tree l.all.items ++ rows_data l.sort l.place (map row_tree (drop l.place l.rows)) ≡ rows_data l.sort 0 (map row_tree l.rows)
