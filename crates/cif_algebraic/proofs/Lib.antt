@@ -6,3 +6,4 @@ pub mod FitLaws
 pub mod CountLaws
 pub mod RangeLaws
 pub mod TableLaws
+mod Rows
