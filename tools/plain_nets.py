@@ -23,7 +23,7 @@ sys.setrecursionlimit(4000)
 
 CLASSES = ("event", "controllable", "uncontrollable")
 # The words of declarations for which a program may tell that they are not built yet. Who has built all of one takes it out of here.
-LATER = ("input", "alg", "equation")
+LATER = ("alg", "equation")
 AUTOMATON_WORDS = ("automaton", "plant", "requirement", "supervisor")
 MOST_OBJECTS, MOST_NODES, MOST_DEPTH, MOST_CHOICES = 100000, 1000000, 100, 16384
 
