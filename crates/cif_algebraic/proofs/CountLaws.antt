@@ -41,7 +41,7 @@ module _ (g h : ℕ → counts.Measure) where
   right rs qs s k m = s k (append-right (an_alg k) rs qs m)
 
   mutual
-    measure-same : (e : NetExpr) → Same (names_in e) → measure_by g e ≡ measure_by h e
+    pub measure-same : (e : NetExpr) → Same (names_in e) → measure_by g e ≡ measure_by h e
     measure-same (net_expr f at) s = form-same f s
 
     form-same : (f : NetForm) → Same (form_names f) → form_measure g f ≡ form_measure h f

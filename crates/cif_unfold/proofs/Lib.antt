@@ -1,0 +1,6 @@
+mod ListLaws
+mod EachLaws
+mod UpdateLaws
+mod SameLaws
+mod DefinedLaws
+mod TableLaws
