@@ -15,17 +15,17 @@ use Rattle.cif_accept.specs.Built.{Built, HasTooMany, IsRefused, ReadsAsBuilt}
 use Rattle.cif_net.specs.declared.guarded.Guarded.{Guarded}
 use Rattle.cif_front.specs.Loads.{Loads}
 use Rattle.cif_accept.specs.Accepts.{BuiltEnds, FileRefused, IsLoaded, SourceEnds, SourceHas, SourceHasTooMany, SourceIs, SourceRefused, silent_work, source_limit, source_work}
-use Rattle.cif_accept.proofs.SourceLaws.{one_built, refused_reads_none, too_many_none}
+use Rattle.cif_accept.proofs.SourceLaws.{one_built, refused_of, refused_reads_none, too_many_none}
 
 -- ---- the reader
 
 -- the source of the file ends a command so
 pub source_stops : (content : Content) (file bytes : Text) → Holds (content file) bytes → length bytes ≤ source_limit → (c : Reading) (e : Ended) (s : Status)
-    → e.status ≡ s → SourceEnds bytes s → StopsIn (silent_work content file) c e (group_of s)
+    → e.status ≡ s → SourceEnds bytes s e.variable → StopsIn (silent_work content file) c e (group_of s)
 source_stops content file bytes holds short c e (status.Refused why) is h =
-    inl (subst (FileRefused content file) (sym is) (bytes, holds, short, h))
+    inl (subst (λ x. FileRefused content file x e.variable) (sym is) (bytes, holds, short, h))
 source_stops content file bytes holds short c e (status.OutsideProfile (profile.TooManyChoices count)) is h =
-    inl (subst (FileRefused content file) (sym is) (bytes, holds, short, h))
+    inl (subst (λ x. FileRefused content file x e.variable) (sym is) (bytes, holds, short, h))
 source_stops content file bytes holds short c e (status.OutsideProfile (profile.Unclassed event)) is h = absurd h
 source_stops content file bytes holds short c e status.Memory is h = tt
 source_stops content file bytes holds short c e _ is h = absurd h
@@ -49,11 +49,11 @@ abbrev Refuses : Content → Text → Status → Type 0
 Refuses content file s = ((why : Refusal) × (s ≡ status.Refused why) × SourceRefused content file why)
     ⊎ ((count : ℕ) × (s ≡ status.OutsideProfile (profile.TooManyChoices count)) × SourceHasTooMany content file count)
 
-refused_as : (content : Content) (file : Text) (s : Status) → FileRefused content file s → Refuses content file s
-refused_as content file (status.Refused why) h = inl (why, refl, h)
-refused_as content file (status.OutsideProfile (profile.TooManyChoices count)) h = inr (count, refl, h)
-refused_as content file (status.OutsideProfile (profile.Unclassed event)) h = absurd h
-refused_as content file _ h = absurd h
+refused_as : (content : Content) (file : Text) (s : Status) (name : Text) → FileRefused content file s name → Refuses content file s
+refused_as content file (status.Refused why) name h = inl (why, refl, (h.0, h.1, h.2, refused_of h.0 why name h.3))
+refused_as content file (status.OutsideProfile (profile.TooManyChoices count)) name h = inr (count, refl, h)
+refused_as content file (status.OutsideProfile (profile.Unclassed event)) name h = absurd h
+refused_as content file _ name h = absurd h
 
 -- a command tells of what a source is built into by statuses of its own
 pub record TellsItsOwn (E : BuiltEnds) : Type 0 where
@@ -67,7 +67,7 @@ module _ (file : Text) (P : Built → Text → Type 0) (E : BuiltEnds) (c : Read
 
   pub refused : TellsItsOwn E → (why : Refusal) → r ≡ status.Refused why → SourceRefused c.content file why
   refused own why q = elim (ended_so work c o e came r same (status.Refused why) (λ z. cc) refl q) [
-    | inl h ↦ h
+    | inl h ↦ (h.0, h.1, h.2, refused_of h.0 why e.variable h.3)
     | inr h ↦ absurd (own.refused h.0 why e.variable h.2)
   ]
 
@@ -99,7 +99,7 @@ module _ (file : Text) (P : Built → Text → Type 0) (E : BuiltEnds) (c : Read
     longer_is_too_big more = came_how work c o e came r same (IsUnlessMemory r (status.TooBig 1)) (λ k h. absurd (read k h))
         (λ k is h. answers work c o e came r same (status.TooBig 1) (is ∙ ap (λ n. status.TooBig n) (long k h).0))
         (λ h. elim h [
-          | inl x ↦ elim (refused_as c.content file e.status x) [
+          | inl x ↦ elim (refused_as c.content file e.status e.variable x) [
             | inl q ↦ absurd (not_short (λ b. IsRefused b q.0) q.2)
             | inr q ↦ absurd (not_short (λ b. HasTooMany b q.0) q.2)
           ]
@@ -122,7 +122,7 @@ module _ (file : Text) (P : Built → Text → Type 0) (E : BuiltEnds) (c : Read
           (λ k h. absurd (read k h))
           (λ k is h. absurd (not_long k h))
           (λ h. elim h [
-            | inl x ↦ elim (refused_as c.content file e.status x) [
+            | inl x ↦ elim (refused_as c.content file e.status e.variable x) [
               | inl q ↦ elim (answers work c o e came r same (status.Refused q.0) q.1) [ inl z ↦ inl (q.0, z) | inr z ↦ inr (inr z) ]
               | inr q ↦ elim (answers work c o e came r same (status.OutsideProfile (profile.TooManyChoices q.0)) q.1) [ inl z ↦ inr (inl (q.0, z)) | inr z ↦ inr (inr z) ]
             ]
@@ -132,8 +132,8 @@ module _ (file : Text) (P : Built → Text → Type 0) (E : BuiltEnds) (c : Read
           (λ m. inr (inr m))
 
       module _ (t : Built) (reads : ReadsAsBuilt bytes t) where
-        not_refused : FileRefused c.content file e.status → ⊥
-        not_refused x = elim (refused_as c.content file e.status x) [
+        not_refused : FileRefused c.content file e.status e.variable → ⊥
+        not_refused x = elim (refused_as c.content file e.status e.variable x) [
           | inl q ↦ refused_reads_none bytes t reads q.0 (of_bytes (λ b. IsRefused b q.0) q.2)
           | inr q ↦ too_many_none bytes t reads q.0 (of_bytes (λ b. HasTooMany b q.0) q.2)
         ]

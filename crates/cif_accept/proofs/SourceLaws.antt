@@ -22,37 +22,38 @@ use Rattle.cif_source.specs.Source.{source_of}
 use Rattle.cif_image.specs.Built.{is_built}
 use Rattle.cif_image.specs.WellFormed as rule
 use Rattle.cif_image.specs.WellFormed.{Broken}
+use Rattle.cif_front.specs.Paths.{NamesIn}
 use Rattle.cif_front.specs.Dues.{IsDue, LexDue, ParseDue, HasRule, SourceDue, scope_rule, type_rule, inst_rule, alg_rule, lin_rule}
 use Rattle.cif_front.specs.declared.refusal.Refusal.{Refusal as Unloaded}
 use Rattle.cif_front.specs.declared.refusal.Refusal.TheVariants as front
 use Rattle.cif_run.specs.declared.status.Status.{Status}
 use Rattle.cif_run.specs.declared.status.Refusal.{Refusal}
 use Rattle.cif_run.specs.declared.status.Refusal.TheVariants as refusal
-use Rattle.cif_accept.specs.Built.{Built, HasTooMany, IsRefused, ReadsAsBuilt}
+use Rattle.cif_accept.specs.Built.{Built, HasTooMany, IsRefused, IsRefusedAs, ReadsAsBuilt}
 use Rattle.cif_accept.specs.Accepts.{SourceEnds}
 use Rattle.cif_accept.specs.Refusals.{lex_status_of, parse_status_of, scope_status_of, type_status_of, inst_status_of, alg_status_of, lin_status_of, status_of}
 
 -- ---- statuses
 
-module _ (text : Text) where
-  lex_ends : (e : LexErr) → LexDue text e → SourceEnds text (lex_status_of e)
+module _ (text name : Text) where
+  lex_ends : (e : LexErr) → LexDue text e → SourceEnds text (lex_status_of e) name
   lex_ends (lex.BadByte at) h = h
   lex_ends (lex.NumberTooBig at) h = h
   lex_ends (lex.OpenComment at) h = h
   lex_ends lex.Memory h = absurd h
 
-  parse_ends : (e : ParseErr) → ParseDue text e → SourceEnds text (parse_status_of e)
+  parse_ends : (e : ParseErr) → ParseDue text e → SourceEnds text (parse_status_of e) name
   parse_ends (parse.NotRead at) h = h
   parse_ends parse.Memory h = absurd h
 
-  scope_ends : (e : ScopeErr) → HasRule (SourceDue text) (scope_rule e) → SourceEnds text (scope_status_of e)
+  scope_ends : (e : ScopeErr) → HasRule (SourceDue text) (scope_rule e) → SourceEnds text (scope_status_of e) name
   scope_ends (scope.Unknown at) h = h
   scope_ends (scope.Duplicate at first) h = h
   scope_ends (scope.WrongKind at) h = h
   scope_ends (scope.DefinitionCycle at) h = h
   scope_ends scope.Memory h = absurd h
 
-  type_ends : (e : TypeErr) → HasRule (SourceDue text) (type_rule e) → SourceEnds text (type_status_of e)
+  type_ends : (e : TypeErr) → HasRule (SourceDue text) (type_rule e) → SourceEnds text (type_status_of e) name
   type_ends (type.Mismatch at) h = h
   type_ends (type.NotConstant at) h = h
   type_ends (type.Initials at count) h = h
@@ -61,36 +62,37 @@ module _ (text : Text) where
   type_ends (type.Equations at count) h = h
   type_ends type.Memory h = absurd h
 
-  inst_ends : (e : InstErr) → HasRule (SourceDue text) (inst_rule e) → SourceEnds text (inst_status_of e)
+  inst_ends : (e : InstErr) → HasRule (SourceDue text) (inst_rule e) → SourceEnds text (inst_status_of e) name
   inst_ends (inst.AlphabetLacks at) h = h
   inst_ends (inst.TooManyObjects count) h = h
   inst_ends (inst.ConstantRange at) h = h
   inst_ends (inst.TooLarge nodes depth) h = h
   inst_ends inst.Memory h = absurd h
 
-  alg_ends : (e : AlgErr) → HasRule (SourceDue text) (alg_rule e) → SourceEnds text (alg_status_of e)
-  alg_ends (alg.ZeroDivisor at) h = h
-  alg_ends (alg.TooWide at) h = h
-  alg_ends (alg.TooLarge nodes depth) h = h
-  alg_ends alg.Memory h = absurd h
+  alg_ends : (e : AlgErr) → HasRule (SourceDue text) (alg_rule e) → NamesIn text (front.Alg e) name → SourceEnds text (alg_status_of e) name
+  alg_ends (alg.Cycle number) h p = (h, p)
+  alg_ends (alg.ZeroDivisor at) h p = h
+  alg_ends (alg.TooWide at) h p = h
+  alg_ends (alg.TooLarge nodes depth) h p = h
+  alg_ends alg.Memory h p = absurd h
 
-  lin_ends : (e : LinErr) → HasRule (SourceDue text) (lin_rule e) → SourceEnds text (lin_status_of e)
+  lin_ends : (e : LinErr) → HasRule (SourceDue text) (lin_rule e) → SourceEnds text (lin_status_of e) name
   lin_ends (lin.TooManyChoices count) h = h
   lin_ends lin.Memory h = absurd h
 
-  ends : (e : Unloaded) → IsDue text e → SourceEnds text (status_of e)
-  ends (front.Lex e) h = lex_ends e h
-  ends (front.Parse e) h = parse_ends e h
-  ends (front.NotBuilt at) h = h
-  ends (front.Scope e) h = scope_ends e h
-  ends (front.Types e) h = type_ends e h
-  ends (front.Inst e) h = inst_ends e h
-  ends (front.Alg e) h = alg_ends e h
-  ends (front.Lin e) h = lin_ends e h
-  ends front.Memory h = tt
+  ends : (e : Unloaded) → IsDue text e → NamesIn text e name → SourceEnds text (status_of e) name
+  ends (front.Lex e) h p = lex_ends e h
+  ends (front.Parse e) h p = parse_ends e h
+  ends (front.NotBuilt at) h p = h
+  ends (front.Scope e) h p = scope_ends e h
+  ends (front.Types e) h p = type_ends e h
+  ends (front.Inst e) h p = inst_ends e h
+  ends (front.Alg e) h p = alg_ends e h p
+  ends (front.Lin e) h p = lin_ends e h
+  ends front.Memory h p = tt
 
-pub due_ends : (text : Text) (e : Unloaded) (s : Status) → s ≡ status_of e → IsDue text e → SourceEnds text s
-due_ends text e s is h = subst (SourceEnds text) (sym is) (ends text e h)
+pub due_ends : (text name : Text) (e : Unloaded) (s : Status) → s ≡ status_of e → IsDue text e → NamesIn text e name → SourceEnds text s name
+due_ends text name e s is h p = subst (λ x. SourceEnds text x name) (sym is) (ends text name e h p)
 
 -- ---- a text that is refused reads as nothing that is built
 
@@ -124,6 +126,7 @@ module _ (text : Text) (t : Built) (reads : ReadsAsBuilt text t) where
   refused_reads_none (refusal.AlphabetLacks at) h = source_keeps (rule.alphabet_lacks at) h
   refused_reads_none (refusal.TooManyObjects count) h = source_keeps (rule.too_many_objects count) h
   refused_reads_none (refusal.ConstantRange at) h = source_keeps (rule.constant_range at) h
+  refused_reads_none (refusal.AlgCycle number) h = source_keeps (rule.alg_cycle number) h
   refused_reads_none (refusal.ZeroDivisor at) h = source_keeps (rule.zero_divisor at) h
   refused_reads_none (refusal.TooWide at) h = source_keeps (rule.too_wide at) h
   refused_reads_none (refusal.TooLarge nodes depth) h = source_keeps (rule.too_large nodes depth) h
@@ -131,3 +134,8 @@ module _ (text : Text) (t : Built) (reads : ReadsAsBuilt text t) where
 -- a text reads as one source at most
 pub one_built : (text : Text) (t u : Built) → ReadsAsBuilt text t → ReadsAsBuilt text u → t ≡ u
 one_built text t u h g = h.is ∙ ap source_of (reads_one text h.tree g.tree h.read g.read) ∙ sym g.is
+
+-- what is told of something by its name is due
+pub refused_of : (text : Text) (why : Refusal) (name : Text) → IsRefusedAs text why name → IsRefused text why
+refused_of text (refusal.AlgCycle number) name h = h.0
+refused_of text _ name h = h

@@ -8,8 +8,8 @@ use Rattle.cif_run.specs.declared.status.Refusal.{Refusal}
 use Rattle.cif_run.specs.Works.{Content, Holds, Input, Work}
 use Rattle.cif_net.specs.declared.guarded.Guarded.{Guarded}
 use Rattle.cif_net.specs.View.{net_tree}
-use Rattle.cif_image.specs.Represents.{Represents}
-use Rattle.cif_accept.specs.Built.{Built, ReadsAsBuilt, IsRefused, HasTooMany}
+use Rattle.cif_front.specs.Loads.{Stands}
+use Rattle.cif_accept.specs.Built.{Built, ReadsAsBuilt, IsRefused, IsRefusedAs, HasTooMany}
 
 -- the most bytes of a source
 abbrev pub source_limit : ℕ
@@ -37,20 +37,20 @@ SourceIs content file t = SourceHas content file (λ bytes. ReadsAsBuilt bytes t
 
 -- the net is that of the source in the file
 abbrev pub IsLoaded : Content → Text → Guarded → Type 0
-IsLoaded content file g = (t : Built) × SourceIs content file t × Represents (net_tree g.plain.net) t
+IsLoaded content file g = (t : Built) × SourceIs content file t × Stands (net_tree g.plain.net) t
 
--- why a source gives nothing, by the status
-abbrev pub SourceEnds : Text → Status → Type 0
-SourceEnds bytes (status.Refused why) = IsRefused bytes why
-SourceEnds bytes (status.OutsideProfile (profile.TooManyChoices count)) = HasTooMany bytes count
-SourceEnds bytes status.Memory = Unit {0}
-SourceEnds bytes _ = ⊥
+-- why a source gives nothing, by the status, where that tells of something of this name
+abbrev pub SourceEnds : Text → Status → (name : Text) → Type 0
+SourceEnds bytes (status.Refused why) name = IsRefusedAs bytes why name
+SourceEnds bytes (status.OutsideProfile (profile.TooManyChoices count)) name = HasTooMany bytes count
+SourceEnds bytes status.Memory name = Unit {0}
+SourceEnds bytes _ name = ⊥
 
 -- how a command over the source in this file may end where that gives nothing
-abbrev pub FileRefused : Content → Text → Status → Type 0
-FileRefused content file (status.Refused why) = SourceRefused content file why
-FileRefused content file (status.OutsideProfile (profile.TooManyChoices count)) = SourceHasTooMany content file count
-FileRefused content file _ = ⊥
+abbrev pub FileRefused : Content → Text → Status → (name : Text) → Type 0
+FileRefused content file (status.Refused why) name = SourceHas content file (λ bytes. IsRefusedAs bytes why name)
+FileRefused content file (status.OutsideProfile (profile.TooManyChoices count)) name = SourceHasTooMany content file count
+FileRefused content file _ name = ⊥
 
 -- how a command may end over what the source is built into, where the status tells of something of this name
 abbrev pub BuiltEnds : Type 1
@@ -64,7 +64,7 @@ abbrev pub source_work : Content → Text → (Built → Text → Type 0) → Bu
 source_work content file P E = record {
   asks = λ i. i ≡ source_input file;
   writes = λ text. (t : Built) × SourceIs content file t × P t text;
-  ends = λ s name. FileRefused content file s ⊎ ((t : Built) × SourceIs content file t × E t s name);
+  ends = λ s name. FileRefused content file s name ⊎ ((t : Built) × SourceIs content file t × E t s name);
 }
 
 -- the same of one that writes none

@@ -5,7 +5,10 @@ use Rattle.cif_lex.specs.Tokens.{BadByteDue, NumberTooBigDue, OpenCommentDue}
 use Rattle.cif_parse.specs.Grammar.{NotReadDue}
 use Rattle.cif_source.specs.Source.{Source}
 use Rattle.cif_image.specs.WellFormed as rule
+use Rattle.cif_alg.specs.declared.error.AlgErr.TheVariants as alg
 use Rattle.cif_front.specs.Dues.{NotBuiltDue, SourceDue}
+use Rattle.cif_front.specs.Paths.{NamesIn}
+use Rattle.cif_front.specs.declared.refusal.Refusal.TheVariants as front
 use Rattle.cif_run.specs.declared.status.Refusal.{Refusal}
 use Rattle.cif_run.specs.declared.status.Refusal.TheVariants as refusal
 pub use Rattle.cif_front.specs.Loads.{ReadsAsBuilt}
@@ -33,9 +36,15 @@ IsRefused text (refusal.Equations at count) = SourceDue text (rule.equations at 
 IsRefused text (refusal.AlphabetLacks at) = SourceDue text (rule.alphabet_lacks at)
 IsRefused text (refusal.TooManyObjects count) = SourceDue text (rule.too_many_objects count)
 IsRefused text (refusal.ConstantRange at) = SourceDue text (rule.constant_range at)
+IsRefused text (refusal.AlgCycle number) = SourceDue text (rule.alg_cycle number)
 IsRefused text (refusal.ZeroDivisor at) = SourceDue text (rule.zero_divisor at)
 IsRefused text (refusal.TooWide at) = SourceDue text (rule.too_wide at)
 IsRefused text (refusal.TooLarge nodes depth) = SourceDue text (rule.too_large nodes depth)
+
+-- the same, where the status tells of something of this name: of an algebraic variable by its path
+abbrev pub IsRefusedAs : Text → Refusal → (name : Text) → Type 0
+IsRefusedAs text (refusal.AlgCycle number) name = IsRefused text (refusal.AlgCycle number) × NamesIn text (front.Alg (alg.Cycle number)) name
+IsRefusedAs text why name = IsRefused text why
 
 -- the choices of all its events are too many
 abbrev pub HasTooMany : Text → (count : ℕ) → Type 0

@@ -54,6 +54,7 @@ inst_status_of (inst.TooLarge nodes depth) = status.Refused (refusal.TooLarge no
 inst_status_of inst.Memory = status.Memory
 
 abbrev pub alg_status_of : AlgErr → Status
+alg_status_of (alg.Cycle number) = status.Refused (refusal.AlgCycle number)
 alg_status_of (alg.ZeroDivisor at) = status.Refused (refusal.ZeroDivisor at)
 alg_status_of (alg.TooWide at) = status.Refused (refusal.TooWide at)
 alg_status_of (alg.TooLarge nodes depth) = status.Refused (refusal.TooLarge nodes depth)

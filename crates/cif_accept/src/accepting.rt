@@ -6,10 +6,10 @@ ghost use Rattle.cif_run.specs.Works.{Stops, reading};
 ghost use Rattle.cif_accept.specs.Accepts.{IsLoaded, SourceEnds, silent_work};
 
 use crate::refusing::status_of;
-use cif_front::load;
+use cif_front::{Refused, load_named};
 use cif_io::Files;
 use cif_net::Guarded;
-use cif_run::{Ended, Status, read_file};
+use cif_run::{Ended, read_file};
 use std::alloc::Global;
 
 /// The most bytes of a source.
@@ -17,14 +17,18 @@ pub const SOURCE_LIMIT: u32 = 4_194_304;
 
 /// The net of a source.
 #[tactic(auto, using(crate::proofs::SourceLaws::due_ends))]
-fn net_of(alloc: Global, source: &[u8]) -> Result<Guarded, Status>
+fn net_of(alloc: Global, source: &[u8]) -> Result<Guarded, Ended>
     requires { length source.now ≤ 4194304 }
     ensures loaded { IfOk result (λ g. Loads source.now g) }
-    ensures ends { IfErr result (λ s. SourceEnds source.now s) }
+    ensures ends { IfErr result (λ e. SourceEnds source.now e.status e.variable) }
 {
-    match load(alloc, source) {
+    match load_named(alloc, source) {
         Ok(net) => Ok(net),
-        Err(refusal) => Err(status_of(refusal)),
+        Err(Refused { why, path }) => Err(Ended {
+            status: status_of(why),
+            variable: path,
+            limit: 0,
+        }),
     }
 }
 
@@ -43,6 +47,6 @@ pub fn accept_file<F: Files>(alloc: Global, file: &str, files: &mut F) -> Result
     };
     match net_of(alloc, source.as_slice()) {
         Ok(net) => Ok(net),
-        Err(status) => Err(Ended::plain(alloc, status)),
+        Err(ended) => Err(ended),
     }
 }

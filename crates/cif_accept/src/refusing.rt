@@ -80,6 +80,7 @@ fn alg_status(error: AlgErr) -> Status
     ensures { result ≡ r.alg_status_of error }
 {
     let why = match error {
+        AlgErr::Cycle { alg } => Refusal::AlgCycle { alg },
         AlgErr::ZeroDivisor { at } => Refusal::ZeroDivisor { at },
         AlgErr::TooWide { at } => Refusal::TooWide { at },
         AlgErr::TooLarge { nodes, depth } => Refusal::TooLarge { nodes, depth },

@@ -9,16 +9,19 @@ use Rattle.cif_system.proofs.Lists.{map-length}
 use Rattle.cif_term.specs.Tree.{NetExpr}
 use Rattle.cif_model.specs.Net as n
 use Rattle.cif_model.specs.Meaning.{event_in}
-use Rattle.cif_model.specs.Unfolding.{at_or, unfolded}
 use Rattle.cif_model.specs.Exprs.{edge_exprs}
 use Rattle.cif_model.specs.Listing.{syncs_on}
 use Rattle.cif_model.specs.Facts.{auto_stands, is_net}
-use Rattle.cif_model.specs.Counts.{no_form, measure_by, measure, alg_measure, alg_measures, sizes, size_of, exclusions_of, invariant_exprs, event_nodes, nodes, weight, stopped, most_nodes}
+use Rattle.cif_model.specs.Counts.{no_form, measure, alg_measures, size_of, exclusions_of, invariant_exprs, event_nodes, nodes, weight, stopped, most_nodes}
 use Rattle.cif_model.proofs.Passing.{and-left, and-right}
-use Rattle.cif_measure.specs.Meanings.{table_measure}
-use Rattle.cif_measure.specs.Sizes.{sizes_by}
+use Rattle.cif_measure.specs.declared.measures.Measure.{Measure}
+use Rattle.cif_measure.specs.Meanings.{stopped_measure, table_measure, stopped_table}
+use Rattle.cif_measure.specs.Sizes.{sizes_by, AreMeasured, exprs_counted}
+use Rattle.cif_measure.proofs.SizeLaws.{size-told, size-of_net}
 use Rattle.cif_alg.specs.Weighed.{cut}
+use Rattle.cif_alg.specs.Sizes.{sizes_added}
 use Rattle.cif_alg.specs.Tallies.{edge_nodes, exclusion_nodes, counted}
+use Rattle.cif_alg.proofs.AddedLaws.{all-added}
 use Rattle.cif_alg.proofs.SumLaws.{sum-same, sum-mapped, spread, spread-weighed}
 use Rattle.cif_alg.proofs.TallyLaws.{exclusions_for}
 use Rattle.cif_alg.proofs.AutoLaws.{factor, addend, rows, rows_nodes, role_edges, is_channel_there, besides, event_total, counted_are}
@@ -85,7 +88,7 @@ module _ (x : n.Net) (e : ℕ) where
   edges-weighed : (p : Role) (autos : List n.NetAuto) → sum_by (λ w. w) (all_weights x e p autos) ≡ sum_by (edge_weight x) (role_edges p e autos)
   edges-weighed p autos = ap (sum_by (λ w. w)) (same-edges p autos) ∙ sum-mapped (λ w. w) (edge_weight x) (role_edges p e autos)
 
-module _ (x : n.Net) (no-algs : x.algs ≡ []) (no-invariants : x.invariants ≡ []) (stands : is_net x ≡ true) where
+module _ (x : n.Net) (ms : List Measure) (measured : AreMeasured ms x) (no-invariants : x.invariants ≡ []) (stands : is_net x ≡ true) where
   abbrev exclusion_sum : ℕ → ℕ
   exclusion_sum e = besides (edge_weight x) (exclusion_weight x) x.exclusions e
 
@@ -131,33 +134,35 @@ module _ (x : n.Net) (no-algs : x.algs ≡ []) (no-invariants : x.invariants ≡
 
   -- ---- all events
 
-  no-measures : alg_measures x ≡ []
-  no-measures = ap (λ ds. unfolded no_form alg_measure ds (length ds)) no-algs
-
   abbrev all_total : ℕ → ℕ
   all_total e = total (is_channel_there x.events e) e
 
-  nodes-are : nodes x ≡ sum_by all_total (range_with_len 0 (length x.events))
-  nodes-are =
+  -- the nodes of the choices
+  abbrev choices_nodes : ℕ
+  choices_nodes = sum_by (event_nodes x) (range_with_len 0 (length (map event_in x.events)))
+
+  choices-are : choices_nodes ≡ sum_by all_total (range_with_len 0 (length x.events))
+  choices-are =
       let all : List ℕ = range_with_len 0 (length x.events) in
-      let z : sum_by all_total all + 0 ≡ sum_by all_total all = omega arith in
-      ap (λ ms. sum_by (event_nodes x) (range_with_len 0 (length (map event_in x.events))) + sizes ms) no-measures
-      ∙ ap (λ m. sum_by (event_nodes x) (range_with_len 0 m) + 0) (map-length event_in x.events)
-      ∙ ap (λ m. m + 0) (sum-same (event_nodes x) all_total event-is all)
-      ∙ z
+      ap (λ m. sum_by (event_nodes x) (range_with_len 0 m)) (map-length event_in x.events) ∙ sum-same (event_nodes x) all_total event-is all
 
   -- ---- sizes
 
-  plain-sizes : (es : List NetExpr) → sizes_by (table_measure []) es ≡ size_of x es
-  plain-sizes es = sym (ap (λ ms. sum_by (λ g. (measure_by (at_or no_form ms) g).size) es) no-measures)
+  same-sizes : (es : List NetExpr) → cut (sizes_by (table_measure ms) es) ≡ cut (size_of x es)
+  same-sizes es =
+      let m : Measure = exprs_counted (stopped_table ms) (stopped_measure no_form) es in
+      sym (size-told ms es m refl) ∙ size-of_net ms es m refl x measured
 
-  edge-weighs : (y : n.NetEdge) → edge_nodes (table_measure []) y ≡ cut (edge_weight x y)
+  edge-weighs : (y : n.NetEdge) → edge_nodes (table_measure ms) y ≡ cut (edge_weight x y)
   unfolding edge_nodes
-  edge-weighs y = omega (arith, plain-sizes (edge_exprs y))
+  edge-weighs y = omega (arith, same-sizes (edge_exprs y))
 
-  exclusion-weighs : (y : n.NetExclusion) → exclusion_nodes (table_measure []) y ≡ cut (exclusion_weight x y)
+  exclusion-weighs : (y : n.NetExclusion) → exclusion_nodes (table_measure ms) y ≡ cut (exclusion_weight x y)
   unfolding exclusion_nodes
-  exclusion-weighs y = omega (arith, plain-sizes (y.pred ∷ []), sum_by-cons (λ g. (measure x g).size) y.pred [])
+  exclusion-weighs y = omega (arith, same-sizes (y.pred ∷ []), sum_by-cons (λ g. (measure x g).size) y.pred [])
 
-  pub told : counted (table_measure []) x.autos x.exclusions x.events ≡ stopped most_nodes (nodes x)
-  told = counted_are (edge_weight x) (exclusion_weight x) (table_measure []) edge-weighs exclusion-weighs x.autos x.exclusions x.events ∙ ap cut (sym nodes-are)
+  choices-told : counted (table_measure ms) x.autos x.exclusions x.events ≡ cut choices_nodes
+  choices-told = counted_are (edge_weight x) (exclusion_weight x) (table_measure ms) edge-weighs exclusion-weighs x.autos x.exclusions x.events ∙ ap cut (sym choices-are)
+
+  pub told : sizes_added (counted (table_measure ms) x.autos x.exclusions x.events) ms ≡ stopped most_nodes (nodes x)
+  told = ap (λ k. sizes_added k ms) choices-told ∙ all-added choices_nodes ms (alg_measures x) measured

@@ -1,68 +1,25 @@
--- A plain net breaks none of the rules on algebraic variables, intervals, state invariants and sizes.
-use Rattle.std.proofs.Common.{◌≡◌, ℕ, pos, Bool, true, false, not, map, flat_map, sym, ◌∙◌}
+-- A net that passes the tests of its intervals and its size breaks no rule.
+use Rattle.std.proofs.Common.{◌≡◌, true, false, sym, ◌∙◌, subst}
+use Rattle.std.specs.Prelude.{[]}
 use Rattle.std.specs.List.{list_all}
-use Rattle.cif_system.specs.System.{in_range}
 use Rattle.cif_system.specs.Words.{Member}
-use Rattle.cif_system.proofs.Picks.{append-right, map-member, flat_map-member, at-member}
-use Rattle.cif_system.proofs.Distinct.{member-flat_map}
-use Rattle.cif_term.specs.Tree.{NetExpr}
-use Rattle.cif_model.specs.Net.{NetExclusion, NetInvariant, Net}
-use Rattle.cif_model.specs.Interval.{declared_ranges, range_of, truths}
-use Rattle.cif_model.specs.Exprs.{alg_exprs, all_edges, other_exprs}
-use Rattle.cif_model.specs.Reads.{an_alg, alg_passes, names_in}
-use Rattle.cif_model.specs.Parts.{parts, own_divisors, part_divides, is_narrow}
-use Rattle.cif_model.specs.Rules.{Needs, IsAcyclic, Evaluated, edge_evaluated, evaluated, ZeroDivisor, TooWide, InvariantReadsInput, InvariantFalse, TooLarge, invariant_keeps, is_plain}
-use Rattle.cif_model.proofs.Passing.{and-left, and-right, not-true, all-member}
-use Rattle.cif_model.proofs.PlainLaws.{never, plain-expr}
-use Rattle.cif_model.proofs.CycleLaws.{acyclic-by_rank}
+use Rattle.cif_model.specs.Net.{NetInvariant, Net}
+use Rattle.cif_model.specs.Counts.{is_too_large}
+use Rattle.cif_model.specs.Rules.{IsAcyclic, evaluated}
+use Rattle.cif_model.proofs.PlainLaws.{never}
+use Rattle.cif_measure.specs.Rules.{declared_divides, declared_is_narrow}
+use Rattle.cif_measure.proofs.IntervalLaws.{none-divides, none-wide}
 use Rattle.cif_alg.specs.Keeps.{KeepsAlgebraic}
 
-module _ (n : Net) (plain : is_plain n ≡ true) where
-  -- a definition names no algebraic variable
-  no-need : (j k : ℕ) → Needs n j k → ⊥
-  no-need j k (a, at, named) =
-      let f = member-flat_map names_in (an_alg k) (alg_exprs a) named in
-      let e : NetExpr = f.0 in
-      let x : Evaluated = record { value = e; received = truths } in
-      let i : Member e (flat_map alg_exprs n.algs) = flat_map-member alg_exprs a n.algs e (at-member n.algs j a at) f.1 in
-      let o : Member e (other_exprs n) = append-right e (map (λ (y : NetExclusion). y.pred) n.exclusions) _ (append-right e (map (λ (y : NetInvariant). y.pred) n.invariants) _ i) in
-      let m : Member x (evaluated n) = append-right x (flat_map (edge_evaluated n) (all_edges n)) _ (map-member (λ (g : NetExpr). let y : Evaluated = record { value = g; received = truths } in y) e (other_exprs n) o) in
-      never (all-member (alg_passes (λ i. false)) (names_in e) (an_alg k) (and-left _ _ (and-left _ _ (plain-expr n x plain m))) f.2)
+no-member : (n : Net) → n.invariants ≡ [] → (i : NetInvariant) → Member i n.invariants → ⊥
+no-member n none i m = subst (Member i) none m
 
-  acyclic : IsAcyclic n
-  acyclic = acyclic-by_rank n (λ k. k) (λ j k r. absurd (no-need j k r))
-
-  opposed : {b : Bool} → b ≡ false → b ≡ true → ⊥
-  opposed h k = never (sym h ∙ k)
-
-  divided : (at : ℕ) → ZeroDivisor n at → ⊥
-  divided at (c, x, d, i, j, p, z) =
-      let f = member-flat_map own_divisors d (parts x.value) j in
-      let h : part_divides (declared_ranges n x.received) f.0 ≡ true = all-member (part_divides (declared_ranges n x.received)) (parts x.value) f.0 (and-right _ _ (and-left _ _ (plain-expr n x plain i))) f.1 in
-      opposed (not-true _ (all-member (λ e. not (in_range (range_of (declared_ranges n x.received) e) (pos 0))) (own_divisors f.0) d h f.2)) z
-
-  wide : (at : ℕ) → TooWide n at → ⊥
-  wide at (c, x, p, i, j, q, z) =
-      opposed z (all-member (λ e. is_narrow (range_of (declared_ranges n x.received) e)) (parts x.value) p (and-right _ _ (plain-expr n x plain i)) j)
-
-  invariants-keep : list_all (invariant_keeps n) n.invariants ≡ true
-  invariants-keep = and-right _ _ (and-left _ _ plain)
-
-  reading : (at : ℕ) → InvariantReadsInput n at → ⊥
-  reading at (c, i, m, p, z) = opposed (not-true _ (and-left _ _ (all-member (invariant_keeps n) n.invariants i invariants-keep m))) z
-
-  failing : (at : ℕ) → InvariantFalse n at → ⊥
-  failing at (c, i, m, p, q, z) = opposed z (and-right _ _ (all-member (invariant_keeps n) n.invariants i invariants-keep m))
-
-  large : (nodes depth : ℕ) → TooLarge n nodes depth → ⊥
-  large nodes depth (c, z, p, q) = opposed (not-true _ (and-right _ _ plain)) z
-
-  pub plain-keeps : KeepsAlgebraic n
-  plain-keeps = record {
-    acyclic = λ alg b. acyclic alg b.0;
-    divides = divided;
-    narrow = wide;
-    free = reading;
-    holds = failing;
-    small = large;
-  }
+pub keeps : (n : Net) → n.invariants ≡ [] → IsAcyclic n → list_all (declared_divides n) (evaluated n) ≡ true → list_all (declared_is_narrow n) (evaluated n) ≡ true → is_too_large n ≡ false → KeepsAlgebraic n
+keeps n none acyclic divides narrow small = record {
+  acyclic = λ alg c. acyclic alg c.0;
+  divides = none-divides n divides;
+  narrow = none-wide n narrow;
+  free = λ at w. no-member n none w.1 w.2;
+  holds = λ at w. no-member n none w.1 w.2;
+  small = λ nodes depth w. never (sym small ∙ w.1);
+}

@@ -8,7 +8,9 @@ mod NodeLaws
 mod ChannelLaws
 mod RoleLaws
 mod KeepLaws
+mod AddedLaws
 mod InlineLaws
 mod LimitLaws
+pub mod FreeLaws
 mod OutlineLaws
 mod Rows

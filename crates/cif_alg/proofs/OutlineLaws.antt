@@ -6,10 +6,12 @@ use Rattle.cif_model.specs.Counts.{nodes, stopped, most_nodes}
 use Rattle.cif_model.specs.Counts as counts
 use Rattle.cif_measure.specs.declared.measures.Measure.{Measure}
 use Rattle.cif_measure.specs.Meanings.{table_measure}
+use Rattle.cif_measure.proofs.SizeLaws.{none-measured}
 use Rattle.cif_alg.specs.declared.tally.Tally.{Tally}
 use Rattle.cif_alg.specs.Weighed.{cut}
 use Rattle.cif_alg.specs.Tallies.{nothing_met, with_edge, with_besides, edge_nodes, exclusion_nodes, changed, each_changed, opened_for, edges_noted, stays_noted, closed_for, exclusions_noted, all_tallied, tallies_nodes, counted}
 use Rattle.cif_alg.specs.Outlines.{CountedEdge, CountedAuto, CountedExclusion, counted_edge, counted_auto, counted_exclusion, AreAsLarge}
+use Rattle.cif_alg.proofs.FreeLaws.{same-autos, same-exclusions}
 use Rattle.cif_alg.proofs.InlineLaws.{told}
 
 -- ---- the same, by what is counted
@@ -58,11 +60,12 @@ module _ (alg : ℕ → counts.Measure) where
       ap (λ ts. tallies_nodes 0 events (exclusions_noted alg exclusions ts)) (autos-by autos none)
       ∙ ap (tallies_nodes 0 events) (exclusions-by exclusions (autos_by (map (counted_auto alg) autos) none))
 
-pub outlined : (n : Net) (algs : List Measure) (autos : List NetAuto) (exclusions : List NetExclusion)
-    → n.algs ≡ [] → n.invariants ≡ [] → is_net n ≡ true → AreAsLarge algs autos exclusions n
+pub outlined : (n : Net) (algs : List Measure) (there : ℕ → counts.Measure) (autos : List NetAuto) (exclusions : List NetExclusion)
+    → n.algs ≡ [] → n.invariants ≡ [] → is_net n ≡ true → AreAsLarge algs there autos exclusions n
     → counted (table_measure algs) autos exclusions n.events ≡ stopped most_nodes (nodes n)
-outlined n algs autos exclusions no-algs no-invariants stands large =
+outlined n algs there autos exclusions no-algs no-invariants stands large =
     counted-by (table_measure algs) autos exclusions n.events
     ∙ (λ i. counted_by (large.autos_as i) (large.exclusions_as i) n.events)
+    ∙ (λ i. counted_by (same-autos n no-algs stands there (table_measure []) i) (same-exclusions n no-algs stands there (table_measure []) i) n.events)
     ∙ sym (counted-by (table_measure []) n.autos n.exclusions n.events)
-    ∙ told n no-algs no-invariants stands
+    ∙ told n [] (none-measured n no-algs) no-invariants stands

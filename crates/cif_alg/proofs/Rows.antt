@@ -137,7 +137,7 @@ measures size = record { size = 1; depth = 0 } ∷ record { size = size; depth =
 abbrev outline : List NetAuto
 outline = auto (0 ∷ []) (edge (here (n_alg 1)) no_net_updates [] ∷ []) ∷ []
 
-outline_is_as_large : AreAsLarge (measures 6) outline [] (counter small)
+outline_is_as_large : AreAsLarge (measures 6) (table_measure []) outline [] (counter small)
 outline_is_as_large = record { autos_as = refl; exclusions_as = refl }
 
 outline_counted : counted (table_measure (measures 6)) outline [] (counter small).events ≡ 8

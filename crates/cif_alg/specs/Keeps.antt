@@ -16,6 +16,7 @@ pub record KeepsAlgebraic (n : Net) : Type 0 where
 
 -- the rule of the refusal is broken, with its fields; of want of memory nothing is said
 abbrev pub due : Net → AlgErr → Type 0
+due n (err.Cycle alg) = AlgCycle n alg
 due n (err.ZeroDivisor at) = ZeroDivisor n at
 due n (err.TooWide at) = TooWide n at
 due n (err.TooLarge nodes depth) = TooLarge n nodes depth

@@ -2,4 +2,5 @@ pub mod Keeps
 pub mod Refusals
 pub mod Weighed
 pub mod Tallies
+pub mod Sizes
 pub mod Outlines

@@ -34,7 +34,7 @@ abbrev pub counted_exclusion : (alg : ℕ → counts.Measure) → NetExclusion �
 counted_exclusion alg x = record { event = x.event; size = cut_size alg (x.pred ∷ []) }
 
 -- the same is counted of these, where an algebraic variable counts as the measure with its number, as of those of a net without
--- algebraic variables
-pub record AreAsLarge (algs : List Measure) (autos : List NetAuto) (exclusions : List NetExclusion) (n : Net) : Type 0 where
-  pub autos_as : map (counted_auto (table_measure algs)) autos ≡ map (counted_auto (table_measure [])) n.autos
-  pub exclusions_as : map (counted_exclusion (table_measure algs)) exclusions ≡ map (counted_exclusion (table_measure [])) n.exclusions
+-- algebraic variables, whatever one would count there
+pub record AreAsLarge (algs : List Measure) (there : ℕ → counts.Measure) (autos : List NetAuto) (exclusions : List NetExclusion) (n : Net) : Type 0 where
+  pub autos_as : map (counted_auto (table_measure algs)) autos ≡ map (counted_auto there) n.autos
+  pub exclusions_as : map (counted_exclusion (table_measure algs)) exclusions ≡ map (counted_exclusion there) n.exclusions

@@ -1,15 +1,18 @@
 //! Why a net is not made plain.
 
 ghost use Rattle.std.specs.Prelude.{◌≡◌};
-ghost use Rattle.cif_alg.specs.Refusals.{interval_refusal};
+ghost use Rattle.cif_alg.specs.Refusals.{order_refusal, interval_refusal};
 ghost use Rattle.cif_alg.specs.declared.error.AlgErr.TheVariants.{Memory as no_memory};
 
+use cif_algebraic::AlgebraicErr;
 use cif_base::Memory;
 use cif_measure::{IntervalErr, WidthErr};
 
 /// Why a net is not made plain, or that memory ran out. `at` is the byte of the source where the divisor or the part begins.
 #[derive(Clone, Copy, Debug, PartialEq, Eq)]
 pub enum AlgErr {
+    /// The algebraic variable depends on itself, and none with a lower number does.
+    Cycle { alg: u32 },
     /// The interval of the divisor has 0.
     ZeroDivisor { at: u32 },
     /// The interval of the part of an expression leaves 64 bits.
@@ -25,6 +28,17 @@ impl From<Memory> for AlgErr {
 
     fn from(_error: Memory) -> AlgErr {
         AlgErr::Memory
+    }
+}
+
+impl From<AlgebraicErr> for AlgErr {
+    ghost from_gives = { λ e r. r ≡ order_refusal e };
+
+    fn from(error: AlgebraicErr) -> AlgErr {
+        match error {
+            AlgebraicErr::Cycle { alg } => AlgErr::Cycle { alg },
+            AlgebraicErr::Memory => AlgErr::Memory,
+        }
     }
 }
 

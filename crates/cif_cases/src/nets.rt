@@ -14,7 +14,7 @@ use cif_measure::{check_intervals, depth_of};
 use cif_net::{Auto, Choice, Class, Event, Guarded, Move, Net, NetEdge, State};
 use plc_back::generate_text;
 use plc_code::emit;
-use plc_gen::{Bounds, frame};
+use plc_gen::{Bounds, Part, frame};
 use st_print::print;
 use std::alloc::Global;
 
@@ -186,7 +186,7 @@ pub fn emit_case(fields: &Fields<'_>, page: &mut String) -> Result<(), Fault> {
     put_program(fields.alloc, page, text.as_slice(), bounds)
 }
 
-/// `frame TEXT | UNC CON`: the frame round the statements of no event, for a source without events.
+/// `frame TEXT | UNC CON`: the frame round the statements of no event, for a source without events and algebraic variables.
 pub fn frame_case(fields: &Fields<'_>, page: &mut String) -> Result<(), Fault> {
     let bounds = bounds_of(fields)?;
     let text = fields.text()?;
@@ -196,25 +196,33 @@ pub fn frame_case(fields: &Fields<'_>, page: &mut String) -> Result<(), Fault> {
             if !guarded.plain.net.events.is_empty() {
                 return Err(Fault::Form("a source without events is wanted"));
             }
+            if !guarded.plain.net.algs.is_empty() {
+                return Err(Fault::Form("a source without algebraic variables is wanted"));
+            }
             let program = framed(fields.alloc, &guarded, bounds)?;
             Ok(put_lines(page, "program", program.as_slice())?)
         }
     }
 }
 
-/// The text of the frame of a net without events.
+/// The text of the frame of a net without events and algebraic variables.
 #[tactic(auto, using(crate::proofs::FrameLaws::nothing_fits))]
 fn framed(alloc: Global, guarded: &Guarded, bounds: Bounds) -> Result<Vec<u8>, Memory>
     requires silent { is_silent (net_tree guarded.now.plain.net) ≡ true }
     requires shallow { is_shallow (net_tree guarded.now.plain.net) ≡ true }
     requires events { (net_tree guarded.now.plain.net).events ≡ [] }
+    requires algs { (net_tree guarded.now.plain.net).algs ≡ [] }
     requires unc { bounds.unc ≤ 10000 }
     requires con { bounds.con ≤ 10000 }
 {
     // That the program of the net could be emitted tells that its enumerations are small.
     let _emitted = emit(alloc, guarded, bounds)?;
     let parts = Items::new(alloc);
-    let program = frame(alloc, &guarded.plain.net, bounds, parts)?;
+    let shown = Part {
+        own: Items::new(alloc),
+        body: Items::new(alloc),
+    };
+    let program = frame(alloc, &guarded.plain.net, bounds, parts, shown)?;
     print(alloc, &program)
 }
 

@@ -9,7 +9,7 @@ use Rattle.cif_model.proofs.Passing.{all-member}
 use Rattle.cif_source.specs.Source.{RoleTree, syncs, sends, receives, UseTree, EdgeTree, LocationTree, DeclTree, Source}
 use Rattle.cif_source.specs.Components.{Component}
 use Rattle.cif_source.specs.Objects.{components_of, decls_of, decls_in, locs_of, locs_in, EventEdge, event_edges}
-use Rattle.cif_image.specs.Built.{is_no_algebra, has_no_equations, has_no_algebra, is_no_channel, only_syncs, takes_no_channel, has_no_channels, is_no_invariant, has_no_invariants, has_no_received, every_item, every_decl, every_location, every_edge, is_built}
+use Rattle.cif_image.specs.Built.{is_no_channel, only_syncs, takes_no_channel, has_no_channels, is_no_invariant, has_no_invariants, has_no_received, every_item, every_decl, every_location, every_edge, is_built}
 use Rattle.cif_image.proofs.StandingLaws.{edge-stands, enumerated}
 use Rattle.cif_written.proofs.Bodies.{components-written}
 use Rattle.cif_written.proofs.RuleLaws.{bodies-pass}
@@ -20,14 +20,6 @@ use Rattle.cif_written.proofs.RuleLaws.{bodies-pass}
 passes : (t : Source) (test : DeclTree → Bool) → every_decl test t ≡ true → (c : Component) → Member c (components_of t) → (d : DeclTree) → Member d (decls_of c) → test d ≡ true
 passes t test all c m d k = all-member test (decls_of c) d (bodies-pass t (λ b. list_all test (decls_in b)) all c (components-written t c m)) k
 
-pub decl-algebra : (t : Source) → is_built t ≡ true → (c : Component) → Member c (components_of t) → (d : DeclTree) → Member d (decls_of c) → is_no_algebra d ≡ true
-decl-algebra t built =
-    passes t is_no_algebra
-    (and-left (every_decl is_no_algebra t) (every_location has_no_equations t)
-    (and-left (has_no_algebra t) (has_no_channels t)
-    (and-left (has_no_algebra t && has_no_channels t) (has_no_invariants t)
-    (and-left (has_no_algebra t && has_no_channels t && has_no_invariants t) (has_no_received t) built))))
-
 -- ---- the forms, one by one
 
 pub record HasForms (t : Source) : Type 0 where
@@ -37,12 +29,11 @@ pub record HasForms (t : Source) : Type 0 where
 
 pub forms-of : (t : Source) → is_built t ≡ true → HasForms t
 forms-of t built =
-    let three = and-left (has_no_algebra t && has_no_channels t && has_no_invariants t) (has_no_received t) built in
-    let two = and-left (has_no_algebra t && has_no_channels t) (has_no_invariants t) three in
+    let two = and-left (has_no_channels t && has_no_invariants t) (has_no_received t) built in
     record {
-      no_channels = and-right (has_no_algebra t) (has_no_channels t) two;
-      no_invariants = and-right (has_no_algebra t && has_no_channels t) (has_no_invariants t) three;
-      no_received = and-right (has_no_algebra t && has_no_channels t && has_no_invariants t) (has_no_received t) built;
+      no_channels = and-left (has_no_channels t) (has_no_invariants t) two;
+      no_invariants = and-right (has_no_channels t) (has_no_invariants t) two;
+      no_received = and-right (has_no_channels t && has_no_invariants t) (has_no_received t) built;
     }
 
 its-role : (r : RoleTree) → (elim r [ syncs ↦ true | sends e ↦ false | receives ↦ false ]) ≡ true → r ≡ syncs

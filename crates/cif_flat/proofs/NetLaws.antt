@@ -1,31 +1,18 @@
--- The net of a source of the forms built so far has no algebraic variables, state invariants and channels.
-use Rattle.std.proofs.Common.{◌≡◌, Bool, true, false, [], map, filter, refl, ◌∙◌, ap}
+-- The net of a source of the forms built so far has no state invariants and channels.
+use Rattle.std.proofs.Common.{◌≡◌, true, [], refl, ◌∙◌, ap}
 use Rattle.cif_ast.specs.declared.names.Ident.{Ident}
 use Rattle.cif_ast.specs.declared.declarations.Class.{Class}
-use Rattle.cif_system.proofs.Lists.{false-true, filter-within, filter-passes}
+use Rattle.cif_system.proofs.Lists.{false-true, filter-within}
 use Rattle.cif_system.proofs.Distinct.{member-map}
 use Rattle.cif_model.specs.Net.{NetEvent, no_net_chan}
 use Rattle.cif_source.specs.Source.{DeclTree, type_decl, enum_decl, event_decl, const_decl, alg_decl, input_decl, disc_decl, equation_decl, invariant_decl, marked_decl, ChannelTree, no_type, void_type, value_type, Source}
 use Rattle.cif_source.specs.Components.{Component}
-use Rattle.cif_source.specs.Objects.{events, is_event, is_alg, Declared, declarations}
+use Rattle.cif_source.specs.Objects.{events, is_event, Declared, declarations}
 use Rattle.cif_image.specs.Built.{is_built, is_no_channel}
-use Rattle.cif_image.specs.Flat.{net_of_source, net_event, net_alg, net_invariants}
+use Rattle.cif_image.specs.Flat.{net_of_source, net_event, net_invariants}
 use Rattle.cif_image.proofs.StandingLaws.{flat-nothing}
 use Rattle.cif_flat.specs.Silent.{IsSilent}
-use Rattle.cif_flat.proofs.Lists.{empty}
 use Rattle.cif_flat.proofs.Forms.{IsBuiltDecl, declared-built}
-
-no-alg : (d : DeclTree) → IsBuiltDecl d → is_alg d ≡ false
-no-alg (type_decl n ty) h = refl
-no-alg (enum_decl n ls) h = refl
-no-alg (event_decl k x n) h = refl
-no-alg (const_decl ty n e) h = refl
-no-alg (alg_decl ty n e) h = absurd (false-true refl h.algebra)
-no-alg (input_decl ty n) h = refl
-no-alg (disc_decl ty n e) h = refl
-no-alg (equation_decl q) h = refl
-no-alg (invariant_decl i) h = refl
-no-alg (marked_decl p) h = refl
 
 no-invariants : (c : Component) (d : DeclTree) → IsBuiltDecl d → net_invariants (c, d) ≡ []
 no-invariants c (type_decl n ty) h = refl
@@ -57,14 +44,8 @@ event-chan c (invariant_decl i) h = refl
 event-chan c (marked_decl p) h = refl
 
 module _ (t : Source) (built : is_built t ≡ true) where
-  none-of : (sort : DeclTree → Bool) → ((d : DeclTree) → IsBuiltDecl d → sort d ≡ false) → filter (λ (d : Declared). sort d.1) (declarations t) ≡ []
-  none-of sort other = empty (filter (λ (d : Declared). sort d.1) (declarations t)) (λ d m.
-      let home = filter-within (λ (d : Declared). sort d.1) (declarations t) d m in
-      false-true (other d.1 (declared-built t built d home)) (filter-passes (λ (d : Declared). sort d.1) (declarations t) d m))
-
   pub silent : IsSilent (net_of_source t)
   silent = record {
-    algs = ap (map net_alg) (none-of is_alg no-alg);
     invariants = flat-nothing net_invariants (declarations t) (λ d m. no-invariants d.0 d.1 (declared-built t built d m));
     channels = λ e m.
         let d = member-map net_event e (events t) m in

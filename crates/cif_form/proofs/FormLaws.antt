@@ -6,13 +6,13 @@ use Rattle.cif_system.specs.Words.{Member}
 use Rattle.cif_system.proofs.Lists.{false-true}
 use Rattle.cif_system.proofs.Picks.{and-left, and-right}
 use Rattle.cif_model.proofs.Passing.{both-pass, all-member}
-use Rattle.cif_source.specs.Source.{RoleTree, syncs, sends, receives, UseTree, EdgeTree, EquationTree, LocationTree, DeclTree, ParamTree, SourceItem, decl_item, component_item, definition_item, instance_item, SourceBody, group_body, automaton_body, Source, no_source, source, list_of_items}
+use Rattle.cif_source.specs.Source.{RoleTree, syncs, sends, receives, UseTree, EdgeTree, LocationTree, DeclTree, ParamTree, SourceItem, decl_item, component_item, definition_item, instance_item, SourceBody, group_body, automaton_body, Source, no_source, source, list_of_items}
 use Rattle.cif_source.specs.Components.{Component, whole, part, blank, body_of}
 use Rattle.cif_source.specs.Objects.{bodies, bodies_in, bodies_at, bodies_under, items_in, item_decls, decls_in, locs_in}
 use Rattle.cif_image.specs.Received.{without_received, updates_without, decl_without, use_without, edge_without, location_without, param_without, item_without}
-use Rattle.cif_image.specs.Built.{is_nothing, is_no_algebra, has_no_algebra, has_no_equations, is_no_channel, is_no_channel_param, only_syncs, takes_no_channel, has_no_channels, is_no_invariant, has_no_invariants, has_no_received, every_item, every_decl, every_edge, every_location, is_built}
+use Rattle.cif_image.specs.Built.{is_no_channel, is_no_channel_param, only_syncs, takes_no_channel, has_no_channels, is_no_invariant, has_no_invariants, has_no_received, every_item, every_decl, every_edge, every_location, is_built}
 use Rattle.cif_image.proofs.RuleLaws.{all-from}
-use Rattle.cif_form.specs.Forms.{decl_fits, edge_fits, location_fits, param_fits, items_fit, item_fits, body_fits}
+use Rattle.cif_form.specs.Forms.{decl_fits, edge_fits, equation_fits, location_fits, param_fits, items_fit, item_fits, body_fits}
 
 -- ---- tests
 
@@ -36,20 +36,13 @@ and-three true true false h = absurd (false-true refl h)
 and-three true false c h = absurd (false-true refl h)
 and-three false b c h = absurd (false-true refl h)
 
-and-four : (a b c d : Bool) → (a && b && c && d) ≡ true → (a ≡ true) × (b ≡ true) × (c ≡ true) × (d ≡ true)
-and-four true true true true h = (refl, refl, refl, refl)
-and-four true true true false h = absurd (false-true refl h)
-and-four true true false d h = absurd (false-true refl h)
-and-four true false c d h = absurd (false-true refl h)
-and-four false b c d h = absurd (false-true refl h)
-
 all-three : (a b c : Bool) → a ≡ true → b ≡ true → c ≡ true → (a && b && c) ≡ true
 all-three a b c h g k = and-both (a && b) c (and-both a b h g) k
 
 -- ---- declarations, edges and locations
 
-decl-fits : (d : DeclTree) → decl_fits d ≡ true → (is_no_algebra d ≡ true) × (is_no_channel d ≡ true) × (is_no_invariant d ≡ true) × (decl_without d ≡ true)
-decl-fits d h = and-four (is_no_algebra d) (is_no_channel d) (is_no_invariant d) (decl_without d) h
+decl-fits : (d : DeclTree) → decl_fits d ≡ true → (is_no_channel d ≡ true) × (is_no_invariant d ≡ true) × (decl_without d ≡ true)
+decl-fits d h = and-three (is_no_channel d) (is_no_invariant d) (decl_without d) h
 
 -- where nothing is sent, nothing sent is a `?`
 still-role : (r : RoleTree) → (elim r [ syncs ↦ true | sends e ↦ false | receives ↦ false ]) ≡ true → r ≡ syncs
@@ -73,12 +66,8 @@ edge-all e h g =
     let f = and-three (list_all use_without e.uses) (list_all without_received e.guards) (updates_without e.updates) g in
     all-three (list_all only_syncs e.uses) (list_all without_received e.guards) (updates_without e.updates) h f.1 f.2
 
-none-still : (qs : List EquationTree) → is_nothing qs ≡ true → list_all (λ (q : EquationTree). without_received q.value) qs ≡ true
-none-still [] h = refl
-none-still (q ∷ qs) h = absurd (false-true refl h)
-
-location-fits : (l : LocationTree) → location_fits l ≡ true → (is_nothing l.equations ≡ true) × (list_all without_received l.marked ≡ true) × (list_all edge_fits l.edges ≡ true)
-location-fits l h = and-three (is_nothing l.equations) (list_all without_received l.marked) (list_all edge_fits l.edges) h
+location-fits : (l : LocationTree) → location_fits l ≡ true → (list_all equation_fits l.equations ≡ true) × (list_all without_received l.marked ≡ true) × (list_all edge_fits l.edges ≡ true)
+location-fits l h = and-three (list_all equation_fits l.equations) (list_all without_received l.marked) (list_all edge_fits l.edges) h
 
 location-edges : (l : LocationTree) → location_fits l ≡ true → list_all edge_fits l.edges ≡ true
 location-edges l h = (location-fits l h).2
@@ -86,8 +75,8 @@ location-edges l h = (location-fits l h).2
 location-still : (l : LocationTree) → location_fits l ≡ true → location_without l ≡ true
 location-still l h =
     let f = location-fits l h in
-    all-three (list_all without_received l.marked) (list_all (λ (q : EquationTree). without_received q.value) l.equations) (list_all edge_without l.edges) f.1
-    (none-still l.equations f.0) (all-implied edge_fits edge_without l.edges edge-still f.2)
+    all-three (list_all without_received l.marked) (list_all equation_fits l.equations) (list_all edge_without l.edges) f.1 f.0
+    (all-implied edge_fits edge_without l.edges edge-still f.2)
 
 -- ---- items
 
@@ -235,26 +224,24 @@ module _ (t : Source) (h : list_all own_at (bodies t) ≡ true) where
 
   bodies-built : is_built t ≡ true
   bodies-built =
-      and-both (has_no_algebra t && has_no_channels t && has_no_invariants t) (has_no_received t)
-      (all-three (has_no_algebra t) (has_no_channels t) (has_no_invariants t)
-      (and-both (every_decl is_no_algebra t) (every_location has_no_equations t) (decls-fit is_no_algebra (λ d f. (decl-fits d f).0)) (locations-fit has_no_equations (λ l f. (location-fits l f).0)))
+      all-three (has_no_channels t) (has_no_invariants t) (has_no_received t)
       (all-three (every_decl is_no_channel t) (every_edge (λ e. list_all only_syncs e.uses) t) (every_item takes_no_channel t)
-      (decls-fit is_no_channel (λ d f. (decl-fits d f).1)) (edges-fit (λ e. list_all only_syncs e.uses) (λ e f. (edge-fits e f).0))
+      (decls-fit is_no_channel (λ d f. (decl-fits d f).0)) (edges-fit (λ e. list_all only_syncs e.uses) (λ e f. (edge-fits e f).0))
       (items-fit takes_no_channel (λ i f. and-left (takes_no_channel i) (item_without i) f)))
-      (decls-fit is_no_invariant (λ d f. (decl-fits d f).2)))
+      (decls-fit is_no_invariant (λ d f. (decl-fits d f).1))
       (all-three (every_decl decl_without t) (every_location location_without t) (every_item item_without t)
-      (decls-fit decl_without (λ d f. (decl-fits d f).3)) (locations-fit location_without location-still)
+      (decls-fit decl_without (λ d f. (decl-fits d f).2)) (locations-fit location_without location-still)
       (items-fit item_without (λ i f. and-right (takes_no_channel i) (item_without i) f)))
 
 module _ (t : Source) (h : is_built t ≡ true) where
-  each : (has_no_algebra t ≡ true) × (has_no_channels t ≡ true) × (has_no_invariants t ≡ true) × (has_no_received t ≡ true)
-  each = and-four (has_no_algebra t) (has_no_channels t) (has_no_invariants t) (has_no_received t) h
+  each : (has_no_channels t ≡ true) × (has_no_invariants t ≡ true) × (has_no_received t ≡ true)
+  each = and-three (has_no_channels t) (has_no_invariants t) (has_no_received t) h
 
   channels : (every_decl is_no_channel t ≡ true) × (every_edge (λ e. list_all only_syncs e.uses) t ≡ true) × (every_item takes_no_channel t ≡ true)
-  channels = and-three (every_decl is_no_channel t) (every_edge (λ e. list_all only_syncs e.uses) t) (every_item takes_no_channel t) each.1
+  channels = and-three (every_decl is_no_channel t) (every_edge (λ e. list_all only_syncs e.uses) t) (every_item takes_no_channel t) each.0
 
   still : (every_decl decl_without t ≡ true) × (every_location location_without t ≡ true) × (every_item item_without t ≡ true)
-  still = and-three (every_decl decl_without t) (every_location location_without t) (every_item item_without t) each.3
+  still = and-three (every_decl decl_without t) (every_location location_without t) (every_item item_without t) each.2
 
   -- a test that all bodies pass, of one of them
   body-passes : (test : SourceBody → Bool) → list_all (λ c. test (body_of c)) (bodies t) ≡ true → (c : Component) → Member c (bodies t) → test (body_of c) ≡ true
@@ -268,22 +255,18 @@ module _ (t : Source) (h : is_built t ≡ true) where
 
   decl-built : (c : Component) → Member c (bodies t) → (d : DeclTree) → Member d (decls_in (body_of c)) → decl_fits d ≡ true
   decl-built c m d k =
-      and-both (is_no_algebra d && is_no_channel d && is_no_invariant d) (decl_without d)
-      (all-three (is_no_algebra d) (is_no_channel d) (is_no_invariant d)
-      (decl-passes is_no_algebra (and-left (every_decl is_no_algebra t) (every_location has_no_equations t) each.0) c m d k)
+      all-three (is_no_channel d) (is_no_invariant d) (decl_without d)
       (decl-passes is_no_channel channels.0 c m d k)
-      (decl-passes is_no_invariant each.2 c m d k))
+      (decl-passes is_no_invariant each.1 c m d k)
       (decl-passes decl_without still.0 c m d k)
 
   location-built : (c : Component) → Member c (bodies t) → (l : LocationTree) → Member l (locs_in (body_of c)) → location_fits l ≡ true
   location-built c m l k =
-      let without = and-three (list_all without_received l.marked) (list_all (λ (q : EquationTree). without_received q.value) l.equations) (list_all edge_without l.edges)
+      let without = and-three (list_all without_received l.marked) (list_all equation_fits l.equations) (list_all edge_without l.edges)
       (location-passes location_without still.1 c m l k) in
       let syncing : list_all (λ (e : EdgeTree). list_all only_syncs e.uses) l.edges ≡ true =
       location-passes (λ l. list_all (λ (e : EdgeTree). list_all only_syncs e.uses) l.edges) channels.1 c m l k in
-      all-three (is_nothing l.equations) (list_all without_received l.marked) (list_all edge_fits l.edges)
-      (location-passes has_no_equations (and-right (every_decl is_no_algebra t) (every_location has_no_equations t) each.0) c m l k)
-      without.0
+      all-three (list_all equation_fits l.equations) (list_all without_received l.marked) (list_all edge_fits l.edges) without.1 without.0
       (all-from edge_fits l.edges (λ e i. edge-all e (all-member (λ (e : EdgeTree). list_all only_syncs e.uses) l.edges e syncing i) (all-member edge_without l.edges e without.2 i)))
 
   items-built : (c : Component) → Member c (bodies t) → list_all item_own (items_in (body_of c)) ≡ true

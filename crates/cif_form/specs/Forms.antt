@@ -1,21 +1,25 @@
 -- The forms that are built so far, item by item: as code goes through a tree.
 use Rattle.std.specs.Prelude.{◌≡◌, ℕ, Bool, true, false, ◌&&◌, Result, Ok, Err}
 use Rattle.std.specs.List.{list_all}
-use Rattle.cif_source.specs.Source.{EdgeTree, LocationTree, DeclTree, ParamTree, AutomatonTree, SourceItem, decl_item, component_item, definition_item, instance_item, SourceBody, group_body, automaton_body, Source, no_source, source}
+use Rattle.cif_source.specs.Source.{EdgeTree, EquationTree, LocationTree, DeclTree, ParamTree, AutomatonTree, SourceItem, decl_item, component_item, definition_item, instance_item, SourceBody, group_body, automaton_body, Source, no_source, source}
 use Rattle.cif_image.specs.Received.{without_received, updates_without, decl_without, param_without}
-use Rattle.cif_image.specs.Built.{is_nothing, only_syncs, is_no_algebra, is_no_channel, is_no_channel_param, is_no_invariant}
+use Rattle.cif_image.specs.Built.{only_syncs, is_no_channel, is_no_channel_param, is_no_invariant}
 
--- neither an algebraic variable, an equation nor an invariant, an event that is no channel, and no `?` in it
+-- no invariant, an event that is no channel, and no `?` in it
 abbrev pub decl_fits : DeclTree → Bool
-decl_fits d = is_no_algebra d && is_no_channel d && is_no_invariant d && decl_without d
+decl_fits d = is_no_channel d && is_no_invariant d && decl_without d
 
 -- it synchronises, and no `?` stands in it
 abbrev pub edge_fits : EdgeTree → Bool
 edge_fits e = list_all only_syncs e.uses && list_all without_received e.guards && updates_without e.updates
 
--- without equations and `?`
+-- no `?` stands in its value
+abbrev pub equation_fits : EquationTree → Bool
+equation_fits q = without_received q.value
+
+-- without `?`
 abbrev pub location_fits : LocationTree → Bool
-location_fits l = is_nothing l.equations && list_all without_received l.marked && list_all edge_fits l.edges
+location_fits l = list_all equation_fits l.equations && list_all without_received l.marked && list_all edge_fits l.edges
 
 abbrev pub automaton_fits : AutomatonTree → Bool
 automaton_fits a = list_all decl_fits a.decls && list_all location_fits a.locs

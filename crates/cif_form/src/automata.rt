@@ -4,7 +4,7 @@ ghost use Rattle.std.specs.Prelude.{map, option_map};
 ghost use Rattle.std.specs.List.{list_all};
 ghost use Rattle.cif_ast.specs.View.{view};
 ghost use Rattle.cif_source.specs.Source as source;
-ghost use Rattle.cif_image.specs.Built.{is_nothing, only_syncs};
+ghost use Rattle.cif_image.specs.Built.{only_syncs};
 ghost use Rattle.cif_image.specs.Received as received;
 ghost use Rattle.cif_form.specs.Forms as form;
 ghost use Rattle.cif_form.specs.Forms.{Answers};
@@ -34,7 +34,8 @@ fn check_value(value: &Option<Expr>) -> Result<(), u32>
     }
 }
 
-/// A declaration of a type, an enumeration, a constant, an input, a variable, an event that is no channel, or a marking predicate.
+/// A declaration of a type, an enumeration, a constant, an input, a variable, an equation, an event that is no channel, or a marking
+/// predicate.
 pub fn check_decl(decl: &Decl) -> Result<(), u32>
     ensures { Answers result (form.decl_fits (source.decl_tree decl.now)) }
 {
@@ -45,14 +46,13 @@ pub fn check_decl(decl: &Decl) -> Result<(), u32>
             check_type(ty)?;
             check_expr(value)
         }
-        Decl::Disc { ty, name: _, value } => {
+        Decl::Disc { ty, name: _, value } | Decl::Alg { ty, name: _, value } => {
             check_type(ty)?;
             check_value(value)
         }
+        Decl::Equation { name: _, value } => check_expr(value),
         Decl::Marked(predicate) => check_expr(predicate),
-        Decl::Event { .. } | Decl::Alg { .. } | Decl::Equation { .. } | Decl::Inv(_) => Err(
-            decl_place(decl),
-        ),
+        Decl::Event { .. } | Decl::Inv(_) => Err(decl_place(decl)),
     }
 }
 
@@ -121,12 +121,12 @@ fn check_edges(edges: &[Edge]) -> Result<(), u32>
 }
 
 fn check_equations(equations: &[LocEquation]) -> Result<(), u32>
-    ensures { Answers result (is_nothing (map source.equation_tree equations.now)) }
+    ensures { Answers result (list_all form.equation_fits (map source.equation_tree equations.now)) }
 {
-    match equations {
-        [equation, ..] => Err(equation.name.at),
-        [] => Ok(()),
+    for equation in equations {
+        check_expr(&equation.value)?;
     }
+    Ok(())
 }
 
 fn check_location(loc: &Loc) -> Result<(), u32>

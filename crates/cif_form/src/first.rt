@@ -46,10 +46,10 @@ fn check_items(items: &[Item]) -> Result<(), u32>
     Ok(())
 }
 
-/// The byte of a thing that has no form for which programs are written so far: an algebraic variable, an equation, an invariant, a
-/// channel, also as a parameter, a use of an event that sends or receives, or a `?`. It is the first, but for the parts of a location
-/// and of an edge: a location's equations come before its predicates, and an edge's events before its guards and updates. `None` where
-/// there is no such thing. The time is linear in the tree.
+/// The byte of a thing that has no form for which programs are written so far: an invariant, a channel, also as a parameter, a use
+/// of an event that sends or receives, or a `?`. It is the first, but for the parts of a location and of an edge: a location's
+/// equations come before its predicates, and an edge's events before its guards and updates. `None` where there is no such thing.
+/// The time is linear in the tree.
 #[tactic(auto, using(crate::proofs::FormLaws::fitting, crate::proofs::FormLaws::misfitting))]
 pub fn misfit(spec: &Spec) -> Option<u32>
     ensures none { result ≡ None → is_built (source_of spec.now) ≡ true }

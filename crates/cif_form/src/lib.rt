@@ -1,5 +1,5 @@
 //! Which sources have the forms for which programs are written so far: groups, automata, definitions and instances with events,
-//! locations, edges, inputs, discrete variables, constants and types, without algebraic variables, equations, channels and invariants.
+//! locations, edges, inputs, discrete and algebraic variables, equations, constants and types, without channels and invariants.
 #![tactic(auto)]
 
 mod automata;

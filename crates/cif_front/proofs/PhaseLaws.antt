@@ -4,8 +4,9 @@ use Rattle.cif_system.specs.Words.{Exceeds}
 use Rattle.cif_system.specs.Choices.{all_choices}
 use Rattle.cif_model.specs.Net.{Net}
 use Rattle.cif_model.specs.Counts.{most_choices}
+use Rattle.cif_model.specs.Inline.{Unfolds}
 use Rattle.cif_model.specs.Meaning.{system_of_net}
-use Rattle.cif_model.specs.Rules.{ZeroDivisor, TooWide, TooLarge}
+use Rattle.cif_model.specs.Rules.{AlgCycle, ZeroDivisor, TooWide, TooLarge}
 use Rattle.cif_source.specs.Source.{Source}
 use Rattle.cif_scope.specs.Scopes.{AreScopesOf, KeepsScoping}
 use Rattle.cif_scope.specs.declared.error.ScopeErr.{ScopeErr}
@@ -29,6 +30,7 @@ use Rattle.cif_image.specs.Represents.{Represents}
 use Rattle.cif_image.specs.WellFormed.{Refusal, unknown, duplicate, wrong_kind, definition_cycle, mismatch, not_constant, initials, not_own, assigned_twice, equations, alphabet_lacks, role_mixed, too_many_objects, constant_range, alg_cycle, zero_divisor, too_wide, invariant_reads_input, invariant_false, too_large, too_many_choices, Broken, Phase, phase, order, scope as scopes, kinds, instances, algebraic, choices, KeepsBefore}
 use Rattle.cif_flat.proofs.NetLaws.{silent}
 use Rattle.cif_front.specs.Kept.{KeepsSource}
+use Rattle.cif_front.specs.Loads.{Stands}
 use Rattle.cif_front.specs.Dues.{IsDueOf, scope_refusal, type_refusal, inst_refusal, alg_refusal, lin_refusal}
 
 module _ (t : Source) where
@@ -117,9 +119,6 @@ module _ (t : Source) where
       below choices = omega arith
 
   module _ (n : Net) (r : Represents n t) where
-    pub net_algs : is_built t ≡ true → n.algs ≡ []
-    net_algs built = ap (λ (m : Net). m.algs) r.translated ∙ (silent t built).algs
-
     pub net_invariants : is_built t ≡ true → n.invariants ≡ []
     net_invariants built = ap (λ (m : Net). m.invariants) r.translated ∙ (silent t built).invariants
 
@@ -127,23 +126,29 @@ module _ (t : Source) where
     plain_kept h = subst algs.KeepsAlgebraic r.translated h
 
     pub alg_due : KeepsSource t → (e : AlgErr) → algs.due n e → IsDueOf t (alg_refusal e)
+    alg_due kept (alg.Cycle number) h = record { broken = subst (λ m. AlgCycle m number) r.translated h; first_phase = before_algebraic kept }
     alg_due kept (alg.ZeroDivisor at) h = record { broken = subst (λ m. ZeroDivisor m at) r.translated h; first_phase = before_algebraic kept }
     alg_due kept (alg.TooWide at) h = record { broken = subst (λ m. TooWide m at) r.translated h; first_phase = before_algebraic kept }
     alg_due kept (alg.TooLarge nodes depth) h = record { broken = subst (λ m. TooLarge m nodes depth) r.translated h; first_phase = before_algebraic kept }
     alg_due kept alg.Memory h = tt
 
-    -- ---- choices
+    -- what is made of it stands for the source
+    pub unfolded_stands : (p : Net) → Unfolds n p → system_of_net p ≡ system_of_net n → Stands p t
+    unfolded_stands p u same = record { unfolds = subst (λ m. Unfolds m p) r.translated u; meaning = same ∙ r.meaning }
 
-    few-kept : all_choices (system_of_net n) ≤ most_choices → (count : ℕ) → Broken t (too_many_choices count) → ⊥
-    few-kept few count h = let over = h.0 in let few_of = subst (λ s. all_choices s ≤ most_choices) r.meaning few in absurd (omega (arith, over, few_of))
+  -- ---- choices
 
-    pub all_kept : KeepsSource t → algs.KeepsAlgebraic (net_of_source t) → all_choices (system_of_net n) ≤ most_choices → (q : Refusal) → Broken t q → ⊥
+  module _ (p : Net) (s : Stands p t) where
+    few-kept : all_choices (system_of_net p) ≤ most_choices → (count : ℕ) → Broken t (too_many_choices count) → ⊥
+    few-kept few count h = let over = h.0 in let few_of = subst (λ y. all_choices y ≤ most_choices) s.meaning few in absurd (omega (arith, over, few_of))
+
+    pub all_kept : KeepsSource t → algs.KeepsAlgebraic (net_of_source t) → all_choices (system_of_net p) ≤ most_choices → (q : Refusal) → Broken t q → ⊥
     all_kept kept plain few q b = kept-in 5 (λ h. kept.names) (λ h. kept.kinds) (λ h. kept.objects) (λ h. plain) (λ h. few-kept few) q (last q) b
 
-    pub lin_due : KeepsSource t → algs.KeepsAlgebraic (net_of_source t) → (e : LinErr) → ((count : ℕ) → e ≡ lin.TooManyChoices count → Exceeds most_choices (all_choices (system_of_net n)) count)
+    pub lin_due : KeepsSource t → algs.KeepsAlgebraic (net_of_source t) → (e : LinErr) → ((count : ℕ) → e ≡ lin.TooManyChoices count → Exceeds most_choices (all_choices (system_of_net p)) count)
         → IsDueOf t (lin_refusal e)
     lin_due kept plain (lin.TooManyChoices count) h = record {
-      broken = subst (λ s. Exceeds most_choices (all_choices s) count) r.meaning (h count refl);
+      broken = subst (λ y. Exceeds most_choices (all_choices y) count) s.meaning (h count refl);
       first_phase = before_choices kept plain;
     }
     lin_due kept plain lin.Memory h = tt

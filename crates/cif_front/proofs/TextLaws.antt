@@ -46,4 +46,4 @@ module _ (text : Text) (tree : Spec) (read : ReadsAsTree text tree) (built : is_
   source_due (refusal.Lin e) h = has-rule (rule_of (refusal.Lin e)) h
 
   pub source_loaded : (g : Guarded) → IsLoadedFrom (source_of tree) g → Loads text g
-  source_loaded g h = (source_of tree, record { tree = tree; read = read; is = refl; built = built; keeps = h.keeps }, h.represents)
+  source_loaded g h = (source_of tree, record { tree = tree; read = read; is = refl; built = built; keeps = h.keeps }, h.stands)

@@ -62,6 +62,7 @@ inst_refusal (inst.TooLarge nodes depth) = refusal.Inst (inst.TooLarge nodes dep
 
 abbrev pub alg_refusal : AlgErr → Refusal
 alg_refusal alg.Memory = refusal.Memory
+alg_refusal (alg.Cycle number) = refusal.Alg (alg.Cycle number)
 alg_refusal (alg.ZeroDivisor at) = refusal.Alg (alg.ZeroDivisor at)
 alg_refusal (alg.TooWide at) = refusal.Alg (alg.TooWide at)
 alg_refusal (alg.TooLarge nodes depth) = refusal.Alg (alg.TooLarge nodes depth)
@@ -96,6 +97,7 @@ inst_rule (inst.TooLarge nodes depth) = Some (rule.too_large nodes depth)
 inst_rule inst.Memory = None
 
 abbrev pub alg_rule : AlgErr → Option rule.Refusal
+alg_rule (alg.Cycle number) = Some (rule.alg_cycle number)
 alg_rule (alg.ZeroDivisor at) = Some (rule.zero_divisor at)
 alg_rule (alg.TooWide at) = Some (rule.too_wide at)
 alg_rule (alg.TooLarge nodes depth) = Some (rule.too_large nodes depth)

@@ -1,3 +1,4 @@
 pub mod Dues
 pub mod Loads
 pub mod Kept
+pub mod Paths

@@ -12,11 +12,14 @@ ghost use Rattle.cif_image.specs.Flat.{net_of_source};
 ghost use Rattle.cif_alg.specs.Keeps.{KeepsAlgebraic};
 ghost use Rattle.cif_front.specs.Dues.{IsDueOf};
 ghost use Rattle.cif_front.specs.Kept.{KeepsSource};
-ghost use Rattle.cif_front.specs.Loads.{IsLoadedFrom};
+ghost use Rattle.cif_front.specs.Loads.{IsLoadedFrom, Stands};
+ghost use Rattle.cif_front.specs.Paths as paths;
+ghost use Rattle.cif_front.specs.Paths.{NamesNothing, NamesOf};
 
-use crate::refusal::Refusal;
-use cif_alg::inline;
+use crate::refusal::{Refusal, Refused};
+use cif_alg::{AlgErr, check_net};
 use cif_ast::Spec;
+use cif_base::{Memory, Text};
 use cif_guard::guard;
 use cif_inst::instantiate;
 use cif_lin::linearise;
@@ -25,20 +28,22 @@ use cif_resolve::resolve;
 use cif_scope::Scopes;
 use cif_sync::roles;
 use cif_types::check_kinds;
+use cif_unfold::unfold;
 use std::alloc::Global;
 
 /// The scopes of a source.
-#[tactic(auto, using(crate::proofs::PhaseLaws::scope_due))]
+#[tactic(auto, using(crate::proofs::PhaseLaws::scope_due, crate::proofs::PathLaws::scope_silent))]
 fn scopes_of(alloc: Global, spec: &Spec) -> Result<Scopes, Refusal>
     ensures scopes { IfOk result (λ s. AreScopesOf (source_of spec.now) s) }
     ensures refused { IfErr result (λ e. IsDueOf (source_of spec.now) e) }
+    ensures silent { IfErr result NamesNothing }
 {
     Ok(resolve(alloc, spec)?)
 }
 
 /// The net of a source, by its scopes.
-#[tactic(auto, using(crate::proofs::PhaseLaws::source_kept, crate::proofs::PhaseLaws::type_due, crate::proofs::PhaseLaws::inst_due))]
-fn net_of(alloc: Global, spec: &Spec, scopes: &Scopes) -> Result<Net, Refusal>
+#[tactic(auto, using(crate::proofs::PhaseLaws::source_kept, crate::proofs::PhaseLaws::type_due, crate::proofs::PhaseLaws::inst_due, crate::proofs::PathLaws::type_silent, crate::proofs::PathLaws::inst_silent))]
+fn net_by(alloc: Global, spec: &Spec, scopes: &Scopes) -> Result<Net, Refusal>
     requires countable { IsCountable spec.now }
     requires small { HasSmallNumbers spec.now }
     requires scopes { AreScopesOf (source_of spec.now) scopes.now }
@@ -46,33 +51,82 @@ fn net_of(alloc: Global, spec: &Spec, scopes: &Scopes) -> Result<Net, Refusal>
     ensures represents { IfOk result (λ n. Represents (net_tree n) (source_of spec.now)) }
     ensures kept { IfOk result (λ n. KeepsSource (source_of spec.now)) }
     ensures refused { IfErr result (λ e. IsDueOf (source_of spec.now) e) }
+    ensures silent { IfErr result NamesNothing }
 {
     let kinds = check_kinds(alloc, spec, scopes)?;
     Ok(instantiate(alloc, spec, scopes, &kinds)?)
 }
 
-/// The plain net of a source, by its net.
-fn plain_of(alloc: Global, _spec: &Spec, net: Net) -> Result<Plain, Refusal>
+/// The net of a source.
+fn net_of(alloc: Global, spec: &Spec) -> Result<Net, Refusal>
+    requires countable { IsCountable spec.now }
+    requires small { HasSmallNumbers spec.now }
+    requires forms { is_built (source_of spec.now) ≡ true }
+    ensures represents { IfOk result (λ n. Represents (net_tree n) (source_of spec.now)) }
+    ensures kept { IfOk result (λ n. KeepsSource (source_of spec.now)) }
+    ensures refused { IfErr result (λ e. IsDueOf (source_of spec.now) e) }
+    ensures silent { IfErr result NamesNothing }
+{
+    let scopes = scopes_of(alloc, spec)?;
+    net_by(alloc, spec, &scopes)
+}
+
+/// The path of an algebraic variable of a net.
+fn path_of(alloc: Global, net: &Net, alg: u32) -> Result<Text, Memory>
+    ensures { IfOk result (λ path. path ≡ paths.path_in (net_tree net.now) alg) }
+{
+    match net.algs.get(alg as usize) {
+        Some(found) => found.path.copy(alloc),
+        None => Ok(Text::new(alloc)),
+    }
+}
+
+/// The refusal of a net: an algebraic variable that depends on itself is told by its path.
+fn refused_net(alloc: Global, net: &Net, error: AlgErr) -> Refused
+    ensures { paths.IsRefusedNet (net_tree net.now) error result }
+{
+    match error {
+        AlgErr::Cycle { alg } => match path_of(alloc, net, alg) {
+            Ok(path) => Refused {
+                why: Refusal::from(error),
+                path,
+            },
+            Err(_memory) => Refused::plain(alloc, Refusal::Memory),
+        },
+        AlgErr::ZeroDivisor { .. }
+        | AlgErr::TooWide { .. }
+        | AlgErr::TooLarge { .. }
+        | AlgErr::Memory => Refused::plain(alloc, Refusal::from(error)),
+    }
+}
+
+/// The plain net of a source, by its net: algebraic variables are replaced by their definitions.
+fn plain_of(alloc: Global, _spec: &Spec, net: Net) -> Result<Plain, Refused>
     requires represents { Represents (net_tree net) (source_of _spec.now) }
     requires kept { KeepsSource (source_of _spec.now) }
     requires forms { is_built (source_of _spec.now) ≡ true }
-    ensures represents { IfOk result (λ p. Represents (net_tree p.net) (source_of _spec.now)) }
+    ensures stands { IfOk result (λ p. Stands (net_tree p.net) (source_of _spec.now)) }
     ensures plain { IfOk result (λ p. KeepsAlgebraic (net_of_source (source_of _spec.now))) }
-    ensures refused { IfErr result (λ e. IsDueOf (source_of _spec.now) e) }
+    ensures refused { IfErr result (λ e. IsDueOf (source_of _spec.now) e.why) }
+    ensures named { IfErr result (λ e. NamesOf (source_of _spec.now) e.why e.path) }
 {
-    match inline(alloc, net) {
-        Ok(plain) => Ok(plain),
-        Err(error) => Err(Refusal::from(error)),
+    match check_net(alloc, &net) {
+        Ok(order) => match unfold(alloc, net, order.as_slice()) {
+            Ok(plain) => Ok(plain),
+            Err(_memory) => Err(Refused::plain(alloc, Refusal::Memory)),
+        },
+        Err(error) => Err(refused_net(alloc, &net, error)),
     }
 }
 
 /// The net of a source with the choices of all events, by its plain net.
 fn guarded_of(alloc: Global, _spec: &Spec, plain: Plain) -> Result<Guarded, Refusal>
-    requires represents { Represents (net_tree plain.net) (source_of _spec.now) }
+    requires stands { Stands (net_tree plain.net) (source_of _spec.now) }
     requires kept { KeepsSource (source_of _spec.now) }
     requires plain { KeepsAlgebraic (net_of_source (source_of _spec.now)) }
     ensures loaded { IfOk result (λ g. IsLoadedFrom (source_of _spec.now) g) }
     ensures refused { IfErr result (λ e. IsDueOf (source_of _spec.now) e) }
+    ensures silent { IfErr result NamesNothing }
 {
     let roles = roles(alloc, &plain)?;
     match linearise(alloc, &plain, &roles) {
@@ -83,15 +137,21 @@ fn guarded_of(alloc: Global, _spec: &Spec, plain: Plain) -> Result<Guarded, Refu
 
 /// The net of a source of the forms that are built so far, with the choices of all events, or a rule that it breaks, of the first
 /// phase in which it breaks one.
-pub fn build(alloc: Global, spec: &Spec) -> Result<Guarded, Refusal>
+pub fn build(alloc: Global, spec: &Spec) -> Result<Guarded, Refused>
     requires countable { IsCountable spec.now }
     requires small { HasSmallNumbers spec.now }
     requires forms { is_built (source_of spec.now) ≡ true }
     ensures loaded { IfOk result (λ g. IsLoadedFrom (source_of spec.now) g) }
-    ensures refused { IfErr result (λ e. IsDueOf (source_of spec.now) e) }
+    ensures refused { IfErr result (λ e. IsDueOf (source_of spec.now) e.why) }
+    ensures named { IfErr result (λ e. NamesOf (source_of spec.now) e.why e.path) }
 {
-    let scopes = scopes_of(alloc, spec)?;
-    let net = net_of(alloc, spec, &scopes)?;
+    let net = match net_of(alloc, spec) {
+        Ok(net) => net,
+        Err(why) => return Err(Refused::plain(alloc, why)),
+    };
     let plain = plain_of(alloc, spec, net)?;
-    guarded_of(alloc, spec, plain)
+    match guarded_of(alloc, spec, plain) {
+        Ok(guarded) => Ok(guarded),
+        Err(why) => Err(Refused::plain(alloc, why)),
+    }
 }

@@ -6,5 +6,5 @@ mod building;
 mod loading;
 mod refusal;
 
-pub use loading::load;
-pub use refusal::Refusal;
+pub use loading::{load, load_named};
+pub use refusal::{Refusal, Refused};

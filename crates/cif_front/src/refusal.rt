@@ -1,17 +1,18 @@
 //! Why a source is not loaded.
 
-ghost use Rattle.std.specs.Prelude.{◌≡◌};
+ghost use Rattle.std.specs.Prelude.{◌≡◌, []};
 ghost use Rattle.cif_front.specs.Dues.{lex_refusal, parse_refusal, scope_refusal, type_refusal, inst_refusal, alg_refusal, lin_refusal};
 ghost use Rattle.cif_front.specs.declared.refusal.Refusal.TheVariants.{Memory as no_memory};
 
 use cif_alg::AlgErr;
-use cif_base::Memory;
+use cif_base::{Memory, Text};
 use cif_inst::InstErr;
 use cif_lex::LexErr;
 use cif_lin::LinErr;
 use cif_parse::ParseErr;
 use cif_scope::ScopeErr;
 use cif_types::TypeErr;
+use std::alloc::Global;
 
 /// Why a source is not loaded, by the phase that tells it: a phase is begun only where those before it refuse nothing. Want of
 /// memory in any of them is told as `Memory`.
@@ -27,6 +28,25 @@ pub enum Refusal {
     Alg(AlgErr),
     Lin(LinErr),
     Memory,
+}
+
+/// Why a source is not loaded, and the path of the algebraic variable that the refusal tells of. It is empty where it tells of none.
+#[derive(Debug, Drop)]
+pub struct Refused {
+    pub why: Refusal,
+    pub path: Text,
+}
+
+impl Refused {
+    /// A refusal that tells of no algebraic variable. It takes no memory.
+    pub fn plain(alloc: Global, why: Refusal) -> Refused
+        ensures { result ≡ record { why = why; path = [] } }
+    {
+        Refused {
+            why,
+            path: Text::new(alloc),
+        }
+    }
 }
 
 impl From<Memory> for Refusal {

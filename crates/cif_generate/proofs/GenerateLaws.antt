@@ -38,47 +38,48 @@ use Rattle.cif_generate.specs.Meaning.{AreClassed, IsTextOf, StartsInitial, even
 use Rattle.cif_generate.specs.Generates.{Writes, generate_work, is_unclassed}
 use Rattle.cif_generate.specs.Told.{IsTold, TellsOf, path_in}
 use Rattle.cif_generate.proofs.FaceLaws.{face-same}
+use Rattle.cif_generate.proofs.UnfoldedLaws.{face-unfolded, silent-unfolded, shallow-unfolded}
 use Rattle.cif_generate.proofs.ProgramLaws.{built-silent, read-shallow}
 
 -- ---- texts
 
 module _ (U C : ℕ) (t : Built) (text : Text) (h : IsTextOf U C t text) where
   -- what is so over what the net shows and means is so over what the source does
-  over : (P : Face → System → Program → Type 0) → TheProgram text (P (face_of_net (net_of_source t)) (system_of_net (net_of_source t)))
+  over : (P : Face → System → Program → Type 0) → TheProgram text (P (face_of_net h.net) (system_of_net h.net))
       → TheProgram text (P (shown_of t) (meant_by t))
   over P x =
-      subst (λ f. TheProgram text (P f (meant_by t))) (face-same t)
-      (subst (λ s. TheProgram text (P (face_of_net (net_of_source t)) s)) h.meaning x)
+      subst (λ f. TheProgram text (P f (meant_by t))) (face-unfolded (net_of_source t) h.net h.stands.unfolds ∙ face-same t)
+      (subst (λ s. TheProgram text (P (face_of_net h.net) s)) h.stands.meaning x)
 
   pub program : TheProgram text (HasInterface (shown_of t))
-  program = over (λ f s. HasInterface f) (law.has_interface (net_of_source t) U C text h.of_net)
+  program = over (λ f s. HasInterface f) (law.has_interface h.net U C text h.of_net)
 
   pub starts_initial : TheProgram text (StartsInitial (shown_of t) (meant_by t))
-  starts_initial = over StartsInitial (law.starts_initial (net_of_source t) U C text h.of_net)
+  starts_initial = over StartsInitial (law.starts_initial h.net U C text h.of_net)
 
   pub runs_first_steps : TheProgram text (RunsFirstSteps (shown_of t) (meant_by t))
-  runs_first_steps = over RunsFirstSteps (law.runs_first_steps (net_of_source t) U C text h.of_net)
+  runs_first_steps = over RunsFirstSteps (law.runs_first_steps h.net U C text h.of_net)
 
   pub never_faults : TheProgram text (NeverFaults (meant_by t))
-  never_faults = over (λ f s. NeverFaults s) (law.never_faults (net_of_source t) U C text h.of_net)
+  never_faults = over (λ f s. NeverFaults s) (law.never_faults h.net U C text h.of_net)
 
   pub scans_legally : TheProgram text (ScansLegally U C (shown_of t) (meant_by t))
-  scans_legally = over (ScansLegally U C) (law.scans_legally (net_of_source t) U C text h.of_net)
+  scans_legally = over (ScansLegally U C) (law.scans_legally h.net U C text h.of_net)
 
   pub scans_exactly : TheProgram text (ScansExactly U C (shown_of t) (meant_by t))
-  scans_exactly = over (ScansExactly U C) (law.scans_exactly (net_of_source t) U C text h.of_net)
+  scans_exactly = over (ScansExactly U C) (law.scans_exactly h.net U C text h.of_net)
 
   pub shows_outputs : TheProgram text (ShowsOutputs (shown_of t) (meant_by t))
-  shows_outputs = over ShowsOutputs (law.shows_outputs (net_of_source t) U C text h.of_net)
+  shows_outputs = over ShowsOutputs (law.shows_outputs h.net U C text h.of_net)
 
   pub stays_typed : TheProgram text (StaysTyped (meant_by t))
-  stays_typed = over (λ f s. StaysTyped s) (law.stays_typed (net_of_source t) U C text h.of_net)
+  stays_typed = over (λ f s. StaysTyped s) (law.stays_typed h.net U C text h.of_net)
 
   pub laid_out : TheProgram text (IsLayoutOf text)
-  laid_out = law.laid_out (net_of_source t) U C text h.of_net
+  laid_out = law.laid_out h.net U C text h.of_net
 
   pub classed : AreClassed t
-  classed event due = h.of_net.classed event (subst (λ s. IsTrue (is_of s plain event)) (sym h.meaning) due.0)
+  classed event due = h.of_net.classed event (subst (λ s. IsTrue (is_of s plain event)) (sym h.stands.meaning) due.0)
 
 -- ---- the net of the source in the file
 
@@ -90,16 +91,13 @@ path-same (d ∷ ds) (suc k) = path-same ds k
 
 module _ (content : Content) (file : Text) (g : Guarded) (l : IsLoaded content file g) where
   pub loaded_silent : is_silent (net_tree g.plain.net) ≡ true
-  loaded_silent = ap is_silent l.2.translated ∙ built-silent l.0 l.1.3.built
+  loaded_silent = silent-unfolded (net_of_source l.0) (net_tree g.plain.net) l.2.unfolds ∙ built-silent l.0 l.1.3.built
 
   pub loaded_shallow : is_shallow (net_tree g.plain.net) ≡ true
-  loaded_shallow = ap is_shallow l.2.translated ∙ read-shallow l.1.0 l.0 l.1.3
-
-  same_meaning : system_of_net (net_of_source l.0) ≡ meant_by l.0
-  same_meaning = sym (ap system_of_net l.2.translated) ∙ l.2.meaning
+  loaded_shallow = shallow-unfolded (net_of_source l.0) (net_tree g.plain.net) l.2.unfolds ∙ read-shallow l.1.0 l.0 l.1.3
 
   pub loaded_text : (U C : ℕ) (text : Text) → written.IsTextOf (net_tree g.plain.net) U C text → (t : Built) × SourceIs content file t × IsTextOf U C t text
-  loaded_text U C text h = (l.0, l.1, record { of_net = subst (λ n. written.IsTextOf n U C text) l.2.translated h; meaning = same_meaning })
+  loaded_text U C text h = (l.0, l.1, record { net = net_tree g.plain.net; stands = l.2; of_net = h })
 
   first_due : (event : ℕ) → IsFirstUnclassed (net_tree g.plain.net) event → UnclassedDue l.0 event
   first_due event h = (
@@ -108,7 +106,7 @@ module _ (content : Content) (file : Text) (g : Guarded) (l : IsLoaded content f
   )
 
   path_is : (event : ℕ) → path_in (net_tree g.plain.net) event ≡ event_path l.0 event
-  path_is event = ap (λ n. path_in n event) l.2.translated ∙ path-same (events l.0) event
+  path_is event = ap (λ n. path_in n event) l.2.unfolds.whole ∙ path-same (events l.0) event
 
   -- the command ends so over a source with an event without a class
   pub unclassed_stops : (q : Generate) → q.file ≡ file → (event : ℕ) → IsFirstUnclassed (net_tree g.plain.net) event → (c : Reading) (e : Ended)

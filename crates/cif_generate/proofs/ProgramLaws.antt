@@ -15,14 +15,13 @@ use Rattle.cif_shallow.proofs.NestingLaws.{shallow-nets}
 use Rattle.plc_parts.specs.Parts.{is_no_channel, is_silent}
 use Rattle.cif_accept.specs.Built.{ReadsAsBuilt}
 
-three : (a b c : Bool) → a ≡ true → b ≡ true → c ≡ true → (a && b && c) ≡ true
-three a b c h g f = λ i. h i && g i && f i
+two : (a b : Bool) → a ≡ true → b ≡ true → (a && b) ≡ true
+two a b h g = λ i. h i && g i
 
 pub built-silent : (t : Source) → is_built t ≡ true → is_silent (net_of_source t) ≡ true
 built-silent t built =
     let s = flat.silent t built in
-    three (nat_eq (length (net_of_source t).algs) 0) (nat_eq (length (net_of_source t).invariants) 0) (list_all is_no_channel (net_of_source t).events)
-    (ap (λ xs. nat_eq (length xs) 0) s.algs)
+    two (nat_eq (length (net_of_source t).invariants) 0) (list_all is_no_channel (net_of_source t).events)
     (ap (λ xs. nat_eq (length xs) 0) s.invariants)
     (all-from is_no_channel (net_of_source t).events (λ e m. ap (λ c. elim c [ no_net_chan ↦ true | _ ↦ false ]) (s.channels e m)))
 

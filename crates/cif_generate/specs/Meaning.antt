@@ -1,16 +1,17 @@
 -- What is said of the text that `generate` writes, over what a source is built into: its face, its system, and the text.
-use Rattle.std.specs.Prelude.{◌≡◌, ℕ, [], Some, None, slice_get}
+use Rattle.std.specs.Prelude.{ℕ, [], Some, None, slice_get}
 use Rattle.grammar.specs.Pieces.{Text}
 use Rattle.cif_system.specs.System.{System, initial}
 use Rattle.cif_source.specs.Objects.{events}
 use Rattle.cif_source.specs.Step.{system_of}
-use Rattle.cif_model.specs.Meaning.{system_of_net}
-use Rattle.cif_image.specs.Flat.{net_event, net_of_source}
+use Rattle.cif_model.specs.Net.{Net}
+use Rattle.cif_image.specs.Flat.{net_event}
 use Rattle.cif_image.specs.NetRules.{UnclassedDue}
 use Rattle.st_ast.specs.Tree.{Program}
 use Rattle.st_ast.specs.Scan.{start_memory}
 use Rattle.plc_face.specs.Face.{Face, StateOf}
 use Rattle.plc_back.specs.Written as written
+use Rattle.cif_front.specs.Loads.{Stands}
 use Rattle.cif_accept.specs.Built.{Built}
 use Rattle.cif_generate.specs.Shown.{face_of}
 
@@ -26,10 +27,12 @@ meant_by t = system_of t
 abbrev pub AreClassed : Built → Type 0
 AreClassed t = (event : ℕ) → UnclassedDue t event → ⊥
 
--- the text is the printed program of the net that it is translated to, which means the same, with these most rounds of each class in a scan
+-- the text is the printed program of the net that it is translated to, with algebraic variables replaced by their definitions, which
+-- means the same, with these most rounds of each class in a scan
 pub record IsTextOf (unc con : ℕ) (t : Built) (text : Text) : Type 0 where
-  pub of_net : written.IsTextOf (net_of_source t) unc con text
-  pub meaning : system_of_net (net_of_source t) ≡ system_of t
+  pub net : Net
+  pub stands : Stands net t
+  pub of_net : written.IsTextOf net unc con text
 
 -- the memory of the declarations stands for the initial state
 abbrev pub StartsInitial : Face → System → Program → Type 0

@@ -1,7 +1,7 @@
 -- The forms of a source that are built so far. Each test names one form that is not built yet, and is about bodies as written.
-use Rattle.std.specs.Prelude.{Bool, true, false, ◌&&◌, List, [], ◌∷◌}
+use Rattle.std.specs.Prelude.{Bool, true, false, ◌&&◌}
 use Rattle.std.specs.List.{list_all}
-use Rattle.cif_source.specs.Source.{ChannelTree, no_type, void_type, value_type, syncs, sends, receives, UseTree, EdgeTree, LocationTree, DeclTree, event_decl, alg_decl, equation_decl, invariant_decl, ParamTree, event_param, SourceItem, definition_item, SourceBody, Source}
+use Rattle.cif_source.specs.Source.{ChannelTree, no_type, void_type, value_type, syncs, sends, receives, UseTree, EdgeTree, LocationTree, DeclTree, event_decl, invariant_decl, ParamTree, event_param, SourceItem, definition_item, SourceBody, Source}
 use Rattle.cif_source.specs.Components.{body_of}
 use Rattle.cif_source.specs.Objects.{bodies, items_in, decls_in, locs_in}
 use Rattle.cif_image.specs.Received.{decl_without, location_without, item_without}
@@ -22,10 +22,6 @@ every_location test t = every_body (λ b. list_all test (locs_in b)) t
 
 abbrev pub every_edge : (EdgeTree → Bool) → Source → Bool
 every_edge test t = every_location (λ l. list_all test l.edges) t
-
-abbrev pub is_nothing : {A : Type 0} → List A → Bool
-is_nothing [] = true
-is_nothing (x ∷ xs) = false
 
 -- ---- channels
 
@@ -63,20 +59,6 @@ is_no_invariant _ = true
 abbrev pub has_no_invariants : Source → Bool
 has_no_invariants t = every_decl is_no_invariant t
 
--- ---- algebraic variables and their equations
-
-abbrev pub is_no_algebra : DeclTree → Bool
-is_no_algebra (alg_decl ty n e) = false
-is_no_algebra (equation_decl q) = false
-is_no_algebra _ = true
-
-abbrev pub has_no_equations : LocationTree → Bool
-has_no_equations l = is_nothing l.equations
-
--- A parameter `alg` of a definition is not asked: it is no algebraic variable, and stands for its argument.
-abbrev pub has_no_algebra : Source → Bool
-has_no_algebra t = every_decl is_no_algebra t && every_location has_no_equations t
-
 -- ---- received values
 
 abbrev pub has_no_received : Source → Bool
@@ -84,7 +66,7 @@ has_no_received t = every_decl decl_without t && every_location location_without
 
 -- ---- all
 
--- groups, automata, definitions and instances with events, locations and edges, inputs, discrete variables, constants, types,
--- guards, updates and marking predicates
+-- groups, automata, definitions and instances with events, locations and edges, inputs, discrete and algebraic variables, equations,
+-- constants, types, guards, updates and marking predicates
 abbrev pub is_built : Source → Bool
-is_built t = has_no_algebra t && has_no_channels t && has_no_invariants t && has_no_received t
+is_built t = has_no_channels t && has_no_invariants t && has_no_received t

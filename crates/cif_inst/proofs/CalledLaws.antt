@@ -1,5 +1,5 @@
 -- A component or an instance stands under its name in the scope of the component in which it stands.
-use Rattle.std.proofs.Common.{◌≡◌, ℕ, ◌+◌, inl, inr, List, [], ◌∷◌, ◌++◌, Some, None, refl, sym, ◌∙◌, ap, subst}
+use Rattle.std.proofs.Common.{◌≡◌, ℕ, ◌+◌, inl, inr, List, [], ◌∷◌, ◌++◌, Some, None, refl, sym, subst}
 use Rattle.std.specs.Prelude.{flat_map, filter_map, slice_get}
 use Rattle.std.specs.List.{enumerate_from}
 use Rattle.cif_ast.specs.declared.names.Ident.{Ident}
@@ -8,7 +8,7 @@ use Rattle.cif_system.proofs.Distinct.{member-append, member-map}
 use Rattle.cif_system.proofs.Lists.{some-same, none-some}
 use Rattle.cif_system.proofs.Picks.{at-member}
 use Rattle.cif_source.specs.Source.{DeclTree, type_decl, enum_decl, event_decl, const_decl, alg_decl, input_decl, disc_decl, equation_decl, invariant_decl, marked_decl, ParamTree, LocationTree, SourceItem, decl_item, component_item, definition_item, instance_item, SourceBody, group_body, automaton_body, list_of_items}
-use Rattle.cif_source.specs.Components.{Component, whole, part, blank, copy, body_of, params_of, path_of, scope_of, param_name, param_entries, body_entries, decl_entries, location_entry, item_entries, Entry, Entries, declared, literal, location, inner, definition, instance, parameter}
+use Rattle.cif_source.specs.Components.{Component, whole, part, blank, copy, body_of, params_of, path_of, scope_of, param_name, param_entries, body_entries, decl_entries, location_entry, item_entries, Entry, literal, inner, instance, parameter}
 use Rattle.cif_components.proofs.FindChildren.{standing_of}
 use Rattle.cif_image.proofs.FoundLaws.{flat-cases}
 

@@ -15,6 +15,8 @@ pub mod RowAutoLaws
 pub mod DeclarationLaws
 pub mod TypingLaws
 pub mod VariableLaws
+pub mod EquationLaws
+pub mod AlgebraicLaws
 pub mod RuleLaws
 pub mod NetLaws
 pub mod AutoLaws

@@ -1,6 +1,6 @@
 -- The net that is made is the net of the source, and so a net that represents it, where the nets of sources are nets that
 -- represent them.
-use Rattle.std.proofs.Common.{◌≡◌, ℕ, ◌+◌, ◌-◌, ◌<◌, Bool, true, false, cond, inl, inr, List, [], ◌∷◌, ◌++◌, length, map, take, None, refl, sym, ◌∙◌, ap, subst, arith}
+use Rattle.std.proofs.Common.{◌≡◌, ℕ, ◌+◌, ◌-◌, ◌<◌, Bool, true, false, cond, List, [], ◌∷◌, ◌++◌, length, map, take, None, refl, sym, ◌∙◌, ap, subst, arith}
 use Rattle.std.specs.Prelude.{filter, flat_map}
 use Rattle.std.specs.List.{position_or_len}
 use Rattle.std.proofs.lemmas.List.{length-append}
@@ -10,7 +10,8 @@ use Rattle.cif_model.specs.Net.{Net}
 use Rattle.cif_model.specs.Facts.{is_net}
 use Rattle.cif_source.specs.Source.{Text, DeclTree, type_decl, enum_decl, event_decl, const_decl, alg_decl, input_decl, disc_decl, equation_decl, invariant_decl, marked_decl, AutomatonTree, SourceBody, group_body, automaton_body, Source}
 use Rattle.cif_source.specs.Components.{Component, whole, part, blank, copy, body_of, Path, path_of}
-use Rattle.cif_source.specs.Objects.{components_of, automata, is_automaton, locs_in, events, Declared, declarations, is_alg, inputs, variables}
+use Rattle.cif_source.specs.Objects as objects
+use Rattle.cif_source.specs.Objects.{components_of, automata, is_automaton, locs_in, events, Declared, declarations, inputs, variables}
 use Rattle.cif_rules.specs.InstanceRules.{TooManyObjectsDue, ConstantRangeDue}
 use Rattle.cif_components.specs.declared.error.ComponentsErr.{ComponentsErr}
 use Rattle.cif_components.specs.declared.error.ComponentsErr.TheVariants as components
@@ -27,8 +28,8 @@ use Rattle.cif_net.specs.declared.data.Var.{Var}
 use Rattle.cif_net.specs.declared.data.Alg.{Alg}
 use Rattle.cif_net.specs.declared.predicates.Exclusion.{Exclusion}
 use Rattle.cif_net.specs.declared.predicates.Invariant.{Invariant}
-use Rattle.cif_net.specs.Parts.{auto_tree, event_tree, input_tree, var_tree, net_of_parts}
-use Rattle.cif_image.specs.Built.{is_no_algebra, is_no_invariant, is_built}
+use Rattle.cif_net.specs.Parts.{auto_tree, event_tree, input_tree, var_tree, alg_tree, net_of_parts}
+use Rattle.cif_image.specs.Built.{is_no_invariant, is_built}
 use Rattle.cif_image.specs.Flat.{dotted, location_name, net_auto, net_event, net_stored, net_alg, net_exclusions, net_invariants, net_of_source}
 use Rattle.cif_image.specs.Represents.{Represents}
 use Rattle.cif_image.specs.Small.{HasSmallParts}
@@ -36,12 +37,13 @@ use Rattle.cif_image.specs.WellFormed.{KeepsBefore, algebraic}
 use Rattle.cif_image.proofs.RuleLaws.{declaration-cases}
 use Rattle.cif_image.proofs.StandingLaws.{flat-nothing}
 use Rattle.cif_fits.specs.Forms.{HasSmallArguments}
-use Rattle.cif_fits.proofs.FormLaws.{HasForms, forms-of, decl-algebra, decl-invariant}
+use Rattle.cif_fits.proofs.FormLaws.{HasForms, forms-of, decl-invariant}
 use Rattle.cif_translate.specs.Looking.{or_whole, source_for, component_at, AreNamesOf}
 use Rattle.cif_translate.specs.declared.looking.Looking.{Looking}
 use Rattle.cif_inst.specs.Names.{AreBuiltNames}
 use Rattle.cif_inst.specs.Rows.{RowTree, prefix_of, row_for, rows_of}
 use Rattle.cif_inst.specs.Events.{rows_events}
+use Rattle.cif_inst.specs.Algebraic.{rows_algs}
 use Rattle.cif_inst.specs.Variables.{all_stored}
 use Rattle.cif_inst.specs.declared.declarations.Sort.TheVariants as sort
 use Rattle.cif_inst.specs.Autos.{is_initial, without_dot, auto_for, body_autos, rows_autos}
@@ -55,6 +57,7 @@ use Rattle.cif_inst.proofs.EventLaws.{events-are}
 use Rattle.cif_inst.proofs.AlphabetLaws.{alphabet-is, monitors-are}
 use Rattle.cif_inst.proofs.AutomatonLaws.{sound, edges}
 use Rattle.cif_inst.proofs.TellLaws.{lacks-due, lacks-none}
+use Rattle.cif_inst.proofs.AlgebraicLaws.{algs-are}
 use Rattle.cif_inst.proofs.VariableLaws.{inputs-are, variables-are}
 use Rattle.cif_inst.proofs.RuleLaws.{no-roles, kept_before}
 
@@ -117,22 +120,6 @@ module _ (l : Looking) (h : AreBuiltNames l) where
 
 -- ---- what is not in the forms that are built
 
-filter-nothing : {A : Type 0} (p : A → Bool) (xs : List A) → ((x : A) → Member x xs → p x ≡ false) → filter p xs ≡ []
-filter-nothing p [] h = refl
-filter-nothing p (x ∷ xs) h = ap (λ b. cond b (x ∷ filter p xs) (filter p xs)) (h x (inl refl)) ∙ filter-nothing p xs (λ y m. h y (inr m))
-
-no-alg : (d : DeclTree) → is_no_algebra d ≡ true → is_alg d ≡ false
-no-alg (type_decl n ty) h = refl
-no-alg (enum_decl n ls) h = refl
-no-alg (event_decl k c n) h = refl
-no-alg (const_decl ty n e) h = refl
-no-alg (alg_decl ty n e) h = absurd (false-true refl h)
-no-alg (input_decl ty n) h = refl
-no-alg (disc_decl ty n e) h = refl
-no-alg (equation_decl q) h = refl
-no-alg (invariant_decl i) h = refl
-no-alg (marked_decl p) h = refl
-
 no-exclusion : (c : Component) (d : DeclTree) → is_no_invariant d ≡ true → net_exclusions (c, d) ≡ []
 no-exclusion c (type_decl n ty) h = refl
 no-exclusion c (enum_decl n ls) h = refl
@@ -157,14 +144,11 @@ no-state c (equation_decl q) h = refl
 no-state c (invariant_decl i) h = absurd (false-true refl h)
 no-state c (marked_decl p) h = refl
 
--- the automata, events, inputs and variables alone
+-- the automata, events, inputs, discrete and algebraic variables alone
 abbrev pub built_net : Source → Net
-built_net t = record { autos = map net_auto (automata t); events = map net_event (events t); inputs = map net_stored (inputs t); vars = map net_stored (variables t); algs = []; exclusions = []; invariants = [] }
+built_net t = record { autos = map net_auto (automata t); events = map net_event (events t); inputs = map net_stored (inputs t); vars = map net_stored (variables t); algs = map net_alg (objects.algs t); exclusions = []; invariants = [] }
 
 module _ (t : Source) (built : is_built t ≡ true) where
-  no-algebra : (d : Declared) → Member d (declarations t) → is_no_algebra d.1 ≡ true
-  no-algebra d m = let p = declaration-cases t d m in decl-algebra t built d.0 p.0 d.1 p.1
-
   no-invariant : (d : Declared) → Member d (declarations t) → is_no_invariant d.1 ≡ true
   no-invariant d m = let p = declaration-cases t d m in decl-invariant t (forms-of t built) d.0 p.0 d.1 p.1
 
@@ -174,7 +158,7 @@ module _ (t : Source) (built : is_built t ≡ true) where
     events = map net_event (events t);
     inputs = map net_stored (inputs t);
     vars = map net_stored (variables t);
-    algs = map net_alg (filter-nothing (λ (d : Declared). is_alg d.1) (declarations t) (λ d m. no-alg d.1 (no-algebra d m)) i);
+    algs = map net_alg (objects.algs t);
     exclusions = flat-nothing net_exclusions (declarations t) (λ d m. no-exclusion d.0 d.1 (no-invariant d m)) i;
     invariants = flat-nothing net_invariants (declarations t) (λ d m. no-state d.0 d.1 (no-invariant d m)) i;
   }
@@ -182,7 +166,7 @@ module _ (t : Source) (built : is_built t ≡ true) where
 -- ---- the net
 
 -- what stands for the source's net
-pub record IsMade (l : Looking) (rows : List RowTree) (autos : List Auto) (all : List Event) (ins : List Input) (vars : List Var) : Type 0 where
+pub record IsMade (l : Looking) (rows : List RowTree) (autos : List Auto) (all : List Event) (ins : List Input) (vars : List Var) (algs : List Alg) : Type 0 where
   pub names : AreBuiltNames l
   pub kinds : KeepsKinds (source_for l)
   pub kept : KeepsInstances (source_for l)
@@ -191,6 +175,7 @@ pub record IsMade (l : Looking) (rows : List RowTree) (autos : List Auto) (all :
   pub declared : map event_tree all ≡ rows_events rows
   pub read : map input_tree ins ≡ all_stored (source_for l) sort.Input rows
   pub stored : map var_tree vars ≡ all_stored (source_for l) sort.Discrete rows
+  pub defined : map alg_tree algs ≡ rows_algs (source_for l) 0 rows
 
 pub built_names : (l : Looking) → AreNamesOf l → is_built (source_for l) ≡ true → KeepsKinds (source_for l) → AreBuiltNames l
 built_names l names built kinds = record { names = names; built = built; matched = kinds.mismatch }
@@ -210,18 +195,21 @@ pub source_fits : (l : Looking) → AreBuiltNames l → KeepsKinds (source_for l
     → is_net (net_of_source (source_for l)) ≡ true
 source_fits l names kinds kept nets small few = nets (source_for l) names.built (kept_before (source_for l) names.names.scopes.rules kinds kept) small few
 
-module _ (l : Looking) (rows : List RowTree) (autos : List Auto) (all : List Event) (ins : List Input) (vars : List Var) (m : IsMade l rows autos all ins vars) where
+module _ (l : Looking) (rows : List RowTree) (autos : List Auto) (all : List Event) (ins : List Input) (vars : List Var) (algs : List Alg) (m : IsMade l rows autos all ins vars algs) where
   its-forms : HasForms (source_for l)
   its-forms = forms-of (source_for l) m.names.built
 
-  its-net : net_of_parts autos all ins vars [] [] [] ≡ net_of_source (source_for l)
+  its-algs : map alg_tree algs ≡ map net_alg (objects.algs (source_for l))
+  its-algs = m.defined ∙ ap (rows_algs (source_for l) 0) m.of_source ∙ algs-are (source_for l) m.names.names.components.few m.kinds.single
+
+  its-net : net_of_parts autos all ins vars algs [] [] ≡ net_of_source (source_for l)
   its-net =
       (λ i. record {
         autos = autos-are l m.names rows autos m.of_source m.made i;
         events = (m.declared ∙ ap rows_events m.of_source ∙ events-are (source_for l) its-forms) i;
         inputs = (m.read ∙ ap (all_stored (source_for l) sort.Input) m.of_source ∙ inputs-are (source_for l)) i;
         vars = (m.stored ∙ ap (all_stored (source_for l) sort.Discrete) m.of_source ∙ variables-are (source_for l)) i;
-        algs = [];
+        algs = its-algs i;
         exclusions = [];
         invariants = [];
       })
@@ -231,9 +219,9 @@ module _ (l : Looking) (rows : List RowTree) (autos : List Auto) (all : List Eve
   its-rules = kept_before (source_for l) m.names.names.scopes.rules m.kinds m.kept
 
   -- with empty lists for what has no form yet
-  module _ (algs : List Alg) (exclusions : List Exclusion) (invariants : List Invariant) (no_algs : algs ≡ []) (no_exclusions : exclusions ≡ []) (no_invariants : invariants ≡ []) where
+  module _ (exclusions : List Exclusion) (invariants : List Invariant) (no_exclusions : exclusions ≡ []) (no_invariants : invariants ≡ []) where
     whole-net : net_of_parts autos all ins vars algs exclusions invariants ≡ net_of_source (source_for l)
-    whole-net = (λ k. net_of_parts autos all ins vars (no_algs k) (no_exclusions k) (no_invariants k)) ∙ its-net
+    whole-net = (λ k. net_of_parts autos all ins vars algs (no_exclusions k) (no_invariants k)) ∙ its-net
 
     pub fits_with : ((t : Source) → is_built t ≡ true → KeepsBefore t algebraic → HasSmallParts t → HasSmallArguments t → is_net (net_of_source t) ≡ true) → HasSmallParts (source_for l) → HasSmallArguments (source_for l)
         → is_net (net_of_parts autos all ins vars algs exclusions invariants) ≡ true

@@ -30,6 +30,7 @@ use Rattle.cif_image.specs.Flat.{net_edge}
 use Rattle.cif_fits.proofs.FormLaws.{way-syncs}
 use Rattle.cif_translate.specs.Looking.{or_whole, source_for, component_at}
 use Rattle.cif_translate.specs.declared.looking.Looking.{Looking}
+use Rattle.cif_sizes.specs.Arguments.{one_each}
 use Rattle.cif_inst.specs.Names.{AreBuiltNames}
 use Rattle.cif_inst.specs.Rows.{RowTree, prefix_of, row_for}
 use Rattle.cif_inst.specs.Edges.{automaton_edges}
@@ -60,17 +61,17 @@ all-sizes f [] = refl
 all-sizes f (e ∷ es) = ap (λ s. (measure_by f e).size + s) (all-sizes f es) ∙ sym (sum_by-cons (λ x. (measure_by f x).size) e es)
 
 module _ (ms : List Measure) where
-  edge-as : (j : ℕ) (x : NetEdge) (rest : List Measure) → x.role ≡ syncing → drop j ms ≡ edge_weight x ∷ rest → counted_edge (table_measure ms) (outline_edge j x.event) ≡ counted_edge (table_measure []) x
+  edge-as : (j : ℕ) (x : NetEdge) (rest : List Measure) → x.role ≡ syncing → drop j ms ≡ edge_weight x ∷ rest → counted_edge (table_measure ms) (outline_edge j x.event) ≡ counted_edge one_each x
   edge-as j x rest syncs left = λ i. record { event = x.event; role = sym syncs i; size = same i }
     where
       at : table_measure ms j ≡ as_measure (edge_weight x)
       at = ap as_measure (at-begins (record { size = 0; depth = 0 }) ms j (edge_weight x) rest left)
 
-      same : cut_size (table_measure ms) (net_expr (n_alg j) 0 ∷ []) ≡ cut_size (table_measure []) (edge_exprs x)
-      same = omega (arith, sum_by-cons (λ e. (measure_by (table_measure ms) e).size) (net_expr (n_alg j) 0) [], ap (λ (m : counts.Measure). m.size) at, all-sizes (table_measure []) (edge_exprs x))
+      same : cut_size (table_measure ms) (net_expr (n_alg j) 0 ∷ []) ≡ cut_size one_each (edge_exprs x)
+      same = omega (arith, sum_by-cons (λ e. (measure_by (table_measure ms) e).size) (net_expr (n_alg j) 0) [], ap (λ (m : counts.Measure). m.size) at, all-sizes one_each (edge_exprs x))
 
   edges-as : (xs : List NetEdge) (j : ℕ) (rest : List Measure) → ((x : NetEdge) → Member x xs → x.role ≡ syncing) → drop j ms ≡ map edge_weight xs ++ rest
-      → map (counted_edge (table_measure ms)) (outline_edges j (map event_of xs)) ≡ map (counted_edge (table_measure [])) xs
+      → map (counted_edge (table_measure ms)) (outline_edges j (map event_of xs)) ≡ map (counted_edge one_each) xs
   edges-as [] j rest syncs left = refl
   edges-as (x ∷ xs) j rest syncs left =
       λ i. edge-as j x (map edge_weight xs ++ rest) (syncs x (inl refl)) left i
@@ -94,7 +95,7 @@ module _ (l : Looking) (h : AreBuiltNames l) where
     counted_here = counted_auto (table_measure ms)
 
     abbrev counted_there : NetAuto → CountedAuto
-    counted_there = counted_auto (table_measure [])
+    counted_there = counted_auto one_each
 
     auto-as : (k : ℕ) → k < length (components_of (source_for l)) → (p : Text) (a : AutomatonTree) → body_of (component_at l k) ≡ automaton_body a → (j : ℕ) (rest : List Measure) → drop j ms ≡ automaton_weights l k a ++ rest
         → counted_here (outline j (automaton_alphabet l k a)) ≡ counted_there (auto_for l k p a)
@@ -144,7 +145,7 @@ weights-are l k (r ∷ rows) = body-weights l k r.0 r.1 (rows_weights l (k + 1) 
 -- ---- depth
 
 abbrev pub depth_in : List NetExpr → ℕ
-depth_in es = (all_beside (map (measure_by (table_measure [])) es)).depth
+depth_in es = (all_beside (map (measure_by one_each) es)).depth
 
 pub depth-append : (xs ys : List NetExpr) → depth_in (xs ++ ys) ≡ max (depth_in xs) (depth_in ys)
 depth-append [] ys = omega arith

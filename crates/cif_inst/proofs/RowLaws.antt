@@ -3,7 +3,7 @@ use Rattle.std.proofs.Common.{◌≡◌, ℕ, zero, suc, ◌+◌, ◌≤◌, ◌
 use Rattle.std.specs.Prelude.{flat_map, slice_get, Result, IfOk}
 use Rattle.std.proofs.lemmas.List.{map-append}
 use Rattle.cif_ast.specs.declared.names.Ident.{Ident}
-use Rattle.cif_system.proofs.Lists.{some-same, none-some, map-length, slice_get-below}
+use Rattle.cif_system.proofs.Lists.{some-same, none-some, slice_get-below}
 use Rattle.cif_source.specs.Source.{Text, Source}
 use Rattle.cif_source.specs.Components.{Component, whole, part, blank, copy, as_written, body_of, scope_of, stands_in, Path, path_of, Entry}
 use Rattle.cif_source.specs.Objects.{bodies, components_of}

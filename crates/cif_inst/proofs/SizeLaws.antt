@@ -1,24 +1,27 @@
 -- What is told of sizes breaks their rule.
-use Rattle.std.proofs.Common.{◌≡◌, ℕ, max, true, false, ◌||◌, nat_lt, List, [], ◌++◌, map, refl, sym, ◌∙◌, ap, arith}
+use Rattle.std.proofs.Common.{◌≡◌, ℕ, ◌≤◌, max, true, false, ◌||◌, nat_lt, List, [], ◌∷◌, length, ◌++◌, append-nil, map, refl, sym, ◌∙◌, ap, arith}
 use Rattle.std.specs.Prelude.{flat_map}
 use Rattle.std.proofs.lemmas.Bool.Decides.{nat_tests}
 use Rattle.cif_term.specs.Tree.{NetExpr}
 use Rattle.cif_model.specs.Net.{NetAuto, NetEvent, NetExclusion, Net}
 use Rattle.cif_model.specs.Exprs.{edge_exprs}
 use Rattle.cif_model.specs.Facts.{is_net}
-use Rattle.cif_model.specs.Counts.{nodes, depth, stopped, most_nodes, most_depth, is_too_large}
+use Rattle.cif_model.specs.Counts as counts
+use Rattle.cif_model.specs.Counts.{measure_by, all_beside, nodes, depth, stopped, most_nodes, most_depth, is_too_large}
 use Rattle.cif_measure.specs.declared.measures.Measure.{Measure}
 use Rattle.cif_measure.specs.Meanings.{table_measure}
 use Rattle.cif_measure.proofs.IntervalLaws.{acyclic}
 use Rattle.cif_alg.specs.Tallies.{counted}
 use Rattle.cif_alg.specs.Outlines.{counted_auto, counted_exclusion, AreAsLarge}
+use Rattle.cif_alg.proofs.FreeLaws.{same-edge-measures}
 use Rattle.cif_source.specs.Source.{Source}
-use Rattle.cif_source.specs.Objects.{components_of, automata}
-use Rattle.cif_image.specs.Flat.{net_auto, net_of_source}
+use Rattle.cif_source.specs.Objects.{components_of, algs, Declared}
+use Rattle.cif_image.specs.Flat.{net_alg, net_of_source}
 use Rattle.cif_image.specs.NetRules.{TooLargeDue}
 use Rattle.cif_fits.proofs.FormLaws.{HasForms, forms-of}
 use Rattle.cif_translate.specs.Looking.{source_for}
 use Rattle.cif_translate.specs.declared.looking.Looking.{Looking}
+use Rattle.cif_sizes.specs.Arguments.{one_each}
 use Rattle.cif_inst.specs.Names.{AreBuiltNames}
 use Rattle.cif_inst.specs.Rows.{RowTree, rows_of}
 use Rattle.cif_inst.specs.Events.{rows_events}
@@ -33,7 +36,7 @@ use Rattle.cif_inst.specs.declared.error.InstErr.TheVariants.{AlphabetLacks, Too
 use Rattle.cif_inst.proofs.SoundLaws.{all-components}
 use Rattle.cif_inst.proofs.EventLaws.{events-are}
 use Rattle.cif_inst.proofs.NetLaws.{rows-made, built_net, net-parts}
-use Rattle.cif_inst.proofs.OutlineLaws.{rows-as, edges_of, weights-are, depth_in, depth-append, together-deep}
+use Rattle.cif_inst.proofs.OutlineLaws.{rows-as, edges_of, weights-are, depth_in, together-deep}
 
 -- a count that stops is past its limit where the whole one is
 past : (m v : ℕ) → nat_lt m (stopped m v) ≡ nat_lt m v
@@ -51,7 +54,16 @@ pub record IsOutlined (l : Looking) (rows : List RowTree) (all : List Alphabet) 
   pub declared : listed ≡ rows_events rows
   pub weighed : ms ≡ rows_weights l 0 rows
   pub kept : KeepsInstances (source_for l)
+  pub none : (net_of_source (source_for l)).algs ≡ []
   pub fits : is_net (net_of_source (source_for l)) ≡ true
+
+-- where a source has no algebraic variables, its net has none
+pub no_algs : (t : Source) (count : ℕ) → count ≡ length (algs t) → count ≤ 0 → (net_of_source t).algs ≡ []
+no_algs t count is none = none-of (algs t) (omega (arith, is, none))
+  where
+    none-of : (ds : List Declared) → length ds ≤ 0 → map net_alg ds ≡ []
+    none-of [] h = refl
+    none-of (d ∷ ds) h = absurd (omega (arith, h))
 
 module _ (l : Looking) (rows : List RowTree) (all : List Alphabet) (listed : List NetEvent) (ms : List Measure) (o : IsOutlined l rows all listed ms) where
   abbrev t : Source
@@ -66,19 +78,20 @@ module _ (l : Looking) (rows : List RowTree) (all : List Alphabet) (listed : Lis
   parts : net ≡ built_net t
   parts = net-parts t o.names.built
 
-  no-algs : net.algs ≡ []
-  no-algs = ap (λ (n : Net). n.algs) parts
+  -- without algebraic variables
+  plain-parts : net ≡ record (built_net t) { algs = [] }
+  plain-parts = parts ∙ (λ i. record (built_net t) { algs = (ap (λ (n : Net). n.algs) (sym parts) ∙ o.none) i })
 
   same-autos : rows_autos l 0 rows ≡ net.autos
   same-autos = ap (rows_autos l 0) o.of_source ∙ rows-made l o.names (components_of t) 0 (all-components t)
 
-  as-large : AreAsLarge ms (outlines 0 all) [] net
+  as-large : AreAsLarge ms one_each (outlines 0 all) [] net
   as-large = record {
     autos_as =
         ap (λ (xs : List Alphabet). map (counted_auto (table_measure ms)) (outlines 0 xs)) (o.found ∙ ap (rows_alphabets l 0) o.of_source)
         ∙ rows-as l o.names ms (components_of t) 0 0 (all-components t) (o.weighed ∙ ap (rows_weights l 0) o.of_source)
-        ∙ ap (map (counted_auto (table_measure []))) (rows-made l o.names (components_of t) 0 (all-components t));
-    exclusions_as = sym (ap (λ (n : Net). map (counted_exclusion (table_measure [])) n.exclusions) parts);
+        ∙ ap (map (counted_auto one_each)) (rows-made l o.names (components_of t) 0 (all-components t));
+    exclusions_as = sym (ap (λ (n : Net). map (counted_exclusion one_each) n.exclusions) parts);
   }
 
   -- ---- depth
@@ -86,10 +99,16 @@ module _ (l : Looking) (rows : List RowTree) (all : List Alphabet) (listed : Lis
   abbrev exprs : List NetExpr
   exprs = flat_map edge_exprs (edges_of net.autos)
 
+  -- no expression names an algebraic variable
+  depth-same : (all_beside (map (measure_by (table_measure [])) exprs)).depth ≡ depth_in exprs
+  depth-same = ap (λ ws. (all_beside ws).depth) (same-edge-measures net o.none o.fits (table_measure []) one_each)
+
   depth-is : depth net ≡ depth_in exprs
   depth-is =
-      let e : depth net ≡ max (depth_in (exprs ++ [])) 0 = ap depth parts in
-      omega (arith, e, depth-append exprs [])
+      let e : depth net ≡ max (all_beside (map (measure_by (table_measure [])) (exprs ++ []))).depth 0 = ap depth plain-parts in
+      let same : exprs ++ [] ≡ exprs = append-nil exprs in
+      let d : (all_beside (map (measure_by (table_measure [])) (exprs ++ []))).depth ≡ depth_in exprs = ap (λ es. (all_beside (map (measure_by (table_measure [])) es)).depth) same ∙ depth-same in
+      omega (arith, e, d)
 
   deep : (together ms).depth ≡ stopped most_depth (depth net)
   deep =
@@ -98,12 +117,12 @@ module _ (l : Looking) (rows : List RowTree) (all : List Alphabet) (listed : Lis
 
   -- ---- nodes
 
-  module _ (law : (n : Net) (algs : List Measure) (autos : List NetAuto) (exclusions : List NetExclusion) → n.algs ≡ [] → n.invariants ≡ [] → is_net n ≡ true → AreAsLarge algs autos exclusions n
+  module _ (law : (n : Net) (algs : List Measure) (there : ℕ → counts.Measure) (autos : List NetAuto) (exclusions : List NetExclusion) → n.algs ≡ [] → n.invariants ≡ [] → is_net n ≡ true → AreAsLarge algs there autos exclusions n
       → counted (table_measure algs) autos exclusions n.events ≡ stopped most_nodes (nodes n)) where
     nodes-told : counted (table_measure ms) (outlines 0 all) [] listed ≡ stopped most_nodes (nodes net)
     nodes-told =
         ap (counted (table_measure ms) (outlines 0 all) []) (o.declared ∙ ap rows_events o.of_source ∙ events-are t its-forms)
-        ∙ law net ms (outlines 0 all) [] no-algs (ap (λ (n : Net). n.invariants) parts) o.fits as-large
+        ∙ law net ms one_each (outlines 0 all) [] o.none (ap (λ (n : Net). n.invariants) parts) o.fits as-large
 
     over : (k d : ℕ) → k ≡ stopped most_nodes (nodes net) → d ≡ stopped most_depth (depth net) → is_too_large net ≡ (nat_lt most_nodes k || nat_lt most_depth d)
     over k d p q =
@@ -114,7 +133,7 @@ module _ (l : Looking) (rows : List RowTree) (all : List Alphabet) (listed : Lis
     size_due (TooLarge k d) h =
         let p : k ≡ stopped most_nodes (nodes net) = h.0 ∙ nodes-told in
         let q : d ≡ stopped most_depth (depth net) = h.1 ∙ deep in
-        let large : TooLargeDue t k d = (acyclic net no-algs, over k d p q ∙ h.2, p, q) in
+        let large : TooLargeDue t k d = (acyclic net o.none, over k d p q ∙ h.2, p, q) in
         (o.kept, large)
     size_due (AlphabetLacks at) h = absurd h
     size_due (TooManyObjects count) h = absurd h

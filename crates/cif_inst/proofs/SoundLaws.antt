@@ -1,5 +1,5 @@
 -- What is given of a source of which nets are built, and its components by their numbers.
-use Rattle.std.proofs.Common.{◌≡◌, ℕ, zero, suc, ◌+◌, ◌≤◌, ◌<◌, true, List, [], ◌∷◌, length, Option, Some, None, refl, sym, ◌∙◌, ap, subst, arith}
+use Rattle.std.proofs.Common.{◌≡◌, ℕ, zero, suc, ◌+◌, ◌≤◌, ◌<◌, List, [], ◌∷◌, length, Some, refl, sym, ap, subst, arith}
 use Rattle.std.specs.Prelude.{slice_get}
 use Rattle.cif_system.specs.Words.{Member}
 use Rattle.cif_system.proofs.Picks.{at-member}
@@ -12,7 +12,6 @@ use Rattle.cif_scope.specs.Tables.{IsBody, Beside}
 use Rattle.cif_scope.proofs.Places.{beside-at}
 use Rattle.cif_components.specs.declared.components.Component.{Component as Numbered}
 use Rattle.cif_components.specs.Numbers.{IsNumber, IsComponent}
-use Rattle.cif_image.specs.Built.{is_built}
 use Rattle.cif_fits.proofs.FormLaws.{HasForms, forms-of}
 use Rattle.cif_translate.specs.Looking.{or_whole, component_of, source_for}
 use Rattle.cif_translate.specs.declared.looking.Looking.{Looking}

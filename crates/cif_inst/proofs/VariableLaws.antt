@@ -1,14 +1,12 @@
 -- The variables and the inputs that are made are those of the net of a source.
-use Rattle.std.proofs.Common.{◌≡◌, ℕ, true, List, [], ◌∷◌, ◌++◌, map, Option, None, refl, sym, ◌∙◌, ap, subst}
+use Rattle.std.proofs.Common.{◌≡◌, ℕ, true, List, [], ◌∷◌, ◌++◌, map, Option, None, refl, sym, ◌∙◌, ap}
 use Rattle.std.specs.Prelude.{ℤ, filter}
 use Rattle.cif_ast.specs.Tree.{Tree}
 use Rattle.cif_ast.specs.declared.names.Ident.{Ident}
-use Rattle.cif_system.specs.Words.{Member}
 use Rattle.cif_source.specs.Source.{Text, TypeTree, DeclTree, type_decl, enum_decl, event_decl, const_decl, alg_decl, input_decl, disc_decl, equation_decl, invariant_decl, marked_decl, Source}
-use Rattle.cif_source.specs.Components.{Component, as_written, path_of}
+use Rattle.cif_source.specs.Components.{Component, path_of}
 use Rattle.cif_source.specs.Objects.{components_of, Declared, is_input, is_variable, inputs, variables}
 use Rattle.cif_source.specs.Types.{first_of_type}
-use Rattle.cif_scope.specs.Tables.{IsBody}
 use Rattle.cif_image.specs.Flat.{stored_by, net_stored}
 use Rattle.cif_image.specs.Types.{net_type}
 use Rattle.cif_values.specs.Types.{net_type_of}

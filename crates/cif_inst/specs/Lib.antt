@@ -6,6 +6,8 @@ pub mod Events
 pub mod Names
 pub mod Targets
 pub mod Variables
+pub mod Equations
+pub mod Algebraic
 pub mod Edges
 pub mod Alphabets
 pub mod Measures

@@ -3,16 +3,17 @@ use Rattle.std.specs.Prelude.{ℕ, ◌+◌, List, [], ◌∷◌, ◌++◌, map, 
 use Rattle.cif_model.specs.Net.{NetEdge}
 use Rattle.cif_model.specs.Counts.{measure_by, all_beside}
 use Rattle.cif_model.specs.Exprs.{edge_exprs}
-use Rattle.cif_measure.specs.Meanings.{stopped_measure, table_measure}
+use Rattle.cif_measure.specs.Meanings.{stopped_measure}
 use Rattle.cif_measure.specs.declared.measures.Measure.{Measure}
 use Rattle.cif_source.specs.Source.{UseTree, EdgeTree, LocationTree, AutomatonTree, SourceBody, group_body, automaton_body}
 use Rattle.cif_translate.specs.declared.looking.Looking.{Looking}
+use Rattle.cif_sizes.specs.Arguments.{one_each}
 use Rattle.cif_inst.specs.Rows.{RowTree}
 use Rattle.cif_inst.specs.Edges.{sync_edge}
 
--- all expressions of an edge together, where there are no algebraic variables; each count stops one past its limit
+-- all expressions of an edge together, where the name of an algebraic variable is one form; each count stops one past its limit
 abbrev pub edge_weight : NetEdge → Measure
-edge_weight x = stopped_measure (all_beside (map (measure_by (table_measure [])) (edge_exprs x)))
+edge_weight x = stopped_measure (all_beside (map (measure_by one_each) (edge_exprs x)))
 
 -- for one use of an event: where the edge stands and leads is not asked
 abbrev pub use_weight : Looking → (component : ℕ) → EdgeTree → UseTree → Measure

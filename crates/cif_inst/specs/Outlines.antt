@@ -1,5 +1,5 @@
 -- Automata of a net with numbers of measures in the place of expressions, and what is told of sizes by them.
-use Rattle.std.specs.Prelude.{◌≡◌, ℕ, suc, ◌+◌, ◌≤◌, nat_lt, true, ◌||◌, List, [], ◌∷◌, map, length, sum_by, None, if◌then◌else◌}
+use Rattle.std.specs.Prelude.{◌≡◌, ℕ, suc, ◌+◌, ◌≤◌, nat_lt, true, ◌||◌, List, [], ◌∷◌, length, sum_by, None, if◌then◌else◌}
 use Rattle.cif_system.specs.System.{syncing}
 use Rattle.cif_term.specs.Tree.{net_expr, n_alg, no_net_updates}
 use Rattle.cif_model.specs.Net.{NetEdge, NetAuto, NetEvent}

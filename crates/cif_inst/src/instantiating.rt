@@ -21,12 +21,13 @@ ghost use Rattle.cif_inst.specs.Views.{row_tree};
 
 use crate::alphabets::{Alphabet, all_alphabets};
 use crate::autos::all_autos;
+use crate::definitions::definition_measures;
 use crate::error::InstErr;
 use crate::events::all_events;
 use crate::measures::all_measures;
+use crate::objects::objects_of;
 use crate::rows::{Row, all_rows};
-use crate::sizes::check_sizes;
-use crate::variables::stored_of;
+use crate::sizes::{check_made, check_sizes};
 use cif_alg::outlines_have_the_nodes_of_their_net;
 use cif_ast::Spec;
 use cif_base::Items;
@@ -37,6 +38,7 @@ use cif_nets::{nets_of_sources_are_nets, nets_represent_their_sources};
 use cif_numbers::number_objects;
 use cif_parameters::parameters;
 use cif_scope::Scopes;
+use cif_sizes::argument_measures;
 use cif_small::{counted_trees_have_small_parts, trees_have_small_arguments};
 use cif_translate::Looking;
 use cif_types::Kinds;
@@ -44,7 +46,7 @@ use cif_values::values_of;
 use std::alloc::Global;
 
 /// The alphabets of a source whose net is small enough to be made, or where an event outside one is named, or how large the net is.
-/// The rule on alphabets is asked first.
+/// The rule on alphabets is asked first. Where the source has algebraic variables, sizes are told of the net that is made.
 fn alphabets_of(
     alloc: Global,
     looking: &Looking<'_, '_>,
@@ -64,9 +66,15 @@ fn alphabets_of(
     ensures none { IfOk result (λ all. KeepsInstances (source_for looking.now)) }
     ensures refused { IfErr result (λ e. due (source_for looking.now) e) }
 {
-    let count = looking.numbers.total().events as usize;
-    let alphabets = all_alphabets(alloc, looking, rows, count)?;
-    let measures = all_measures(alloc, looking, rows)?;
+    let total = looking.numbers.total();
+    let alphabets = all_alphabets(alloc, looking, rows, total.events as usize)?;
+    let arguments = argument_measures(alloc, looking)?;
+    let measures = all_measures(alloc, looking, arguments.as_slice(), rows)?;
+    if total.algs > 0 {
+        let definitions = definition_measures(alloc, looking, arguments.as_slice(), rows)?;
+        check_made(looking.given, measures.as_slice(), definitions.as_slice())?;
+        return Ok(alphabets);
+    }
     counted_trees_have_small_parts();
     trees_have_small_arguments();
     nets_of_sources_are_nets();
@@ -94,7 +102,7 @@ fn net_of(alloc: Global, looking: &Looking<'_, '_>, constants: &Constants) -> Re
     let events = all_events(alloc, rows)?;
     let alphabets = alphabets_of(alloc, looking, rows, events.as_slice())?;
     let autos = all_autos(alloc, looking, rows, alphabets.as_slice())?;
-    let stored = stored_of(alloc, looking, rows, constants)?;
+    let objects = objects_of(alloc, looking, rows, constants)?;
     counted_trees_have_small_parts();
     trees_have_small_arguments();
     nets_of_sources_are_nets();
@@ -102,9 +110,9 @@ fn net_of(alloc: Global, looking: &Looking<'_, '_>, constants: &Constants) -> Re
     Ok(Net {
         autos,
         events,
-        inputs: stored.inputs,
-        vars: stored.vars,
-        algs: Items::new(alloc),
+        inputs: objects.inputs,
+        vars: objects.vars,
+        algs: objects.algs,
         exclusions: Items::new(alloc),
         invariants: Items::new(alloc),
     })

@@ -15,7 +15,7 @@ use cif_ast::{Edge, Loc};
 use cif_base::{Items, Memory};
 use cif_measure::Measure;
 use cif_scope::{Inside, number};
-use cif_sizes::{argument_measures, edge_measure};
+use cif_sizes::edge_measure;
 use cif_translate::Looking;
 use std::alloc::Global;
 
@@ -97,21 +97,22 @@ fn add_row(
     }
 }
 
-/// The measures of the edges of these components, an edge for each use of an event, in the order of the net. The time is linear
-/// in the source, however large the net is.
+/// The measures of the edges of these components, an edge for each use of an event, in the order of the net, by the measures of
+/// arguments. The time is linear in the source, however large the net is.
 pub fn all_measures(
     alloc: Global,
     looking: &Looking<'_, '_>,
+    arguments: &[Items<Measure>],
     rows: &[Row],
 ) -> Result<Items<Measure>, Memory>
     requires names { AreNamesOf looking.now }
+    requires arguments { AreArgumentMeasures looking.now arguments.now }
     requires rows { map row_tree rows.now ≡ rows_of (source_for looking.now) }
     ensures { IfOk result (λ all. all ≡ measures.rows_weights looking.now 0 (map row_tree rows.now)) }
 {
-    let arguments = argument_measures(alloc, looking)?;
     let mut all = Items::new(alloc);
     for (place, row) in rows.iter().enumerate() {
-        add_row(looking, arguments.as_slice(), number(place)?, row, &mut all)?;
+        add_row(looking, arguments, number(place)?, row, &mut all)?;
     }
     Ok(all)
 }

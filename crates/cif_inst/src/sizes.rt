@@ -9,15 +9,13 @@ ghost use Rattle.cif_inst.specs.Outlines as outlines;
 use crate::alphabets::Alphabet;
 use crate::error::InstErr;
 use crate::outlines::all_outlines;
-use cif_alg::choice_nodes;
+use cif_alg::{MOST_FORMS, choice_nodes};
+use cif_base::Memory;
 use cif_measure::{MOST_DEPTH, MOST_NODES, Measure};
 use cif_net::Event;
+use cif_parameters::Given;
 use cif_scope::number;
 use std::alloc::Global;
-
-/// The most forms that the edges of a net have together, of those that are made. What is within the limit on the nodes of choices
-/// has no more, except on edges that no choice takes.
-const MOST_FORMS: u64 = 4_000_000;
 
 /// The measure of all these side by side.
 fn together(measures: &[Measure]) -> Measure
@@ -77,4 +75,42 @@ pub fn check_sizes(
         });
     }
     Err(InstErr::Memory)
+}
+
+/// The most instances with arguments where expressions deeper than the limit are made: each may lead an expression on in an argument.
+const FEW_INSTANCES: usize = 16;
+
+/// Whether few components have arguments.
+fn has_few_arguments(given: &[Vec<Given<'_>>]) -> bool {
+    let mut left = FEW_INSTANCES;
+    for arguments in given {
+        if !arguments.is_empty() {
+            if left == 0 {
+                return false;
+            }
+            left -= 1;
+        }
+    }
+    true
+}
+
+/// Whether what these are the measures of is made: where it is deep, few instances have arguments.
+fn is_made(measures: &[Measure], is_flat: bool) -> bool {
+    let is_low = together(measures).depth <= MOST_DEPTH;
+    (is_low || is_flat) && forms(measures) <= MOST_FORMS
+}
+
+/// Whether a net with algebraic variables is small enough to be made, by the measures of its edges and of the definitions of algebraic
+/// variables, and by the arguments of its components. Otherwise memory is said to be out: its sizes are told of a net that is made.
+pub fn check_made(
+    given: &[Vec<Given<'_>>],
+    edges: &[Measure],
+    definitions: &[Measure],
+) -> Result<(), Memory> {
+    let is_flat = has_few_arguments(given);
+    if is_made(edges, is_flat) && is_made(definitions, is_flat) {
+        Ok(())
+    } else {
+        Err(Memory)
+    }
 }

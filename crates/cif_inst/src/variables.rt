@@ -1,12 +1,8 @@
 //! The inputs and the discrete variables of all components, with their types and first values (CIF 3 language reference, "Input
 //! variables", "Discrete variables").
 
-ghost use Rattle.std.specs.Prelude.{◌≡◌, ℕ, map, IfOk};
-ghost use Rattle.cif_rules.specs.BodyRules.{NotConstantDue};
-ghost use Rattle.cif_rules.specs.InstanceRules.{ConstantRangeDue};
-ghost use Rattle.cif_constants.specs.Constants.{HasValues};
+ghost use Rattle.std.specs.Prelude.{◌≡◌, map, IfOk};
 ghost use Rattle.cif_net.specs.View.{input_tree, var_tree};
-ghost use Rattle.cif_translate.specs.Looking.{AreNamesOf, source_for};
 ghost use Rattle.cif_inst.specs.Rows.{rows_of};
 ghost use Rattle.cif_inst.specs.Typing as of_types;
 ghost use Rattle.cif_inst.specs.Variables as variables;
@@ -17,9 +13,7 @@ use crate::declarations::{Datum, Sort, data_of};
 use crate::rows::Row;
 use crate::typing::{Typing, body_of, path_of, ty_of};
 use cif_base::{Items, Memory};
-use cif_constants::{Constants, Types, declarations, turns};
 use cif_net::{Input, Var};
-use cif_translate::Looking;
 use cif_values::first_value;
 use std::alloc::Global;
 
@@ -89,7 +83,7 @@ fn all_inputs(alloc: Global, typing: &Typing, found: &[Datum]) -> Result<Items<I
 }
 
 /// The inputs and the variables of these components.
-fn all_stored(alloc: Global, typing: &Typing, rows: &[Row]) -> Result<Stored, Memory>
+pub fn all_stored(alloc: Global, typing: &Typing, rows: &[Row]) -> Result<Stored, Memory>
     requires types { of_types.AreTypesOf typing.now }
     requires rows { map row_tree rows.now ≡ rows_of (of_types.typed_source typing.now) }
     ensures inputs { IfOk result (λ all. map input_tree all.inputs ≡ variables.all_stored (of_types.typed_source typing.now) input_sort (map row_tree rows.now)) }
@@ -101,33 +95,4 @@ fn all_stored(alloc: Global, typing: &Typing, rows: &[Row]) -> Result<Stored, Me
         inputs: all_inputs(alloc, typing, inputs.as_slice())?,
         vars: all_variables(alloc, typing, vars.as_slice())?,
     })
-}
-
-/// The inputs and the variables of a source with these components and values of constants.
-pub fn stored_of(
-    alloc: Global,
-    looking: &Looking<'_, '_>,
-    rows: &[Row],
-    constants: &Constants,
-) -> Result<Stored, Memory>
-    requires names { AreNamesOf looking.now }
-    requires constancy { (at : ℕ) → NotConstantDue (source_for looking.now) at → ⊥ }
-    requires values { HasValues (source_for looking.now) looking.now.scopes.now constants.now.numbers constants.now.values }
-    requires ranges { (at : ℕ) → ConstantRangeDue (source_for looking.now) at → ⊥ }
-    requires rows { map row_tree rows.now ≡ rows_of (source_for looking.now) }
-    ensures inputs { IfOk result (λ all. map input_tree all.inputs ≡ variables.all_stored (source_for looking.now) input_sort (map row_tree rows.now)) }
-    ensures variables { IfOk result (λ all. map var_tree all.vars ≡ variables.all_stored (source_for looking.now) variable_sort (map row_tree rows.now)) }
-{
-    let declared = declarations(alloc, looking.spec)?;
-    let types = Types {
-        scopes: looking.scopes,
-        constants,
-        rows: declared.as_slice(),
-    };
-    let typing = Typing {
-        looking,
-        types: &types,
-        turns: turns(alloc, looking.spec, looking.components)?,
-    };
-    all_stored(alloc, &typing, rows)
 }

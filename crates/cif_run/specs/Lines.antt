@@ -37,28 +37,30 @@ with_number head n = joined (head ∷ decimal n ∷ [])
 abbrev pub with_numbers : Text → ℕ → Text → ℕ → Text
 with_numbers head n between m = joined (head ∷ decimal n ∷ between ∷ decimal m ∷ [])
 
-abbrev pub refusal_text : Refusal → Text
-refusal_text (why.BadByte at) = with_number (codes "1 BadByte at ") at
-refusal_text (why.NumberTooBig at) = with_number (codes "2 NumberTooBig at ") at
-refusal_text (why.OpenComment at) = with_number (codes "3 OpenComment at ") at
-refusal_text (why.NotRead at) = with_number (codes "4 NotRead at ") at
-refusal_text (why.Unknown at) = with_number (codes "5 Unknown at ") at
-refusal_text (why.Duplicate at first) = with_numbers (codes "6 Duplicate at ") at (codes " first ") first
-refusal_text (why.WrongKind at) = with_number (codes "7 WrongKind at ") at
-refusal_text (why.DefinitionCycle at) = with_number (codes "8 DefinitionCycle at ") at
-refusal_text (why.Mismatch at) = with_number (codes "9 Mismatch at ") at
-refusal_text (why.NotConstant at) = with_number (codes "10 NotConstant at ") at
-refusal_text (why.Initials at count) = with_numbers (codes "11 Initials at ") at (codes " count ") count
-refusal_text (why.NotOwn at) = with_number (codes "12 NotOwn at ") at
-refusal_text (why.AssignedTwice at) = with_number (codes "13 AssignedTwice at ") at
-refusal_text (why.Equations at count) = with_numbers (codes "16 Equations at ") at (codes " count ") count
-refusal_text (why.AlphabetLacks at) = with_number (codes "14 AlphabetLacks at ") at
-refusal_text (why.TooManyObjects count) = with_number (codes "17 TooManyObjects count ") count
-refusal_text (why.ConstantRange at) = with_number (codes "18 ConstantRange at ") at
-refusal_text (why.ZeroDivisor at) = with_number (codes "20 ZeroDivisor at ") at
-refusal_text (why.TooWide at) = with_number (codes "21 TooWide at ") at
-refusal_text (why.TooLarge nodes depth) = with_numbers (codes "24 TooLarge nodes ") nodes (codes " depth ") depth
-refusal_text (why.NotBuilt at) = with_number (codes "30 NotBuilt at ") at
+-- an algebraic variable is told by its path
+abbrev pub refusal_text : Text → Refusal → Text
+refusal_text path (why.BadByte at) = with_number (codes "1 BadByte at ") at
+refusal_text path (why.NumberTooBig at) = with_number (codes "2 NumberTooBig at ") at
+refusal_text path (why.OpenComment at) = with_number (codes "3 OpenComment at ") at
+refusal_text path (why.NotRead at) = with_number (codes "4 NotRead at ") at
+refusal_text path (why.Unknown at) = with_number (codes "5 Unknown at ") at
+refusal_text path (why.Duplicate at first) = with_numbers (codes "6 Duplicate at ") at (codes " first ") first
+refusal_text path (why.WrongKind at) = with_number (codes "7 WrongKind at ") at
+refusal_text path (why.DefinitionCycle at) = with_number (codes "8 DefinitionCycle at ") at
+refusal_text path (why.Mismatch at) = with_number (codes "9 Mismatch at ") at
+refusal_text path (why.NotConstant at) = with_number (codes "10 NotConstant at ") at
+refusal_text path (why.Initials at count) = with_numbers (codes "11 Initials at ") at (codes " count ") count
+refusal_text path (why.NotOwn at) = with_number (codes "12 NotOwn at ") at
+refusal_text path (why.AssignedTwice at) = with_number (codes "13 AssignedTwice at ") at
+refusal_text path (why.Equations at count) = with_numbers (codes "16 Equations at ") at (codes " count ") count
+refusal_text path (why.AlphabetLacks at) = with_number (codes "14 AlphabetLacks at ") at
+refusal_text path (why.TooManyObjects count) = with_number (codes "17 TooManyObjects count ") count
+refusal_text path (why.ConstantRange at) = with_number (codes "18 ConstantRange at ") at
+refusal_text path (why.AlgCycle alg) = joined (codes "19 AlgCycle alg " ∷ path ∷ [])
+refusal_text path (why.ZeroDivisor at) = with_number (codes "20 ZeroDivisor at ") at
+refusal_text path (why.TooWide at) = with_number (codes "21 TooWide at ") at
+refusal_text path (why.TooLarge nodes depth) = with_numbers (codes "24 TooLarge nodes ") nodes (codes " depth ") depth
+refusal_text path (why.NotBuilt at) = with_number (codes "30 NotBuilt at ") at
 
 -- an event is told by its path
 abbrev pub profile_text : Text → ProfileWhy → Text
@@ -121,7 +123,7 @@ line_of words variable limit (status.ReadFault k) = joined (codes "cif: cannot r
 line_of words variable limit status.WriteFault = codes "cif: cannot write\n"
 line_of words variable limit status.Memory = codes "cif: out of memory\n"
 line_of words variable limit (status.TooBig k) = too_big_line (word words k) limit
-line_of words variable limit (status.Refused why) = file_line (word words 1) (refusal_text why)
+line_of words variable limit (status.Refused why) = file_line (word words 1) (refusal_text variable why)
 line_of words variable limit (status.OutsideProfile why) = file_line (word words 1) (profile_text variable why)
 line_of words variable limit (status.StRefused why) = file_line (word words 1) (st_refusal_text variable why)
 line_of words variable limit (status.RowRefused why) = file_line (word words 2) (row_text why)

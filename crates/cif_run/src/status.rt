@@ -50,6 +50,8 @@ pub enum Refusal {
     /// In the constant expression that begins there a value leaves 64 bits or a divisor is 0; or its value leaves its declared range;
     /// or a bound there leaves 32 bits; or the lower bound there exceeds the upper one.
     ConstantRange { at: u32 },
+    /// The algebraic variable of that number, counted from 0, is the first that depends on itself.
+    AlgCycle { alg: u32 },
     /// The divisor that begins there may be 0.
     ZeroDivisor { at: u32 },
     /// The value of the expression that begins there, or of a part of a sum or product there, may leave 64 bits.

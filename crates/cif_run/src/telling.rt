@@ -70,8 +70,9 @@ fn with_numbers(
     joined(alloc, &[head, number.as_slice(), between, other.as_slice()])
 }
 
-fn refusal_text(alloc: Global, why: Refusal) -> Result<Text, Memory>
-    ensures { IfOk result (λ text. text ≡ lines.refusal_text why) }
+/// Why a source is refused; an algebraic variable is told by its path.
+fn refusal_text(alloc: Global, path: &[u8], why: Refusal) -> Result<Text, Memory>
+    ensures { IfOk result (λ text. text ≡ lines.refusal_text path.now why) }
 {
     match why {
         Refusal::BadByte { at } => with_number(alloc, b"1 BadByte at ", at),
@@ -99,6 +100,7 @@ fn refusal_text(alloc: Global, why: Refusal) -> Result<Text, Memory>
             with_number(alloc, b"17 TooManyObjects count ", count)
         }
         Refusal::ConstantRange { at } => with_number(alloc, b"18 ConstantRange at ", at),
+        Refusal::AlgCycle { alg: _ } => joined(alloc, &[b"19 AlgCycle alg ", path]),
         Refusal::ZeroDivisor { at } => with_number(alloc, b"20 ZeroDivisor at ", at),
         Refusal::TooWide { at } => with_number(alloc, b"21 TooWide at ", at),
         Refusal::TooLarge { nodes, depth } => {
@@ -270,7 +272,7 @@ fn line(
         Status::Memory => Text::from_slice(alloc, b"cif: out of memory\n"),
         Status::TooBig { word: k } => too_big_line(alloc, word(words, k), limit),
         Status::Refused { why } => {
-            let what = refusal_text(alloc, why)?;
+            let what = refusal_text(alloc, variable, why)?;
             file_line(alloc, word(words, 1), what.as_slice())
         }
         Status::OutsideProfile { why } => {

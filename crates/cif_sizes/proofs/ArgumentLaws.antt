@@ -14,7 +14,7 @@ use Rattle.cif_term.specs.Tree.{NetExpr, net_expr}
 use Rattle.cif_model.specs.Counts.{measure_by}
 use Rattle.cif_model.proofs.ValueLaws.{ap-two}
 use Rattle.cif_measure.specs.declared.measures.Measure.{Measure}
-use Rattle.cif_measure.specs.Meanings.{stopped_measure, table_measure}
+use Rattle.cif_measure.specs.Meanings.{stopped_measure}
 use Rattle.cif_source.specs.Source.{ParamTree, event_param, alg_param, location_param, alg_decl, InstanceTree, SourceBody, Source}
 use Rattle.cif_source.specs.Components.{Component, whole, part, blank, copy, Entry, declared}
 use Rattle.cif_source.specs.Objects.{components_of}
@@ -28,7 +28,7 @@ use Rattle.cif_parameters.specs.Given.{given_items, is_event, is_location, place
 use Rattle.cif_translate.specs.declared.looking.Looking.{Looking}
 use Rattle.cif_translate.specs.Looking.{AreNamesOf, source_for, component_at, component_of, or_whole}
 use Rattle.cif_sizes.specs.Counted.{one, tree_counted}
-use Rattle.cif_sizes.specs.Arguments.{expression_measure, measures_of, entry_measure, name_measure, AreArgumentMeasures}
+use Rattle.cif_sizes.specs.Arguments.{one_each, expression_measure, measures_of, name_measure, AreArgumentMeasures}
 use Rattle.cif_sizes.specs.Reading.{AreFirst, IsMeasured, AreMeasured, AreMeasuresFor, IsReady}
 use Rattle.cif_sizes.proofs.CountedLaws.{AreNameMeasures, expression-is}
 use Rattle.cif_sizes.proofs.NameLaws.{named-measure, many, names-are}
@@ -51,22 +51,14 @@ same-items (x ∷ xs) (y ∷ ys) many each = ap-two (λ z zs. z ∷ zs) (some-sa
 
 -- ---- an argument
 
-event-one : (e : Entry) → is_event e ≡ true → one ≡ entry_measure e
-event-one (declared (alg_decl ty n e)) h = absurd (false-true refl h)
-event-one _ h = refl
-
-location-one : (e : Entry) → is_location e ≡ true → one ≡ entry_measure e
-location-one (declared (alg_decl ty n e)) h = absurd (false-true refl h)
-location-one _ h = refl
-
-placed-measure : (at : Option ℕ) (e : NetExpr) → stopped_measure (measure_by (table_measure []) (placed_at at e)) ≡ stopped_measure (measure_by (table_measure []) e)
+placed-measure : (at : Option ℕ) (e : NetExpr) → stopped_measure (measure_by one_each (placed_at at e)) ≡ stopped_measure (measure_by one_each e)
 placed-measure None e = refl
 placed-measure (Some k) (net_expr f at) = refl
 
 -- a name that is given
 pub named-measured : (t : Source) (q : Place) → IsMeasured t (Named q) one
-named-measured t q (event_param k h n) g e is = let w = named-measure is_event t g e q is in event-one w.0 w.1 ∙ w.2
-named-measured t q (location_param n) g e is = let w = named-measure is_location t g e q is in location-one w.0 w.1 ∙ w.2
+named-measured t q (event_param k h n) g e is = named-measure is_event t g e q is
+named-measured t q (location_param n) g e is = named-measure is_location t g e q is
 named-measured t q (alg_param ty n) g e is = absurd is
 
 component-is : (t : Source) (k : ℕ) (c : Component) → IsNumber t k c → component_of t k ≡ c
@@ -108,7 +100,7 @@ module _ (l : Looking) (are : AreNamesOf l) where
       ∙ ap (λ c. tree_counted (name_measure c) (view v.now)) (component-is t giver w.home w.is_number)
       ∙ expression-is w.home (name_measure w.home) (names-of giver w.home w.is_number) (view v.now)
       ∙ sym (placed-measure at (net_of w.home (view v.now)))
-      ∙ ap (λ x. stopped_measure (measure_by (table_measure []) x)) (sym w.in_net)
+      ∙ ap (λ x. stopped_measure (measure_by one_each x)) (sym w.in_net)
   value-measured giver v at m is (event_param k h n) g e w = absurd w
   value-measured giver v at m is (location_param n) g e w = absurd w
 

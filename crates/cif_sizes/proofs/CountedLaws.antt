@@ -13,7 +13,7 @@ use Rattle.cif_model.specs.Counts.{no_form, beside, all_beside, measure_by}
 use Rattle.cif_model.specs.Counts as counts
 use Rattle.cif_model.proofs.ValueLaws.{ap-two}
 use Rattle.cif_measure.specs.declared.measures.Measure.{Measure}
-use Rattle.cif_measure.specs.Meanings.{stopped_measure, table_measure, stopped_table}
+use Rattle.cif_measure.specs.Meanings.{stopped_measure}
 use Rattle.cif_measure.specs.Counted.{beside_stopped, above_stopped, counted}
 use Rattle.cif_measure.specs.Counted as measured
 use Rattle.cif_measure.specs.Sizes as sized
@@ -23,7 +23,8 @@ use Rattle.cif_source.specs.Source.{list_of_trees, UseTree, edge_tree, syncs}
 use Rattle.cif_source.specs.Components.{Component}
 use Rattle.cif_image.specs.Translation.{conjunction, net_with, net_form, net_exprs_of, net_terms_of, net_factors_of, net_branches_of, net_name, net_of, net_list, net_guard}
 use Rattle.cif_image.specs.Flat.{net_updates_of, net_update_of, net_update_branches_of, sent_tree, net_edge}
-use Rattle.cif_sizes.specs.Counted.{none, tree_counted, shape_counted, trees_counted, terms_counted, factors_counted, branches_counted, conditions_counted, updates_counted, update_counted, update_branches_counted}
+use Rattle.cif_sizes.specs.Counted.{one, none, tree_counted, shape_counted, trees_counted, terms_counted, factors_counted, branches_counted, conditions_counted, updates_counted, update_counted, update_branches_counted}
+use Rattle.cif_sizes.specs.Arguments.{one_each}
 
 placed-counted : (alg : ℕ → Measure) (at : ℕ) (e : NetExpr) → counted alg (placed at e) ≡ counted alg e
 placed-counted alg at (net_expr f k) = refl
@@ -129,22 +130,22 @@ module _ (alg : ℕ → Measure) (c : Component) (name : Name → Measure) (same
 -- ---- counts that stop
 
 abbrev pub alg : ℕ → Measure
-alg k = stopped_table [] k
+alg k = one
 
 abbrev pub whole_measure : NetExpr → counts.Measure
-whole_measure = measure_by (table_measure [])
+whole_measure = measure_by one_each
 
 none-first : (e : NetExpr) → beside_stopped none (counted alg e) ≡ counted alg e
 none-first e =
-    ap (beside_stopped none) (counted-is (table_measure []) e)
+    ap (beside_stopped none) (counted-is one_each e)
     ∙ beside-stopped no_form (whole_measure e)
     ∙ ap stopped_measure (none-beside (whole_measure e))
-    ∙ sym (counted-is (table_measure []) e)
+    ∙ sym (counted-is one_each e)
 
 exprs-stop : (es : List NetExpr) (a : counts.Measure) → sized.exprs_counted alg (stopped_measure a) es ≡ stopped_measure (beside a (all_beside (map whole_measure es)))
 exprs-stop [] a = ap stopped_measure (sym (beside-none a))
 exprs-stop (e ∷ es) a =
-    ap (λ b. sized.exprs_counted alg b es) (ap (beside_stopped (stopped_measure a)) (counted-is (table_measure []) e) ∙ beside-stopped a (whole_measure e))
+    ap (λ b. sized.exprs_counted alg b es) (ap (beside_stopped (stopped_measure a)) (counted-is one_each e) ∙ beside-stopped a (whole_measure e))
     ∙ exprs-stop es (beside a (whole_measure e))
     ∙ ap stopped_measure (beside-assoc a (whole_measure e) (all_beside (map whole_measure es)))
 
@@ -158,7 +159,7 @@ abbrev pub AreNameMeasures : Component → (Name → Measure) → Type 0
 AreNameMeasures c name = (nm : Name) (at : ℕ) → name nm ≡ counted alg (net_name c nm at)
 
 pub expression-is : (c : Component) (name : Name → Measure) → AreNameMeasures c name → (e : Tree) → tree_counted name e ≡ stopped_measure (whole_measure (net_of c e))
-expression-is c name same e = tree-is alg (net_name c) name same e ∙ counted-is (table_measure []) (net_of c e)
+expression-is c name same e = tree-is alg (net_name c) name same e ∙ counted-is one_each (net_of c e)
 
 pub edge-measured : (c : Component) (name : Name → Measure) → AreNameMeasures c name → (edge : Edge) (from : ℕ) (u : UseTree) → u.role ≡ syncs
     → updates_counted name (conditions_counted name (view_exprs edge.guards)) (view_updates edge.updates)

@@ -14,7 +14,6 @@ use Rattle.cif_system.proofs.Lists.{some-same, none-some, false-true}
 use Rattle.cif_system.proofs.Picks.{and-left, and-right}
 use Rattle.cif_term.specs.Tree.{NetExpr, net_expr, n_number}
 use Rattle.cif_measure.specs.declared.measures.Measure.{Measure}
-use Rattle.cif_measure.specs.Meanings.{table_measure}
 use Rattle.cif_measure.specs.Counted.{counted}
 use Rattle.cif_measure.proofs.CountedLaws.{counted-is}
 use Rattle.cif_source.specs.Source.{ParamTree, event_param, alg_param, location_param, type_decl, enum_decl, event_decl, const_decl, alg_decl, input_decl, disc_decl, equation_decl, invariant_decl, marked_decl, InstanceTree, SourceBody, Source}
@@ -30,8 +29,6 @@ use Rattle.cif_components.specs.Numbers.{IsNumber, AreComponentsOf, Finds}
 use Rattle.cif_components.specs.Finding.{look}
 use Rattle.cif_components.proofs.FindChildren.{listed}
 use Rattle.cif_components.proofs.FindLaws.{below-or, result-finds}
-use Rattle.cif_numbers.specs.Numbers.{IsNumbered}
-use Rattle.cif_numbers.specs.declared.numbers.Numbered.{Numbered}
 use Rattle.cif_image.specs.Translation.{net_constant, net_object, net_name, net_of, net_with}
 use Rattle.cif_written.proofs.ArgumentLaws as written
 use Rattle.cif_parameters.specs.declared.given.Given.{Given}
@@ -41,7 +38,7 @@ use Rattle.cif_parameters.specs.Passing.{and_then}
 use Rattle.cif_parameters.proofs.EarlyLaws.{found-before}
 use Rattle.cif_translate.specs.Looking.{or_whole, component_of}
 use Rattle.cif_sizes.specs.Counted.{one}
-use Rattle.cif_sizes.specs.Arguments.{expression_measure, measures_of, entry_measure, or_one, reached_measure, name_measure, argument_at, numbered_measure}
+use Rattle.cif_sizes.specs.Arguments.{one_each, expression_measure, measures_of, or_one, reached_measure, name_measure, argument_at}
 use Rattle.cif_sizes.specs.Reading.{AreFirst}
 use Rattle.cif_sizes.proofs.CountedLaws.{alg, AreNameMeasures}
 
@@ -103,7 +100,7 @@ constant-one ty.Bool z at = refl
 constant-one (ty.Int lo hi) z at = refl
 constant-one (ty.Enum size) z at = refl
 
-object-measure : (c : Component) (e : Entry) (at : ℕ) → entry_measure e ≡ counted alg (net_expr (net_object (c, e)) at)
+object-measure : (c : Component) (e : Entry) (at : ℕ) → one ≡ counted alg (net_expr (net_object (c, e)) at)
 object-measure c (declared (const_decl ty n e)) at = constant-one _ _ at
 object-measure c (declared (alg_decl ty n e)) at = refl
 object-measure c (declared (type_decl n ty)) at = refl
@@ -121,7 +118,7 @@ object-measure c (definition n ps b) at = refl
 object-measure c (instance i) at = refl
 object-measure c (parameter k p) at = refl
 
-free-measure : (c : Component) (e : Entry) → is_parameter e ≡ false → reached_measure (reached (c, e)) ≡ entry_measure e
+free-measure : (c : Component) (e : Entry) → is_parameter e ≡ false → reached_measure (reached (c, e)) ≡ one
 free-measure (copy o n ps b g i) (parameter k p) h = absurd (false-true h refl)
 free-measure (copy o n ps b g i) (declared d) h = refl
 free-measure (copy o n ps b g i) (literal k ls) h = refl
@@ -132,25 +129,6 @@ free-measure (copy o n ps b g i) (instance j) h = refl
 free-measure (whole is) e h = refl
 free-measure (part o n b) e h = refl
 free-measure (blank o n ps b) e h = refl
-
--- by its number
-pub numbered-is : (t : Source) (c : Component) (e : Entry) (r : Option Numbered) → IsNumbered t c e r → numbered_measure r ≡ entry_measure e
-numbered-is t c (declared (event_decl k h n)) r is = ap numbered_measure is
-numbered-is t c (declared (input_decl ty n)) r is = ap numbered_measure is
-numbered-is t c (declared (disc_decl ty n e)) r is = ap numbered_measure is
-numbered-is t c (declared (alg_decl ty n e)) r is = ap numbered_measure is
-numbered-is t c (declared (type_decl n ty)) r is = ap numbered_measure is
-numbered-is t c (declared (enum_decl n ls)) r is = ap numbered_measure is
-numbered-is t c (declared (const_decl ty n e)) r is = ap numbered_measure is
-numbered-is t c (declared (equation_decl q)) r is = ap numbered_measure is
-numbered-is t c (declared (invariant_decl i)) r is = ap numbered_measure is
-numbered-is t c (declared (marked_decl p)) r is = ap numbered_measure is
-numbered-is t c (literal k ls) r is = ap numbered_measure is
-numbered-is t c (location k) r is = ap numbered_measure is
-numbered-is t c (inner n b) r is = ap numbered_measure is
-numbered-is t c (definition n ps b) r is = ap numbered_measure is
-numbered-is t c (instance i) r is = ap numbered_measure is
-numbered-is t c (parameter k p) r is = ap numbered_measure is
 
 -- ---- what a parameter stands for
 
@@ -164,16 +142,13 @@ abbrev argument_by : (Name → ℕ → NetExpr) → Component → Tree → ℕ �
 argument_by name g a at = net_with name a
 
 expression-counted : (g : Component) (e : Tree) → expression_measure g e ≡ counted alg (net_of g e)
-expression-counted g e = sym (counted-is (table_measure []) (net_of g e))
+expression-counted g e = sym (counted-is one_each (net_of g e))
 
 -- an event or a location is one form wherever it stands
-pub named-measure : (sort : Entry → Bool) (t : Source) (g : Component) (e : Tree) (p : Place) → IsNamed sort t g e p → (w : Entry) × (sort w ≡ true) × (entry_measure w ≡ expression_measure g e)
+pub named-measure : (sort : Entry → Bool) (t : Source) (g : Component) (e : Tree) (p : Place) → IsNamed sort t g e p → one ≡ expression_measure g e
 named-measure sort t g e p is =
-    let w = is.leads in (
-      w.entry,
-      is.is_sort,
-      object-measure w.home w.entry is.at ∙ ap (counted alg) (sym (w.in_net is.at)) ∙ sym (ap (λ z. expression_measure g z) is.is_bare ∙ expression-counted g (node (named is.name) is.at)),
-    )
+    let w = is.leads in
+    object-measure w.home w.entry is.at ∙ ap (counted alg) (sym (w.in_net is.at)) ∙ sym (ap (λ z. expression_measure g z) is.is_bare ∙ expression-counted g (node (named is.name) is.at))
 
 module _ (g : Component) where
   abbrev value_of : Tree → ℕ → NetExpr
@@ -267,7 +242,7 @@ module _ (t : Source) (s : Scopes) (cs : Components) (scopes : AreScopesOf t s) 
 
     -- either the argument of a parameter has its measure in the table, or none is there
     abbrev IsPlaced : Place → Component → Entry → Type 0
-    IsPlaced q c e = ((m : Measure) × (argument_at all q ≡ Some m) × (m ≡ reached_measure (reached (c, e)))) ⊎ ((argument_at all q ≡ None) × (entry_measure e ≡ reached_measure (reached (c, e))))
+    IsPlaced q c e = ((m : Measure) × (argument_at all q ≡ Some m) × (m ≡ reached_measure (reached (c, e)))) ⊎ ((argument_at all q ≡ None) × (one ≡ reached_measure (reached (c, e))))
 
     none-placed : (q : Place) (c : Component) → IsNumber t q.component c → slice_get (measures_of c) q.slot ≡ None → argument_at all q ≡ None
     none-placed q c own free =
@@ -306,7 +281,7 @@ module _ (t : Source) (s : Scopes) (cs : Components) (scopes : AreScopesOf t s) 
       abbrev IsPlacedName : Place → Type 0
       IsPlacedName q =
           ((m : Measure) × (argument_at all q ≡ Some m) × (m ≡ name_measure c nm))
-          ⊎ ((argument_at all q ≡ None) × (d : Component) × (e : Entry) × IsNumber t q.component d × IsEntry d e q.slot × (entry_measure e ≡ name_measure c nm))
+          ⊎ ((argument_at all q ≡ None) × (one ≡ name_measure c nm))
 
       placed-reached : (r : Reached) (q : Place) → found c nm ≡ r → Finds t r (Some q) → IsPlacedName q
       placed-reached missing q f h = absurd h
@@ -319,7 +294,7 @@ module _ (t : Source) (s : Scopes) (cs : Components) (scopes : AreScopesOf t s) 
           omega (arith, low, enough)) in
           elim place [
             | inl x ↦ inl (x.0, x.1, x.2 ∙ sym (ap reached_measure f))
-            | inr y ↦ inr (y.0, d, e, h.0, h.1, y.1 ∙ sym (ap reached_measure f))
+            | inr y ↦ inr (y.0, y.1 ∙ sym (ap reached_measure f))
           ]
         where
           component_in : Component → Reached → Component
@@ -333,10 +308,9 @@ module _ (t : Source) (s : Scopes) (cs : Components) (scopes : AreScopesOf t s) 
       pub from-table : (q : Place) → Finds t (found c nm) (Some q) → (m : Measure) → argument_at all q ≡ Some m → m ≡ name_measure c nm
       from-table q h m is = elim (placed-name q h) [ inl x ↦ some-same m x.0 (sym is ∙ x.1) ∙ x.2 | inr y ↦ absurd (none-some m (sym y.0 ∙ is)) ]
 
-      -- and without one that of what is declared
-      pub from-declared : (q : Place) → Finds t (found c nm) (Some q) → argument_at all q ≡ None → (m : Measure)
-          → ((d : Component) (e : Entry) → IsNumber t q.component d → IsEntry d e q.slot → m ≡ entry_measure e) → m ≡ name_measure c nm
-      from-declared q h is m declares = elim (placed-name q h) [ inl x ↦ absurd (none-some x.0 (sym is ∙ x.1)) | inr y ↦ declares y.1 y.2 y.3 y.4 ∙ y.5 ]
+      -- and without one it is one form
+      pub from-declared : (q : Place) → Finds t (found c nm) (Some q) → argument_at all q ≡ None → one ≡ name_measure c nm
+      from-declared q h is = elim (placed-name q h) [ inl x ↦ absurd (none-some x.0 (sym is ∙ x.1)) | inr y ↦ y.1 ]
 
 -- the component with a number
 pub home-number : (t : Source) (k : ℕ) → k < length (components_of t) → IsNumber t k (component_of t k)

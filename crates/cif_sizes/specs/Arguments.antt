@@ -1,27 +1,28 @@
 -- The measures of the arguments of instances, and so of what names stand for.
-use Rattle.std.specs.Prelude.{◌≡◌, List, [], map, Option, Some, None, slice_get}
+use Rattle.std.specs.Prelude.{◌≡◌, ℕ, List, [], map, Option, Some, None, slice_get}
 use Rattle.cif_ast.specs.Tree.{Tree}
 use Rattle.cif_ast.specs.declared.names.Name.{Name}
-use Rattle.cif_model.specs.Counts.{measure_by}
+use Rattle.cif_model.specs.Counts as counts
+use Rattle.cif_model.specs.Counts.{one_form, measure_by}
 use Rattle.cif_measure.specs.declared.measures.Measure.{Measure}
-use Rattle.cif_measure.specs.Meanings.{stopped_measure, table_measure}
-use Rattle.cif_source.specs.Source.{alg_decl}
-use Rattle.cif_source.specs.Components.{Component, whole, part, blank, copy, Entry, declared, parameter}
+use Rattle.cif_measure.specs.Meanings.{stopped_measure}
+use Rattle.cif_source.specs.Components.{Component, whole, part, blank, copy, parameter}
 use Rattle.cif_source.specs.Lookup.{Reached, reached, missing, blocked, found}
 use Rattle.cif_source.specs.Objects.{components_of}
 use Rattle.cif_components.specs.declared.components.Place.{Place}
-use Rattle.cif_numbers.specs.declared.counts.Counted.{Counted}
-use Rattle.cif_numbers.specs.declared.counts.Counted.TheVariants.{Event, Input, Variable, Algebraic}
-use Rattle.cif_numbers.specs.declared.numbers.Numbered.{Numbered}
 use Rattle.cif_image.specs.Translation.{net_of}
 use Rattle.cif_parameters.specs.Passing.{and_then}
 use Rattle.cif_translate.specs.declared.looking.Looking.{Looking}
 use Rattle.cif_translate.specs.Looking.{source_for}
-use Rattle.cif_sizes.specs.Counted.{one, none}
+use Rattle.cif_sizes.specs.Counted.{one}
 
--- the measure that an expression of a component has in the net, where an algebraic variable counts as nothing
+-- an algebraic variable counts as the one form that its name is
+abbrev pub one_each : ℕ → counts.Measure
+one_each k = one_form
+
+-- the measure that an expression of a component has in the net
 abbrev pub expression_measure : Component → Tree → Measure
-expression_measure c e = stopped_measure (measure_by (table_measure []) (net_of c e))
+expression_measure c e = stopped_measure (measure_by one_each (net_of c e))
 
 -- those of a component's arguments, which the component gave in which the instance stands
 abbrev pub measures_of : Component → List Measure
@@ -36,21 +37,14 @@ AreArgumentMeasures l all = all ≡ map measures_of (components_of (source_for l
 
 -- ---- names
 
--- what stands at a place that is no parameter
-abbrev pub entry_measure : Entry → Measure
-entry_measure (declared (alg_decl ty n e)) = none
-entry_measure _ = one
-
 abbrev pub or_one : Option Measure → Measure
 or_one None = one
 or_one (Some m) = m
 
--- a parameter of an instance stands for its argument
+-- a parameter of an instance stands for its argument, and every other name is one form
 abbrev pub reached_measure : Reached → Measure
 reached_measure (reached (copy o n ps b g i, parameter k p)) = or_one (slice_get (map (expression_measure g) i.args) k)
-reached_measure (reached (c, e)) = entry_measure e
-reached_measure missing = one
-reached_measure blocked = one
+reached_measure _ = one
 
 -- the measure of what a name of a component stands for
 abbrev pub name_measure : Component → Name → Measure
@@ -60,13 +54,3 @@ name_measure c nm = reached_measure (found c nm)
 
 abbrev pub argument_at : List (List Measure) → Place → Option Measure
 argument_at all p = and_then (slice_get all p.component) (λ (ms : List Measure). slice_get ms p.slot)
-
-abbrev pub counted_measure : Counted → Measure
-counted_measure Event = one
-counted_measure Input = one
-counted_measure Variable = one
-counted_measure Algebraic = none
-
-abbrev pub numbered_measure : Option Numbered → Measure
-numbered_measure None = one
-numbered_measure (Some r) = counted_measure r.among

@@ -1,20 +1,20 @@
-//! What the expressions of an edge weigh together.
+//! What the expressions of an edge weigh together, and what one expression weighs.
 
-ghost use Rattle.std.specs.Prelude.{◌≡◌, ◌<◌, ℕ, [], map, length};
-ghost use Rattle.cif_ast.specs.View.{view_update, view_updates, view_update_branches};
+ghost use Rattle.std.specs.Prelude.{◌≡◌, ◌<◌, ℕ, map, length};
+ghost use Rattle.cif_ast.specs.View.{view, view_update, view_updates, view_update_branches};
 ghost use Rattle.cif_source.specs.Objects.{components_of};
 ghost use Rattle.cif_source.specs.Source.{UseTree, edge_tree, syncs};
 ghost use Rattle.cif_model.specs.Counts.{measure_by, all_beside};
 ghost use Rattle.cif_model.specs.Exprs.{edge_exprs};
-ghost use Rattle.cif_measure.specs.Meanings.{stopped_measure, table_measure};
+ghost use Rattle.cif_measure.specs.Meanings.{stopped_measure};
 ghost use Rattle.cif_image.specs.Flat.{net_edge};
 ghost use Rattle.cif_translate.specs.Looking.{AreNamesOf, source_for, component_at};
-ghost use Rattle.cif_sizes.specs.Arguments.{AreArgumentMeasures};
+ghost use Rattle.cif_sizes.specs.Arguments.{AreArgumentMeasures, expression_measure, one_each};
 ghost use Rattle.cif_sizes.specs.Counted as counted;
 ghost use Rattle.cif_sizes.specs.Reading.{Knows, names_by};
 
 use crate::measuring::Measurer;
-use cif_ast::{Edge, Update, UpdateBranch};
+use cif_ast::{Edge, Expr, Update, UpdateBranch};
 use cif_base::Items;
 use cif_measure::Measure;
 use cif_translate::Looking;
@@ -71,7 +71,7 @@ pub fn edge_measure(
     requires names { AreNamesOf looking.now }
     requires component { component < length (components_of (source_for looking.now)) }
     requires arguments { AreArgumentMeasures looking.now arguments.now }
-    ensures { (from : ℕ) (u : UseTree) → u.role ≡ syncs → result ≡ stopped_measure (all_beside (map (measure_by (table_measure []))
+    ensures { (from : ℕ) (u : UseTree) → u.role ≡ syncs → result ≡ stopped_measure (all_beside (map (measure_by one_each)
         (edge_exprs (net_edge (component_at looking.now component)
         (record { from = from; event_use = u; edge = edge_tree edge.now }))))) }
 {
@@ -82,4 +82,25 @@ pub fn edge_measure(
     };
     let guard = measurer.conditions(edge.guards.as_slice());
     measurer.updates(edge.updates.as_slice(), guard)
+}
+
+/// The measure that an expression of a component has in the net. Counts stop one past their limits. The time is linear in the
+/// expression, whatever arguments stand for its names.
+pub fn value_measure(
+    looking: &Looking<'_, '_>,
+    arguments: &[Items<Measure>],
+    component: u32,
+    value: &Expr,
+) -> Measure
+    requires names { AreNamesOf looking.now }
+    requires component { component < length (components_of (source_for looking.now)) }
+    requires arguments { AreArgumentMeasures looking.now arguments.now }
+    ensures { result ≡ expression_measure (component_at looking.now component) (view value.now) }
+{
+    let measurer = Measurer {
+        looking,
+        arguments,
+        component,
+    };
+    measurer.expr(value)
 }

@@ -1,18 +1,13 @@
-//! What names of a component weigh: a parameter what its argument weighs.
+//! What names of a component weigh: a parameter what its argument weighs, and every other name one form.
 
 ghost use Rattle.std.specs.Prelude.{◌≡◌};
-ghost use Rattle.cif_source.specs.Components as source;
-ghost use Rattle.cif_scope.specs.Scopes.{IsEntry};
-ghost use Rattle.cif_components.specs.Numbers.{IsNumber};
 ghost use Rattle.cif_sizes.specs.Arguments as arguments;
-ghost use Rattle.cif_sizes.specs.Arguments.{entry_measure, numbered_measure};
-ghost use Rattle.cif_sizes.specs.Reading.{Knows, source_by, names_by};
+ghost use Rattle.cif_sizes.specs.Reading.{Knows, names_by};
 
 use cif_ast::Name;
 use cif_base::Items;
 use cif_components::Place;
 use cif_measure::Measure;
-use cif_numbers::{Counted, Numbered};
 use cif_translate::Looking;
 
 /// Measures expressions of the component with that number, by the measures of the arguments of the first components, of which it is
@@ -24,19 +19,6 @@ pub struct Measurer<'a, 'b, 'c> {
     pub component: u32,
 }
 
-/// An algebraic variable counts as nothing, and what else is declared as one form.
-fn numbered_measure(numbered: Option<Numbered>) -> Measure
-    ensures { result ≡ numbered_measure numbered }
-{
-    let Some(numbered) = numbered else {
-        return Measure::one();
-    };
-    match numbered.among {
-        Counted::Event | Counted::Input | Counted::Variable => Measure::one(),
-        Counted::Algebraic => Measure::none(),
-    }
-}
-
 impl<'a, 'b, 'c> Measurer<'a, 'b, 'c> {
     /// The measure of an argument, by the place of its parameter.
     fn argument(&self, place: Place) -> Option<Measure>
@@ -45,20 +27,6 @@ impl<'a, 'b, 'c> Measurer<'a, 'b, 'c> {
         let of_component = self.arguments.get(place.component as usize)?;
         let measure = of_component.get(place.slot as usize)?;
         Some(*measure)
-    }
-
-    /// The measure of what is declared at a place.
-    fn declared(&self, place: Place) -> Measure
-        requires { Knows self.now }
-        ensures { (c : source.Component) (e : source.Entry) → IsNumber (source_by self.now) place.component c →
-            IsEntry c e place.slot → result ≡ entry_measure e }
-    {
-        let looking = self.looking;
-        numbered_measure(
-            looking
-                .numbers
-                .declared(looking.scopes, looking.components, place),
-        )
     }
 
     /// The measure of what a name stands for.
@@ -75,7 +43,7 @@ impl<'a, 'b, 'c> Measurer<'a, 'b, 'c> {
         };
         match self.argument(place) {
             Some(measure) => measure,
-            None => self.declared(place),
+            None => Measure::one(),
         }
     }
 }

@@ -22,6 +22,7 @@ use Rattle.cif_accept.specs.Built.{Built, ReadsAsBuilt}
 use Rattle.cif_accept.specs.Accepts.{BuiltEnds, SourceHasTooMany, SourceIs, SourceRefused, no_ends, source_limit, source_work}
 use Rattle.cif_image.specs.NetRules.{UnclassedDue}
 use Rattle.cif_accept.proofs.AcceptLaws as accept
+use Rattle.cif_accept.proofs.SourceLaws.{refused_of}
 use Rattle.cif_check.specs.Words.{Check, IsCheck}
 use Rattle.cif_check.specs.Checks.{accepted}
 use Rattle.cif_check.proofs.CheckLaws as checks
@@ -141,8 +142,8 @@ module _ (words : List Text) (c : Reading) (o : Writing) (e : Ended) (came : Com
     where
       go : (k : Command) (q : Request k) → IsFor k words q → (work_of k q c.content).ends (status.Refused why) e.variable
           → (file : Text) × AsksSource words file × SourceRefused c.content file why
-      go check q is h = elim h [ inl x ↦ (q.file, (record { command = check; request = q }, is, refl), x) | inr x ↦ absurd x.2 ]
-      go generate q is h = elim h [ inl x ↦ (q.file, (record { command = generate; request = q }, is, refl), x) | inr x ↦ absurd x.2 ]
+      go check q is h = elim h [ inl x ↦ (q.file, (record { command = check; request = q }, is, refl), (x.0, x.1, x.2, refused_of x.0 why e.variable x.3)) | inr x ↦ absurd x.2 ]
+      go generate q is h = elim h [ inl x ↦ (q.file, (record { command = generate; request = q }, is, refl), (x.0, x.1, x.2, refused_of x.0 why e.variable x.3)) | inr x ↦ absurd x.2 ]
       go replay q is h = absurd h
 
   pub too_many_choices : (count : ℕ) → r ≡ status.OutsideProfile (profile.TooManyChoices count) → (file : Text) × AsksSource words file × SourceHasTooMany c.content file count

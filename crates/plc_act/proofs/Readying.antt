@@ -86,7 +86,7 @@ module _ (n : Net) (net : Standing n) (small_vars : are_small n.vars ≡ true) (
     abbrev x : Setting
     x = setting_of n s (pos 0)
 
-    bits : (e : NetExpr) → Passes (names_in e) → IsSafe x e → HasBits (value_at x e)
+    pub bits : (e : NetExpr) → Passes (names_in e) → IsSafe x e → HasBits (value_at x e)
     bits e passes safe =
         value-bits x (λ k. stored-bits n.vars s.vals k net.vars small_vars (λ o at. subst (λ q. Lies (stored_range q) (slice_index_or s.vals k (pos 0))) at (fit-at n.vars s.vals k is_state.values)))
         (λ k. stored-bits n.inputs s.ins k net.inputs small_inputs (λ o at. subst (λ q. Lies (stored_range q) (slice_index_or s.ins k (pos 0))) at (fit-at n.inputs s.ins k is_state.inputs))) refl e passes safe
@@ -97,13 +97,13 @@ module _ (n : Net) (net : Standing n) (small_vars : are_small n.vars ≡ true) (
         value-kind n x.algs s None (pos 0) (λ j. fit-at n.vars s.vals j is_state.values) (λ j. fit-at n.inputs s.ins j is_state.inputs) (λ t h. absurd cc)
         (literals-of n.vars net.vars) (literals-of n.inputs net.inputs) k other e passes fit
 
-    truths : (e : NetExpr) → Passes (names_in e) → fits n None bool_kind e ≡ true → IsTrue (in_range (range_of ty.Bool) (value_at x e))
+    pub truths : (e : NetExpr) → Passes (names_in e) → fits n None bool_kind e ≡ true → IsTrue (in_range (range_of ty.Bool) (value_at x e))
     truths e passes fit = test-from_lies (type_range cif_ty.Bool) (value_at x e) (kind-value bool_kind refl e passes fit)
 
     abbrev Fine : NetExpr → Type 0
     Fine e = Passes (names_in e) × IsSafe x e
 
-    ready-expr : (kind : Kind) (k : ℕ) (e : NetExpr) → Declared k (own_types n None e) → fits n None kind e ≡ true → Fine e → IsReady n p w base s k e
+    pub ready-expr : (kind : Kind) (k : ℕ) (e : NetExpr) → Declared k (own_types n None e) → fits n None kind e ≡ true → Fine e → IsReady n p w base s k e
     ready-expr kind k e d fit fine = (
       fine.1,
       (λ m st. reads-named n p received s (pos 0) m st e (named kind e fit fine.0)),

@@ -1,11 +1,10 @@
 -- The text that is written for a net keeps what is promised of it.
-use Rattle.std.proofs.Common.{◌≡◌, ℕ, true, List, sym, subst}
+use Rattle.std.proofs.Common.{◌≡◌, ℕ, true, sym, subst}
 use Rattle.grammar.specs.Pieces.{Text}
 use Rattle.cif_system.specs.System.{initial}
 use Rattle.cif_model.specs.Net.{Net}
-use Rattle.cif_model.specs.Listing.{NetChoice, guarded_of}
+use Rattle.cif_model.specs.Listing.{guarded_of}
 use Rattle.cif_model.specs.Meaning.{system_of_net}
-use Rattle.cif_nesting.specs.Nesting.{is_shallow}
 use Rattle.st_ast.specs.ReadsAs.{ReadsBack}
 use Rattle.st_ast.specs.Scan.{start_memory}
 use Rattle.st_ast.specs.Spelled.{is_spelled}
@@ -16,7 +15,7 @@ use Rattle.plc_face.specs.Scans.{NeverFaults, RunsFirstSteps, ScansLegally, Scan
 use Rattle.plc_face.proofs.ScanLaws.{exact-first, exact-legal}
 use Rattle.plc_gen.specs.Faces.{face_of_net}
 use Rattle.plc_gen.specs.Makes.{Makes}
-use Rattle.plc_parts.specs.Parts.{HasParts, data_parts, data_program}
+use Rattle.plc_parts.specs.Parts.{data_program}
 use Rattle.plc_sound.proofs.Whole.{program-spelled}
 use Rattle.plc_fits.proofs.FitLaws.{fitted-makes}
 use Rattle.plc_back.specs.Texts.{IsLayoutOf, TheProgram}

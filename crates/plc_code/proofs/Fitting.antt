@@ -1,9 +1,13 @@
 -- What a guarded net has so that its program can be made of parts.
 use Rattle.std.proofs.Common.{◌≡◌, ℕ, zero, suc, ◌+◌, ◌≤◌, true, false, List, [], ◌∷◌, map, length, Some, None, Result, Ok, Err, IfOk, slice_get, refl, subst, arith}
 use Rattle.std.specs.List.{AllByRecursion, list_all}
+use Rattle.std.proofs.lemmas.List.{length-append}
 use Rattle.cif_model.specs.Listing.{NetChoice}
 use Rattle.cif_model.specs.Meaning.{system_of_net}
-use Rattle.cif_model.specs.Net.{NetChan, no_net_chan, void_net_chan, net_chan_of, NetEvent, Net}
+use Rattle.cif_model.specs.Inline.{defined_by}
+use Rattle.cif_model.specs.Kinds.{kind_of}
+use Rattle.cif_model.specs.Net.{NetAlg, NetChan, no_net_chan, void_net_chan, net_chan_of, NetEvent, Net}
+use Rattle.cif_model.specs.Reads.{names_in}
 use Rattle.cif_model.specs.Shown.{channel_type}
 use Rattle.cif_model.proofs.Passing.{and-left, and-right}
 use Rattle.cif_model.proofs.PlainLaws.{never}
@@ -13,8 +17,12 @@ use Rattle.cif_choices.proofs.Steps.{guarded-steps}
 use Rattle.plc_gen.specs.Given.{own_variables}
 use Rattle.plc_gen.specs.Small.{are_small}
 use Rattle.plc_gen.proofs.Choosing.{all-of}
-use Rattle.plc_parts.specs.Parts.{HasParts, data_parts, is_no_channel, is_silent}
-use Rattle.plc_code.specs.Named.{IsNamedChoice}
+use Rattle.plc_expr.proofs.There.{there}
+use Rattle.plc_parts.specs.Definitions.{IsDefinition}
+use Rattle.plc_parts.specs.Parts.{HasParts, data_parts, is_no_channel, is_silent, shown_first, shown_part}
+use Rattle.plc_parts.proofs.Defined.{all-defined}
+use Rattle.plc_tries.proofs.Tried.{named-there}
+use Rattle.plc_code.specs.Named.{IsNamedAlg, IsNamedChoice}
 use Rattle.plc_code.specs.Order.{Ascending}
 use Rattle.plc_code.proofs.Sorted.{listed-ascend}
 use Rattle.plc_code.proofs.Stand.{choice-named}
@@ -52,15 +60,23 @@ module _ (g : Guarded) where
       all-of (IsNamedChoice n) cs
       (λ k c at. choice-named n c ((guarded-steps g).stands k c at) (none-carried n.events c.event (and-right _ _ silent)))
 
-  pub has-parts : (U C next : ℕ) → is_silent n ≡ true → are_small n.vars ≡ true → are_small n.inputs ≡ true → U ≤ 10000 → C ≤ 10000
-      → next ≡ 2 + length (own_variables (data_parts n cs)) → next ≤ 2147483648 → HasParts n cs U C
-  has-parts U C next silent vars inputs unc con next_is most = record {
+  each-there : (as' : List NetAlg) → AllByRecursion (IsDefinition n) as' → AllByRecursion (IsNamedAlg n) as'
+  each-there [] h = tt
+  each-there (a ∷ as') h =
+      (named-there n (names_in (defined_by a)) (there n None (kind_of a.type_of a.literals) (defined_by a) h.0.fit h.0.names), each-there as' h.1)
+
+  pub algs-there : AllByRecursion (IsNamedAlg n) n.algs
+  algs-there = each-there n.algs (all-defined n g.plain.plain)
+
+  pub has-parts : (U C last : ℕ) → is_silent n ≡ true → are_small n.vars ≡ true → are_small n.inputs ≡ true → U ≤ 10000 → C ≤ 10000
+      → last ≡ shown_first n cs + length (shown_part n (shown_first n cs)).own → last ≤ 2147483648 → HasParts n cs U C
+  has-parts U C last silent vars inputs unc con last_is most = record {
     plain = g.plain.plain;
     guarded = guarded-steps g;
     silent = silent;
     small_variables = vars;
     small_inputs = inputs;
-    few_own = omega (arith, next_is, most);
+    few_own = let both = length-append (own_variables (data_parts n cs)) (shown_part n (shown_first n cs)).own in omega (arith, last_is, most, both);
     turns = omega (arith, unc, con);
     unc = omega (arith, unc);
     con = omega (arith, con);

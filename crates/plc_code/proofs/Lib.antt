@@ -13,3 +13,4 @@ pub mod Fitting
 pub mod Several
 pub mod Eventwise
 pub mod Updating
+pub mod Shown

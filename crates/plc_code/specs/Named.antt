@@ -6,7 +6,8 @@ use Rattle.cif_term.specs.Tree.{NetExpr}
 use Rattle.cif_model.specs.Exprs.{targets, updates_exprs}
 use Rattle.cif_model.specs.Facts.{has}
 use Rattle.cif_model.specs.Listing.{NetChoice}
-use Rattle.cif_model.specs.Net.{NetAuto, NetStored, Net}
+use Rattle.cif_model.specs.Inline.{defined_by}
+use Rattle.cif_model.specs.Net.{NetAlg, NetAuto, NetStored, Net}
 use Rattle.cif_model.specs.Reads.{names_in}
 use Rattle.plc_face.specs.declared.letter.Letter.{Letter}
 use Rattle.plc_face.specs.declared.letter.Letter.TheVariants as letter
@@ -43,6 +44,10 @@ pub record AreNames (n : Net) (names : Names) : Type 0 where
 -- what an expression names is there
 abbrev pub IsNamedExpr : Net → NetExpr → Type 0
 IsNamedExpr n e = AllByRecursion (IsNamed n) (names_in e)
+
+-- what a definition names is there
+abbrev pub IsNamedAlg : Net → NetAlg → Type 0
+IsNamedAlg n a = IsNamedExpr n (defined_by a)
 
 -- what the expressions of a choice name is there, and so are the variables that it assigns
 pub record IsNamedChoice (n : Net) (c : NetChoice) : Type 0 where

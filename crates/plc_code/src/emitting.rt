@@ -14,9 +14,9 @@ use plc_gen::Bounds;
 use st_ast::Program;
 use std::alloc::Global;
 
-/// The program of a net without algebraic variables, state invariants and channels, whose conditional updates nest no deeper than
-/// statements can. It makes the net's scans, with these most rounds of each class. Own variables past 31 bits are want of memory.
-/// The time is linear in the choices and in what is written.
+/// The program of a net without state invariants and channels, whose conditional updates nest no deeper than statements can. It
+/// makes the net's scans, with these most rounds of each class. Own variables past 31 bits are want of memory. The time is
+/// linear in the choices and in what is written.
 pub fn emit(alloc: Global, guarded: &Guarded, bounds: Bounds) -> Result<Program, Memory>
     requires silent { is_silent (net_tree guarded.now.plain.net) ≡ true }
     requires shallow { is_shallow (net_tree guarded.now.plain.net) ≡ true }

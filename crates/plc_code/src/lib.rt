@@ -1,5 +1,5 @@
-//! The Structured Text program of a net with data (IEC 61131-3): the parts of its events, from which `plc_gen` makes the
-//! program.
+//! The Structured Text program of a net with data (IEC 61131-3): the parts of its events, and the part that shows its algebraic
+//! variables, from which `plc_gen` makes the program.
 #![tactic(auto)]
 
 mod acting;
@@ -13,6 +13,7 @@ mod parts;
 mod program;
 mod ranges;
 mod selecting;
+mod showing;
 mod targets;
 mod types;
 mod writing;

@@ -36,7 +36,8 @@ pub fn names_of(alloc: Global, net: &Net) -> Result<Names, Memory>
     })
 }
 
-fn number_at(at: usize) -> Result<u32, Memory>
+/// The number of a place. One past 32 bits is want of memory; no net has it.
+pub fn number_at(at: usize) -> Result<u32, Memory>
     ensures { IfOk result (λ k. k ≡ at) }
 {
     match u32::try_from(at) {

@@ -186,7 +186,7 @@ fn count_of(choices: &[Choice], event: usize) -> usize
 }
 
 /// The number behind so many others. A number that runs out is want of memory.
-fn number_after(first: u32, count: usize) -> Result<u32, Memory>
+pub fn number_after(first: u32, count: usize) -> Result<u32, Memory>
     ensures { IfOk result (λ k. k ≡ first + count) }
 {
     let Ok(more) = u32::try_from(count) else {

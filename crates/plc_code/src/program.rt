@@ -5,10 +5,11 @@ ghost use Rattle.cif_net.specs.View.{choice_tree, net_tree};
 ghost use Rattle.st_ast.specs.View.{view};
 ghost use Rattle.plc_gen.specs.Given.{FrameFits};
 ghost use Rattle.plc_gen.specs.Makes.{Makes};
-ghost use Rattle.plc_parts.specs.Parts.{HasParts, data_parts, data_program, is_silent};
+ghost use Rattle.plc_parts.specs.Parts.{HasParts, data_parts, data_program, is_silent, shown_first, shown_part};
 
 use crate::naming::names_of;
-use crate::parts::{Parts, all_parts};
+use crate::parts::{Parts, all_parts, number_after};
+use crate::showing::shown_part_of;
 use cif_base::Memory;
 use cif_net::Guarded;
 use plc_gen::{Bounds, frame};
@@ -18,8 +19,8 @@ use std::alloc::Global;
 /// The number behind those of the most own variables, which are numbered from 2 on in 31 bits.
 const MOST_OWN: u32 = 2_147_483_648;
 
-/// The program of a net with data, of which no algebraic variable, no state invariant and no channel is left, where its parts fit
-/// into the frame. Own variables past 31 bits are want of memory. The time is linear in the choices and in what is written.
+/// The program of a net with data, of which no state invariant and no channel is left, where its parts fit into the frame. Own
+/// variables past 31 bits are want of memory. The time is linear in the choices and in what is written.
 pub(crate) fn emit_fitting(
     alloc: Global,
     guarded: &Guarded,
@@ -30,7 +31,8 @@ pub(crate) fn emit_fitting(
     requires con { bounds.con ≤ 10000 }
     requires fits { HasParts (net_tree guarded.now.plain.net) (map choice_tree guarded.now.choices) bounds.unc bounds.con
         → FrameFits (net_tree guarded.now.plain.net) bounds.unc bounds.con
-        (data_parts (net_tree guarded.now.plain.net) (map choice_tree guarded.now.choices)) }
+        (data_parts (net_tree guarded.now.plain.net) (map choice_tree guarded.now.choices))
+        (shown_part (net_tree guarded.now.plain.net) (shown_first (net_tree guarded.now.plain.net) (map choice_tree guarded.now.choices))) }
     ensures program { IfOk result
         (λ p. view p ≡ data_program (net_tree guarded.now.plain.net) (map choice_tree guarded.now.choices) bounds.unc bounds.con) }
     ensures parts { IfOk result
@@ -40,8 +42,11 @@ pub(crate) fn emit_fitting(
     let net = &guarded.plain.net;
     let names = names_of(alloc, net)?;
     let Parts { parts, next } = all_parts(alloc, net, &names, guarded.choices.as_slice())?;
-    if next > MOST_OWN {
+    let made = shown_part_of(alloc, net, &names, next)?;
+    let shown = made.into_inner();
+    let last = number_after(next, shown.own.len())?;
+    if last > MOST_OWN {
         return Err(Memory);
     }
-    frame(alloc, net, bounds, parts)
+    frame(alloc, net, bounds, parts, shown)
 }

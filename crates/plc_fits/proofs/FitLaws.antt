@@ -1,12 +1,12 @@
 -- The parts of a net with data meet what the frame asks, so its program makes what a frame makes.
-use Rattle.std.proofs.Common.{◌≡◌, ℕ, zero, suc, ◌+◌, ◌<◌, Bool, true, inl, inr, List, [], ◌∷◌, length, map, Option, Some, None, refl, ◌∙◌, ap, arith}
-use Rattle.std.specs.Prelude.{◌&&◌, nat_eq, slice_get}
+use Rattle.std.proofs.Common.{◌≡◌, ℕ, suc, ◌+◌, ◌<◌, true, inl, inr, List, [], ◌∷◌, length, Option, Some, None, refl, ◌∙◌, ap, arith}
+use Rattle.std.specs.Prelude.{nat_eq, slice_get}
 use Rattle.std.specs.List.{list_all, range_with_len}
 use Rattle.std.proofs.lemmas.Bool.Decides.{nat_tests}
 use Rattle.cif_system.specs.System.{Event, System, unc, con}
 use Rattle.cif_system.specs.Step.{has_class}
 use Rattle.cif_system.proofs.Lists.{map-length, slice_get-below}
-use Rattle.cif_system.proofs.Picks.{and-left, and-right}
+use Rattle.cif_system.proofs.Picks.{and-left}
 use Rattle.cif_model.specs.Net.{Net}
 use Rattle.cif_model.specs.Meaning.{system_of_net, event_in}
 use Rattle.cif_model.specs.Listing.{NetChoice}
@@ -19,7 +19,8 @@ use Rattle.plc_gen.specs.Makes.{Makes}
 use Rattle.plc_gen.proofs.GivenLaws.{given-makes}
 use Rattle.plc_gen.proofs.Making.{range-length}
 use Rattle.plc_act.specs.Parts.{event_faces}
-use Rattle.plc_parts.specs.Parts.{HasParts, is_no_channel, parts_from, data_parts, data_program}
+use Rattle.plc_parts.specs.Parts.{HasParts, is_no_channel, parts_from, data_parts, data_program, shown_first, shown_part}
+use Rattle.plc_tries.proofs.Showing.{algs-shown}
 use Rattle.plc_tries.proofs.Tried.{all-tried}
 use Rattle.plc_sound.proofs.Own.{own-are-own}
 use Rattle.plc_sound.proofs.Whole.{program-checked, program-spelled}
@@ -49,19 +50,19 @@ nothing-listed (x ∷ xs) h = absurd (grind (arith, nat_tests))
 
 -- ---- the frame
 
-pub fit : (n : Net) (cs : List NetChoice) (U C : ℕ) → HasParts n cs U C → is_shallow n ≡ true → FrameFits n U C (data_parts n cs)
+pub fit : (n : Net) (cs : List NetChoice) (U C : ℕ) → HasParts n cs U C → is_shallow n ≡ true → FrameFits n U C (data_parts n cs) (shown_part n (shown_first n cs))
 fit n cs U C h shallow = record {
-  no_invariants = nothing-listed n.invariants (and-right (nat_eq (length n.algs) 0) (nat_eq (length n.invariants) 0) (and-left (nat_eq (length n.algs) 0 && nat_eq (length n.invariants) 0) (list_all is_no_channel n.events) h.silent));
-  no_algs = nothing-listed n.algs (and-left (nat_eq (length n.algs) 0) (nat_eq (length n.invariants) 0) (and-left (nat_eq (length n.algs) 0 && nat_eq (length n.invariants) 0) (list_all is_no_channel n.events) h.silent));
+  no_invariants = nothing-listed n.invariants (and-left (nat_eq (length n.invariants) 0) (list_all is_no_channel n.events) h.silent);
   one_each = parts-length n cs 2 (range_with_len 0 (length n.events)) ∙ range-length 0 (length n.events);
   own = own-are-own n cs U C h;
   spelled = program-spelled n cs U C h shallow;
   checked = program-checked n cs U C h;
   events = λ e c. let below = class-below (system_of_net n) e c in all-tried n cs U C h (program-checked n cs U C h) e (omega (arith, below, map-length event_in n.events));
+  shows = algs-shown n cs U C h;
 }
 
 pub fitted-makes : (n : Net) (cs : List NetChoice) (U C : ℕ) → HasParts n cs U C → is_shallow n ≡ true → Makes n U C (data_program n cs U C)
-fitted-makes n cs U C h shallow = given-makes n (data_parts n cs) U C net (fit n cs U C h shallow) h.turns
+fitted-makes n cs U C h shallow = given-makes n (data_parts n cs) (shown_part n (shown_first n cs)) U C net (fit n cs U C h shallow) h.turns
   where
     net : is_net n ≡ true
     net = and-left _ _ (and-left _ _ (and-left _ _ h.plain))

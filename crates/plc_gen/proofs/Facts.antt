@@ -29,18 +29,21 @@ pub record Standing (n : Net) : Type 0 where
   pub few : length n.autos < 2 ^ 32
   pub few_inputs : length n.inputs < 2 ^ 32
   pub few_vars : length n.vars < 2 ^ 32
+  pub few_algs : length n.algs < 2 ^ 32
   pub autos : list_all (auto_stands n) n.autos ≡ true
   pub inputs : list_all stored_stands n.inputs ≡ true
   pub vars : list_all stored_stands n.vars ≡ true
+  pub algs : list_all (alg_stands n) n.algs ≡ true
 
 -- the parts of a conjunction of nine
-nine : (a b c d e f g h i : Bool) → (a && b && c && d && e && f && g && h && i) ≡ true → (a ≡ true) × (c ≡ true) × (d ≡ true) × (e ≡ true)
-nine true b true true true f g h i all = (refl, refl, refl, refl)
+nine : (a b c d e f g h i : Bool) → (a && b && c && d && e && f && g && h && i) ≡ true → (a ≡ true) × (c ≡ true) × (d ≡ true) × (e ≡ true) × (f ≡ true)
+nine true b true true true true g h i all = (refl, refl, refl, refl, refl)
 nine false b c d e f g h i all = absurd cc
 nine true true false d e f g h i all = absurd cc
 nine true false c d e f g h i all = absurd cc
 nine true true true false e f g h i all = absurd cc
 nine true true true true false f g h i all = absurd cc
+nine true true true true true false g h i all = absurd cc
 
 pub standing : (n : Net) → is_net n ≡ true → Standing n
 standing n h =
@@ -52,9 +55,11 @@ standing n h =
       few = omega (arith, few);
       few_inputs = omega (arith, few);
       few_vars = omega (arith, few);
+      few_algs = omega (arith, few);
       autos = parts.3;
       inputs = parts.1;
       vars = parts.2;
+      algs = parts.4;
     }
 
 -- no automaton has more places than all have locations and edges

@@ -1,5 +1,5 @@
 -- The program round given statements meets what the law of the frame asks.
-use Rattle.std.proofs.Common.{◌≡◌, ℕ, zero, suc, ◌+◌, ◌≤◌, true, ◌&&◌, List, [], ◌∷◌, map, arith}
+use Rattle.std.proofs.Common.{◌≡◌, ℕ, zero, suc, ◌+◌, ◌≤◌, true, ◌&&◌, List, [], ◌∷◌, ◌++◌, map, arith}
 use Rattle.std.specs.List.{AllByRecursion}
 use Rattle.cif_system.proofs.Picks.{and-left, and-right}
 use Rattle.cif_model.specs.Net.{Net}
@@ -35,10 +35,10 @@ part-own (x ∷ parts) h zero = names-own x.own (all-parts IsOwnVariable x.own (
 part-own (x ∷ parts) h (suc e) = part-own parts (all-parts IsOwnVariable x.own (own_variables parts) h).1 e
 
 -- statements that fit make a program with exact scans
-pub given-makes : (n : Net) (parts : List EventPart) (U C : ℕ) → is_net n ≡ true → FrameFits n U C parts → U + C ≤ turns_of_scan → Makes n U C (framed_program n parts U C)
-given-makes n parts U C net fits turns =
-    let p : Program = framed_program n parts U C in
-    framed-makes n (own_variables parts) (map asked parts) U C net fits.no_invariants fits.no_algs (own-of (own_variables parts) fits.own) turns fits.checked
+pub given-makes : (n : Net) (parts : List EventPart) (shown : EventPart) (U C : ℕ) → is_net n ≡ true → FrameFits n U C parts shown → U + C ≤ turns_of_scan → Makes n U C (framed_program n parts shown U C)
+given-makes n parts shown U C net fits turns =
+    let p : Program = framed_program n parts shown U C in
+    framed-makes n (own_variables parts ++ shown.own) (map asked parts) shown.body U C net fits.no_invariants (own-of (own_variables parts ++ shown.own) fits.own) turns fits.checked
     (checked-typed [] 0 p.vars (append-none-left (variables_faults [] 0 p.vars) (stms_faults p.vars 0 p.body) fits.checked)
     (and-left (are_declarations p.vars) (are_stms 400 p.body) (and-right (is_name p.name) (are_declarations p.vars && are_stms 400 p.body) fits.spelled)))
-    (part-own parts fits.own) fits.events
+    (part-own parts (all-parts IsOwnVariable (own_variables parts) shown.own fits.own).0) fits.events fits.shows

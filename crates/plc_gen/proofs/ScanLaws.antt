@@ -90,6 +90,14 @@ few-inputs-shown net xs h =
     let b = map-length stored_face (net_tree net).inputs in
     omega (arith, all, a, b)
 
+pub few-algs-shown : (net : Net) (xs : List Shown) → map face_tree xs ≡ algs_of (face_of_net (net_tree net)) → length xs < 2 ^ 32
+few-algs-shown net xs h =
+    let all : things (net_tree net) ≤ 100000 = net-kept net in
+    let a = shown-length xs (algs_of (face_of_net (net_tree net))) h in
+    let b = map-length alg_face (map alg_face_of (net_tree net).algs) in
+    let c = map-length alg_face_of (net_tree net).algs in
+    omega (arith, all, a, b, c)
+
 -- ---- outputs
 
 pub outputs-are : (x : n.Net) (f : Faces) (a b all : List Stmt) → AreFaces x f → view_stmts a ≡ stms_of (all_shown_by letter.P letter.L (map face_tree f.places))
@@ -105,61 +113,63 @@ outputs-are x f a b all h p q is =
 
 -- ---- the program
 
-laid : (a b c d : Stms) → append (append (append a b) c) d ≡ append a (append b (append c d))
-laid a b c d = append-assoc (append a b) c d ∙ append-assoc a b (append c d)
+laid : (a b c d e : Stms) → append (append (append (append a b) c) d) e ≡ append a (append b (append c (append d e)))
+laid a b c d e = append-assoc (append (append a b) c) d e ∙ append-assoc (append a b) c (append d e) ∙ append-assoc a b (append c (append d e))
 
-sections : (a b c d o e f g r : List StVar) → r ≡ [] → a ++ b ++ c ++ d ++ o ++ e ++ f ++ g ≡ a ++ (b ++ (c ++ ((d ++ o) ++ (e ++ (f ++ (g ++ (r ++ [])))))))
-sections a b c d o e f g r h =
-    ap (λ s. s ++ e ++ f ++ g) (append_assoc (a ++ b ++ c) d o)
-    ∙ append_assoc (a ++ b ++ c ++ (d ++ o) ++ e) f g
-    ∙ append_assoc (a ++ b ++ c ++ (d ++ o)) e (f ++ g)
-    ∙ append_assoc (a ++ b ++ c) (d ++ o) (e ++ (f ++ g))
-    ∙ append_assoc (a ++ b) c ((d ++ o) ++ (e ++ (f ++ g)))
-    ∙ append_assoc a b (c ++ ((d ++ o) ++ (e ++ (f ++ g))))
-    ∙ ap (λ s. a ++ (b ++ (c ++ ((d ++ o) ++ (e ++ (f ++ s)))))) (sym (ap (λ q. g ++ (q ++ [])) h ∙ append-nil g))
+sections : (a b c d o e f g r : List StVar) → a ++ b ++ c ++ d ++ o ++ e ++ f ++ g ++ r ≡ a ++ (b ++ (c ++ ((d ++ o) ++ (e ++ (f ++ (g ++ (r ++ [])))))))
+sections a b c d o e f g r =
+    ap (λ s. s ++ e ++ f ++ g ++ r) (append_assoc (a ++ b ++ c) d o)
+    ∙ append_assoc (a ++ b ++ c ++ (d ++ o) ++ e ++ f) g r
+    ∙ append_assoc (a ++ b ++ c ++ (d ++ o) ++ e) f (g ++ r)
+    ∙ append_assoc (a ++ b ++ c ++ (d ++ o)) e (f ++ (g ++ r))
+    ∙ append_assoc (a ++ b ++ c) (d ++ o) (e ++ (f ++ (g ++ r)))
+    ∙ append_assoc (a ++ b) c ((d ++ o) ++ (e ++ (f ++ (g ++ r))))
+    ∙ append_assoc a b (c ++ ((d ++ o) ++ (e ++ (f ++ (g ++ r)))))
+    ∙ ap (λ s. a ++ (b ++ (c ++ ((d ++ o) ++ (e ++ (f ++ (g ++ s))))))) (sym (append-nil r))
 
 module _ (x : n.Net) (parts : List Part) where
   abbrev tried : Class → Stms
   tried k = tries_of (λ e. (part_of parts e).body) (of_class (system_of_net x) k)
 
-  scan-is : (bodies : List Stms) (U C : ℕ) → bodies ≡ map (λ (q : Part). q.body) parts → scan_text x bodies U C ≡ framed (face_of_net x) (system_of_net x) parts U C (outputs_of (face_of_net x))
-  scan-is bodies U C are =
-      ap (λ bs. scan_text x bs U C) are
-      ∙ ap (λ ss. append (append (append (latches_of (face_of_net x)) (loop_of U ss)) (loop_of C (class_bodies con x.events (map (λ (q : Part). q.body) parts)))) (outputs_of (face_of_net x))) (bodies-are x parts unc)
-      ∙ ap (λ ss. append (append (append (latches_of (face_of_net x)) (loop_of U (tried unc))) (loop_of C ss)) (outputs_of (face_of_net x))) (bodies-are x parts con)
-      ∙ laid (latches_of (face_of_net x)) (loop_of U (tried unc)) (loop_of C (tried con)) (outputs_of (face_of_net x))
+  scan-is : (bodies : List Stms) (shown : Stms) (U C : ℕ) → bodies ≡ map (λ (q : Part). q.body) parts
+      → scan_text x bodies shown U C ≡ framed (face_of_net x) (system_of_net x) parts U C (append (outputs_of (face_of_net x)) shown)
+  scan-is bodies shown U C are =
+      ap (λ bs. scan_text x bs shown U C) are
+      ∙ ap (λ ss. append (append (append (append (latches_of (face_of_net x)) (loop_of U ss)) (loop_of C (class_bodies con x.events (map (λ (q : Part). q.body) parts)))) (outputs_of (face_of_net x))) shown) (bodies-are x parts unc)
+      ∙ ap (λ ss. append (append (append (append (latches_of (face_of_net x)) (loop_of U (tried unc))) (loop_of C ss)) (outputs_of (face_of_net x))) shown) (bodies-are x parts con)
+      ∙ laid (latches_of (face_of_net x)) (loop_of U (tried unc)) (loop_of C (tried con)) (outputs_of (face_of_net x)) shown
 
-  variables-are : (f : Faces) (own : List StVar) → x.algs ≡ [] → AreFaces x f → declared_for f own ≡ all_variables (sections_of (face_of_net x) own)
-  variables-are f own none h =
-      ap (λ (xs : List VariableFace). declared_by own xs (map face_tree f.variables) (map face_tree f.inputs)) h.places
-      ∙ ap (λ (xs : List VariableFace). declared_by own (places_of (face_of_net x)) xs (map face_tree f.inputs)) h.variables
-      ∙ ap (λ (xs : List VariableFace). declared_by own (places_of (face_of_net x)) (face_of_net x).variables xs) h.inputs
+  variables-are : (f : Faces) (own : List StVar) → AreFaces x f → declared_for f own ≡ all_variables (sections_of (face_of_net x) own)
+  variables-are f own h =
+      ap (λ (xs : List VariableFace). declared_by own xs (map face_tree f.variables) (map face_tree f.inputs) (map face_tree f.algs)) h.places
+      ∙ ap (λ (xs : List VariableFace). declared_by own (places_of (face_of_net x)) xs (map face_tree f.inputs) (map face_tree f.algs)) h.variables
+      ∙ ap (λ (xs : List VariableFace). declared_by own (places_of (face_of_net x)) (face_of_net x).variables xs (map face_tree f.algs)) h.inputs
+      ∙ ap (λ (xs : List VariableFace). declared_by own (places_of (face_of_net x)) (face_of_net x).variables (face_of_net x).inputs xs) h.algs
       ∙ sections (declarations letter.L class.Plain (places_of (face_of_net x))) (declarations letter.V class.Plain (face_of_net x).variables)
       (declarations letter.H class.Plain (face_of_net x).inputs) (declarations letter.T class.Plain mark_and_counter) own
       (declarations letter.I class.Input (face_of_net x).inputs) (declarations letter.P class.Output (places_of (face_of_net x)))
       (declarations letter.Q class.Output (face_of_net x).variables) (declarations letter.R class.Output (algs_of (face_of_net x)))
-      (ap (λ (as' : List n.NetAlg). declarations letter.R class.Output (map alg_face (map alg_face_of as'))) none)
 
   abbrev made_of : Text → List StVar → Stms → Program
   made_of name vars body = record { name = name; vars = vars; body = body }
 
   -- what code puts together is the frame round the parts
-  pub program-is : (own : List StVar) (bodies : List Stms) (U C : ℕ) (f : Faces) (name : Text) (vars : List StVar) (body : List Stmt) → x.algs ≡ [] → bodies ≡ map (λ (q : Part). q.body) parts
-      → AreFaces x f → name ≡ codes "CifScan" → vars ≡ declared_for f own → view_stmts body ≡ scan_text x bodies U C → program_of_parts name vars body ≡ program_with x own parts U C
-  program-is own bodies U C f name vars body none are h a b d =
+  pub program-is : (own : List StVar) (bodies : List Stms) (shown : Stms) (U C : ℕ) (f : Faces) (name : Text) (vars : List StVar) (body : List Stmt) → bodies ≡ map (λ (q : Part). q.body) parts
+      → AreFaces x f → name ≡ codes "CifScan" → vars ≡ declared_for f own → view_stmts body ≡ scan_text x bodies shown U C → program_of_parts name vars body ≡ program_with x own parts shown U C
+  program-is own bodies shown U C f name vars body are h a b d =
       ap (λ w. made_of w vars (view_stmts body)) a
-      ∙ ap (λ v. made_of (codes "CifScan") v (view_stmts body)) (b ∙ variables-are f own none h)
-      ∙ ap (made_of (codes "CifScan") (all_variables (sections_of (face_of_net x) own))) (d ∙ scan-is bodies U C are)
+      ∙ ap (λ v. made_of (codes "CifScan") v (view_stmts body)) (b ∙ variables-are f own h)
+      ∙ ap (made_of (codes "CifScan") (all_variables (sections_of (face_of_net x) own))) (d ∙ scan-is bodies shown U C are)
 
 -- ---- the programs
 
 -- what code puts together from given parts
-pub given-is : (x : n.Net) (parts : List EventPart) (own : List StVar) (bodies : List Stms) (U C : ℕ) (f : Faces) (name : Text) (vars : List StVar) (body : List Stmt)
-    → x.algs ≡ [] → own ≡ own_variables parts → bodies ≡ map body_of parts → AreFaces x f → name ≡ codes "CifScan" → vars ≡ declared_for f own → view_stmts body ≡ scan_text x bodies U C
-    → program_of_parts name vars body ≡ framed_program x parts U C
-given-is x parts own bodies U C f name vars body none own_are are h a b d =
-    program-is x (map asked parts) own bodies U C f name vars body none (are ∙ asked-bodies parts) h a b d
-    ∙ ap (λ (vs : List StVar). program_with x vs (map asked parts) U C) own_are
+pub given-is : (x : n.Net) (parts : List EventPart) (shown : EventPart) (own : List StVar) (bodies : List Stms) (U C : ℕ) (f : Faces) (name : Text) (vars : List StVar) (body : List Stmt)
+    → own ≡ own_variables parts ++ shown.own → bodies ≡ map body_of parts → AreFaces x f → name ≡ codes "CifScan" → vars ≡ declared_for f own → view_stmts body ≡ scan_text x bodies shown.body U C
+    → program_of_parts name vars body ≡ framed_program x parts shown U C
+given-is x parts shown own bodies U C f name vars body own_are are h a b d =
+    program-is x (map asked parts) own bodies shown.body U C f name vars body (are ∙ asked-bodies parts) h a b d
+    ∙ ap (λ (vs : List StVar). program_with x vs (map asked parts) shown.body U C) own_are
   where
     asked-bodies : (qs : List EventPart) → map body_of qs ≡ map (λ (q : Part). q.body) (map asked qs)
     asked-bodies [] = refl

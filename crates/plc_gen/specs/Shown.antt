@@ -4,7 +4,7 @@ use Rattle.cif_model.specs.Net.{Net}
 use Rattle.st_ast.specs.declared.tree.StVar.{StVar}
 use Rattle.st_ast.specs.declared.tree.StClass.TheVariants as class
 use Rattle.plc_face.specs.declared.letter.Letter.TheVariants as letter
-use Rattle.plc_face.specs.Face.{VariableFace, declarations, places_of}
+use Rattle.plc_face.specs.Face.{VariableFace, algs_of, declarations, places_of}
 use Rattle.plc_gen.specs.declared.faces.Faces.{Faces}
 use Rattle.plc_gen.specs.declared.faces.Shown.{Shown}
 use Rattle.plc_gen.specs.Variables.{mark_and_counter}
@@ -18,13 +18,15 @@ pub record AreFaces (n : Net) (f : Faces) : Type 0 where
   pub places : map face_tree f.places ≡ places_of (face_of_net n)
   pub variables : map face_tree f.variables ≡ (face_of_net n).variables
   pub inputs : map face_tree f.inputs ≡ (face_of_net n).inputs
+  pub algs : map face_tree f.algs ≡ algs_of (face_of_net n)
   pub few_places : length f.places < 2 ^ 32
   pub few_variables : length f.variables < 2 ^ 32
   pub few_inputs : length f.inputs < 2 ^ 32
+  pub few_algs : length f.algs < 2 ^ 32
 
--- the variables of a program without algebraic variables, with these of the events
-abbrev pub declared_by : (own : List StVar) (places variables inputs : List VariableFace) → List StVar
-declared_by own places variables inputs =
+-- the variables of a program, with these of its own
+abbrev pub declared_by : (own : List StVar) (places variables inputs algs : List VariableFace) → List StVar
+declared_by own places variables inputs algs =
     declarations letter.L class.Plain places
     ++ declarations letter.V class.Plain variables
     ++ declarations letter.H class.Plain inputs
@@ -33,6 +35,7 @@ declared_by own places variables inputs =
     ++ declarations letter.I class.Input inputs
     ++ declarations letter.P class.Output places
     ++ declarations letter.Q class.Output variables
+    ++ declarations letter.R class.Output algs
 
 abbrev pub declared_for : Faces → List StVar → List StVar
-declared_for f own = declared_by own (map face_tree f.places) (map face_tree f.variables) (map face_tree f.inputs)
+declared_for f own = declared_by own (map face_tree f.places) (map face_tree f.variables) (map face_tree f.inputs) (map face_tree f.algs)

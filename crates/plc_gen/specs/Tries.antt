@@ -23,7 +23,7 @@ class_bodies k [] bodies = no_stms
 class_bodies k (e ∷ es) bodies =
     if same_class k e.class then append (first_body bodies) (class_bodies k es (other_bodies bodies)) else class_bodies k es (other_bodies bodies)
 
--- the statements of a scan, from the bodies of all events
-abbrev pub scan_text : n.Net → List Stms → ℕ → ℕ → Stms
-scan_text x bodies U C =
-    append (append (append (latches_of (face_of_net x)) (loop_of U (class_bodies unc x.events bodies))) (loop_of C (class_bodies con x.events bodies))) (outputs_of (face_of_net x))
+-- the statements of a scan, from the bodies of all events, with these behind the other outputs
+abbrev pub scan_text : n.Net → List Stms → Stms → ℕ → ℕ → Stms
+scan_text x bodies shown U C =
+    append (append (append (append (latches_of (face_of_net x)) (loop_of U (class_bodies unc x.events bodies))) (loop_of C (class_bodies con x.events bodies))) (outputs_of (face_of_net x))) shown

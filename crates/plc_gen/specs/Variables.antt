@@ -43,6 +43,6 @@ shown_by to from (k, x) = assign (name_for to k x.path) (named (name_for from k 
 abbrev pub all_shown_by : Letter → Letter → List VariableFace → List Stm
 all_shown_by to from xs = map (shown_by to from) (enumerate_from 0 xs)
 
--- the places and the values
+-- the places and the values, to which the algebraic variables are added
 abbrev pub outputs_of : Face → Stms
 outputs_of face = stms_of (all_shown_by letter.P letter.L (places_of face) ++ all_shown_by letter.Q letter.V face.variables)

@@ -1,10 +1,11 @@
-//! What the program shows of the automata, variables and inputs of a net.
+//! What the program shows of the automata, variables, inputs and algebraic variables of a net.
 
-ghost use Rattle.std.specs.Prelude.{◌≡◌, ◌<◌, ◌^◌, length, map, IfOk};
-ghost use Rattle.cif_net.specs.View.{net_tree, auto_tree, input_tree, var_tree};
-ghost use Rattle.plc_face.specs.Face.{place_face, places_of};
+ghost use Rattle.std.specs.Prelude.{◌≡◌, ◌<◌, ◌^◌, length, map, IfOk, if◌then◌else◌};
+ghost use Rattle.cif_net.specs.View.{net_tree, alg_tree, auto_tree, input_tree, var_tree};
+ghost use Rattle.st_ast.specs.declared.tree.StTy.TheVariants as st;
+ghost use Rattle.plc_face.specs.Face.{alg_face, algs_of, place_face, places_of};
 ghost use Rattle.plc_gen.specs.Faces as f;
-ghost use Rattle.plc_gen.specs.Faces.{auto_face, face_of_net, stored_face};
+ghost use Rattle.plc_gen.specs.Faces.{alg_face_of, auto_face, face_of_net, stored_face};
 ghost use Rattle.plc_gen.specs.Shown.{face_tree, AreFaces};
 ghost use Rattle.plc_gen.specs.Variables.{mark_and_counter};
 
@@ -21,12 +22,13 @@ pub struct Shown {
     pub first: i64,
 }
 
-/// What the program shows of a net: the places of automata, the discrete variables, and the inputs.
+/// What the program shows of a net: the places of automata, the discrete variables, the inputs, and the algebraic variables.
 #[derive(Debug, Drop)]
 pub struct Faces {
     pub places: Items<Shown>,
     pub variables: Items<Shown>,
     pub inputs: Items<Shown>,
+    pub algs: Items<Shown>,
 }
 
 /// What the program shows of the net.
@@ -36,10 +38,12 @@ pub fn shown_faces(alloc: Global, net: &Net) -> Result<Faces, Memory>
     let places = shown_places(alloc, net)?;
     let variables = shown_variables(alloc, net)?;
     let inputs = shown_inputs(alloc, net)?;
+    let algs = shown_algs(alloc, net)?;
     Ok(Faces {
         places,
         variables,
         inputs,
+        algs,
     })
 }
 
@@ -106,6 +110,31 @@ fn shown_inputs(alloc: Global, net: &Net) -> Result<Items<Shown>, Memory>
             path: input.path.copy(alloc)?,
             ty: st_type(input.ty),
             first: input.first,
+        })?;
+    }
+    Ok(all)
+}
+
+/// The type of the variable that shows an algebraic one: any integer, where it isn't Boolean.
+fn alg_type(ty: Ty) -> StTy
+    ensures { result ≡ (if f.is_boolean ty then st.Bool else st.Lint) }
+{
+    match ty {
+        Ty::Bool => StTy::Bool,
+        _ => StTy::Lint,
+    }
+}
+
+/// The algebraic variables.
+fn shown_algs(alloc: Global, net: &Net) -> Result<Items<Shown>, Memory>
+    ensures { IfOk result (λ all. map face_tree all ≡ algs_of (face_of_net (net_tree net.now))) }
+{
+    let mut all = Items::new(alloc);
+    for alg in net.algs.as_slice() {
+        all.push(Shown {
+            path: alg.path.copy(alloc)?,
+            ty: alg_type(alg.ty),
+            first: 0,
         })?;
     }
     Ok(all)

@@ -41,23 +41,25 @@ fn outputs(alloc: Global, net: &Net, faces: &Faces) -> Result<Items<Stmt>, Memor
 }
 
 /// The inputs are latched, then come the rounds of the uncontrollable events and those of the controllable ones, and then
-/// the outputs. The bodies are those of all events.
+/// the outputs, and behind them the statements that show the algebraic variables. The bodies are those of all events.
 #[tactic(auto, using(crate::proofs::Building::view_append))]
 pub fn statements(
     alloc: Global,
     net: &Net,
     bodies: Items<Items<Stmt>>,
+    shown: Items<Stmt>,
     faces: &Faces,
     bounds: Bounds,
 ) -> Result<Items<Stmt>, Memory>
     requires { AreFaces (net_tree net.now) faces.now }
     ensures { IfOk result
-        (λ ss. view_stmts ss ≡ scan_text (net_tree net.now) (map view_stmts bodies) bounds.unc bounds.con) }
+        (λ ss. view_stmts ss ≡ scan_text (net_tree net.now) (map view_stmts bodies) (view_stmts shown) bounds.unc bounds.con) }
 {
     let Tries { unc, con } = class_bodies(alloc, net, bodies)?;
     let mut all = latches(alloc, net, faces)?;
     all.append(rounds(alloc, bounds.unc, unc)?)?;
     all.append(rounds(alloc, bounds.con, con)?)?;
     all.append(outputs(alloc, net, faces)?)?;
+    all.append(shown)?;
     Ok(all)
 }

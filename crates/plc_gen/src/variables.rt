@@ -61,11 +61,12 @@ pub fn declarations(
     Ok(all)
 }
 
-/// The declarations of all variables, each letter's in a block. The events' own come after the mark and the counter.
+/// The declarations of all variables, each letter's in a block. The parts' own come after the mark and the counter.
 pub fn variables(alloc: Global, faces: &Faces, own: Items<StVar>) -> Result<Items<StVar>, Memory>
     requires places { length faces.now.places < 2 ^ 32 }
     requires variables { length faces.now.variables < 2 ^ 32 }
     requires inputs { length faces.now.inputs < 2 ^ 32 }
+    requires algs { length faces.now.algs < 2 ^ 32 }
     ensures { IfOk result (λ all. all ≡ declared_for faces.now own) }
 {
     let places = faces.places.as_slice();
@@ -80,6 +81,8 @@ pub fn variables(alloc: Global, faces: &Faces, own: Items<StVar>) -> Result<Item
     all.append(declarations(alloc, Letter::I, StClass::Input, inputs)?)?;
     all.append(declarations(alloc, Letter::P, StClass::Output, places)?)?;
     all.append(declarations(alloc, Letter::Q, StClass::Output, variables)?)?;
+    let algs = faces.algs.as_slice();
+    all.append(declarations(alloc, Letter::R, StClass::Output, algs)?)?;
     Ok(all)
 }
 

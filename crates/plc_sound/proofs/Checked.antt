@@ -1,18 +1,23 @@
--- The statements of the part of an event break no check, where its own variables are declared one after another.
+-- The statements of the part of an event, and those that show the algebraic variables, break no check, where their own variables
+-- are declared one after another.
 use Rattle.std.proofs.Common.{◌≡◌, ℕ, suc, ◌+◌, Bool, true, false, ◌||◌, List, [], ◌∷◌, ◌++◌, map, flat_map, length, Some, None, nat_eq, refl, sym, ap, subst, ◌∙◌, arith, eqb-true, if◌then◌else◌}
 use Rattle.std.specs.Prelude.{option_map, slice_get}
 use Rattle.std.specs.List.{AllByRecursion, list_any}
 use Rattle.std.proofs.lemmas.Option.{slice_get-map}
 use Rattle.cif_system.proofs.Lists.{map-length}
 use Rattle.cif_term.specs.Tree.{NetExpr}
-use Rattle.cif_model.specs.Net.{NetAuto, NetStored, Net}
+use Rattle.cif_base.specs.declared.types.Ty.{Ty}
+use Rattle.cif_base.specs.declared.types.Ty.TheVariants as cif_ty
+use Rattle.cif_model.specs.Net.{NetAlg, NetAuto, NetStored, Net}
 use Rattle.cif_model.specs.Exprs.{targets}
+use Rattle.cif_model.specs.Inline.{defined_by}
 use Rattle.cif_model.specs.Facts.{has}
-use Rattle.cif_model.specs.Kinds.{Kind, bool_kind, fits, is_bool}
+use Rattle.cif_model.specs.Kinds.{Kind, bool_kind, fits, is_bool, kind_of}
 use Rattle.cif_model.specs.Listing.{NetChoice}
 use Rattle.cif_model.specs.Reads.{names_no_alg}
-use Rattle.st_ast.specs.Tree.{Stms, no_stms, stms}
+use Rattle.st_ast.specs.Tree.{Expr, Stms, assign, no_stms, stms}
 use Rattle.st_ast.specs.Names.{declared}
+use Rattle.st_ast.specs.Checks.{can_be_assigned, is_same_sort, sort_of_type, stm_faults}
 use Rattle.st_ast.specs.declared.tree.StVar.{StVar}
 use Rattle.st_ast.specs.declared.tree.StClass.{StClass}
 use Rattle.st_ast.specs.declared.tree.StClass.TheVariants as class
@@ -20,16 +25,17 @@ use Rattle.st_ast.specs.declared.tree.StTy.{StTy}
 use Rattle.st_ast.specs.declared.tree.StTy.TheVariants as ty
 use Rattle.plc_face.specs.declared.letter.Letter.{Letter}
 use Rattle.plc_face.specs.declared.letter.Letter.TheVariants as letter
+use Rattle.grammar.specs.Pieces.{Text}
 use Rattle.plc_face.specs.Names.{name_for}
-use Rattle.plc_face.specs.Face.{VariableFace, IsDeclared, declaration, place_face}
+use Rattle.plc_face.specs.Face.{VariableFace, IsDeclared, alg_face, declaration, place_face}
 use Rattle.plc_face.specs.Frame.{fired}
-use Rattle.plc_gen.specs.Faces.{auto_face, st_type}
+use Rattle.plc_gen.specs.Faces.{alg_face_of, auto_face, is_boolean as is_bool_type, st_type}
 use Rattle.plc_gen.specs.Places.{place_name}
 use Rattle.plc_gen.specs.Events.{done_face, moves_text, own_name}
-use Rattle.plc_gen.proofs.Checking.{AllChecked}
+use Rattle.plc_gen.proofs.Checking.{AllChecked, checked-append}
 use Rattle.plc_gen.proofs.Declaring.{AllDeclared, declared-at}
 use Rattle.plc_expr.specs.Texts.{Naming, before, temps, text}
-use Rattle.plc_expr.specs.Sorts.{AreOwn, HasSort, NamesHaveSorts, OwnIs, own_types}
+use Rattle.plc_expr.specs.Sorts.{AreOwn, HasSort, NamesHaveSorts, OwnIs, own_types, sort_by}
 use Rattle.plc_expr.proofs.Checking.{AllChecked as ExprChecked, expr-checked, text-sorted}
 use Rattle.plc_expr.proofs.Sorting.{own-both, types-length}
 use Rattle.plc_act.specs.Writes.{NewNames, any_tested}
@@ -39,6 +45,8 @@ use Rattle.plc_act.specs.Parts.{data_first, data_part, done_faces, event_faces, 
 use Rattle.plc_act.proofs.Clean.{act-clean}
 use Rattle.plc_act.proofs.Parts.{choice-length, mark-is}
 use Rattle.plc_act.proofs.Targets.{has-append, once-all, target-there, tested-any}
+use Rattle.plc_parts.specs.Definitions.{IsDefinition}
+use Rattle.plc_parts.specs.Parts.{defined_types, shown_text}
 use Rattle.plc_sound.proofs.Stating.{WrittenChecked, event-checked, moves-checked}
 use Rattle.plc_sound.proofs.Told.{Told}
 
@@ -167,3 +175,40 @@ module _ (n : Net) (vars : List StVar) (names : NamesHaveSorts vars (data_naming
         event-checked vars mark (own_name (j, done_face)) (all_written n w y (ifs_from n ds j) ds)
         (all-checked ds (ifs_from n ds j) t (λ v h. once-all (flat_map (λ (c : NetChoice). targets c.writes) ds) v ∙ h) (λ is. is) all-own)
         (λ is. done-own (sym (mark-is n w y (ifs_from n ds j) ds) ∙ is))
+
+  -- ---- the algebraic variables
+
+  same-sort : (b : Bool) → is_same_sort (Some (sort_by b)) (Some (sort_by b)) ≡ true
+  same-sort true = refl
+  same-sort false = refl
+
+  alg-sort : (y : Ty) (ls : List (List ℕ)) → sort_of_type (if is_bool_type y then ty.Bool else ty.Lint) ≡ sort_by (is_bool (kind_of y ls))
+  alg-sort cif_ty.Bool ls = refl
+  alg-sort (cif_ty.Int lo hi) ls = refl
+  alg-sort (cif_ty.Enum size) ls = refl
+
+  assign-checked : (x : Text) (e : Expr) (v : StVar) (b : Bool) → declared vars x ≡ Some v → can_be_assigned (Some v) ≡ true → sort_of_type v.ty ≡ sort_by b → HasSort vars e b → (k : ℕ) → stm_faults vars k (assign x e) ≡ []
+  assign-checked x e v b at can same h k =
+      let known = h.0 in
+      let sort = h.1 in
+      let q = same-sort b in
+      rw (at, known, sort, same, q, can) refl
+
+  shown-checked : (i k : ℕ) (as' : List NetAlg) → AllByRecursion (IsDefinition n) as' → AllDeclared vars letter.R class.Output i (map alg_face (map alg_face_of as')) → AreOwn vars w k (defined_types n as')
+      → AllChecked vars (shown_text w i k as')
+  shown-checked i k [] defs at own = tt
+  shown-checked i k (a ∷ as') defs at own =
+      let e : NetExpr = defined_by a in
+      let kind : Kind = kind_of a.type_of a.literals in
+      let d = defs.0 in
+      let q = own-both vars w k (temps e) (own_types n None e) (defined_types n as') (own_length e) own in
+      checked-append vars (before w k e) (stms (assign (name_for letter.R i a.path) (text w k e)) (shown_text w (i + 1) (k + temps e) as'))
+      (same-checked vars (before w k e) (expr-checked vars w n None names kind k e d.fit d.names q.0)) (
+        (λ j. assign-checked (name_for letter.R i a.path) (text w k e) (declaration letter.R class.Output (i, alg_face (alg_face_of a))) (is_bool kind) at.0 refl (alg-sort a.type_of a.literals)
+            (text-sorted vars w n None kind k e names d.fit d.names q.0) j),
+        shown-checked (i + 1) (k + temps e) as' defs.1 at.1 q.1,
+      )
+
+  pub algs-checked : (k : ℕ) (as' : List NetAlg) → AllByRecursion (IsDefinition n) as' → AllDeclared vars letter.R class.Output 0 (map alg_face (map alg_face_of as')) → AllDeclared vars letter.T class.Plain k (map if_face (defined_types n as'))
+      → AllChecked vars (shown_text (data_naming n fired) 0 k as')
+  algs-checked k as' defs at own = shown-checked 0 k as' defs at (ifs-own k (defined_types n as') own)

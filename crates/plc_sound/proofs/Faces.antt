@@ -1,4 +1,5 @@
--- The own variables of events start in their types, and their declarations have a spelling.
+-- The own variables of events and of algebraic variables, and the variables that show these, start in their types, and their
+-- declarations have a spelling.
 use Rattle.std.proofs.Common.{◌≡◌, ℕ, ℤ, pos, Bool, true, false, ◌&&◌, List, [], ◌∷◌, ◌++◌, map, flat_map, Option, Some, None, refl, arith, if◌then◌else◌}
 use Rattle.std.specs.Prelude.{IsTrue, ◌-ℤ◌, int_le, codes, slice_get}
 use Rattle.std.specs.List.{AllByRecursion, list_all}
@@ -9,13 +10,15 @@ use Rattle.cif_base.specs.declared.types.Ty.TheVariants as t
 use Rattle.cif_system.specs.System.{in_range}
 use Rattle.cif_system.proofs.Picks.{all-at, and-left, and-right}
 use Rattle.cif_term.specs.Tree.{NetExpr, net_expr, NetForm, n_minus, n_plus, n_not, n_abs, n_min, n_max, n_sum, n_product, n_compare, n_and, n_or, n_implies, n_iff, n_if, NetExprs, no_net_exprs, net_exprs, NetTerms, no_net_terms, net_terms, NetFactors, no_net_factors, net_factors, NetBranches, no_net_branches, net_branches, NetUpdate, net_set, net_choose, NetUpdates, no_net_updates, net_updates, NetUpdateBranches, no_net_update_branches, net_update_branches}
-use Rattle.cif_model.specs.Net.{NetStored, Net}
+use Rattle.cif_model.specs.Net.{NetAlg, NetStored, Net}
+use Rattle.cif_model.specs.Inline.{defined_by}
 use Rattle.cif_model.specs.Listing.{NetChoice}
 use Rattle.cif_model.specs.Meaning.{type_range}
 use Rattle.cif_model.specs.Facts.{is_type, stored_stands}
 use Rattle.st_ast.specs.declared.tree.StTy.{StTy}
 use Rattle.st_ast.specs.declared.tree.StTy.TheVariants as ty
-use Rattle.plc_face.specs.Face.{VariableFace, range_of}
+use Rattle.plc_face.specs.Face.{VariableFace, alg_face, range_of}
+use Rattle.plc_gen.specs.Faces.{alg_face_of, is_boolean as is_bool_type}
 use Rattle.plc_gen.specs.Small.{are_small, is_small}
 use Rattle.plc_gen.specs.Events.{choices_of, done_face}
 use Rattle.plc_gen.proofs.Declaring.{Sound}
@@ -23,6 +26,7 @@ use Rattle.plc_gen.proofs.Spelling.{FaceSpelled}
 use Rattle.plc_expr.specs.Sorts.{branches_types, factors_types, form_types, is_boolean, list_types, own_types, terms_types, type_by}
 use Rattle.plc_act.specs.Own.{bodies_types, choice_types, conditions_types, data_faces, event_vars, if_face, new_face, new_face_of, new_type, range_face, range_faces, tests_range, updates_types, update_types}
 use Rattle.plc_act.specs.Parts.{done_faces, event_faces, needs_done}
+use Rattle.plc_parts.specs.Parts.{defined_types, shown_faces}
 use Rattle.plc_sound.proofs.Literals.{first-spelled, type-spelled}
 use Rattle.plc_sound.proofs.Own.{faces_of}
 
@@ -119,6 +123,24 @@ choices-plain n (c ∷ cs) =
 ifs-good : (us : List StTy) → AllPlain us → AllGood (map if_face us)
 ifs-good [] h = tt
 ifs-good (u ∷ us) h = (h.0, ifs-good us h.1)
+
+-- ---- algebraic variables
+
+defined-plain : (n : Net) (as' : List NetAlg) → AllPlain (defined_types n as')
+defined-plain n [] = tt
+defined-plain n (a ∷ as') = all-both Plain (own_types n None (defined_by a)) (defined_types n as') (expr-plain n None (defined_by a)) (defined-plain n as')
+
+pub shown-good : (n : Net) → AllGood (shown_faces n)
+shown-good n = ifs-good (defined_types n n.algs) (defined-plain n n.algs)
+
+-- FALSE or 0
+pub algs-good : (as' : List NetAlg) → AllGood (map alg_face (map alg_face_of as'))
+algs-good [] = tt
+algs-good (a ∷ as') = (go (is_bool_type a.type_of), algs-good as')
+  where
+    go : (b : Bool) → Good (record { path = a.path; ty = if b then ty.Bool else ty.Lint; first = pos 0 })
+    go true = record { sound = record { type = refl; first = refl }; spelled = record { type = refl; first = refl } }
+    go false = record { sound = record { type = refl; first = refl }; spelled = record { type = refl; first = refl } }
 
 -- ---- new values
 

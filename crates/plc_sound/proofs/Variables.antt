@@ -1,9 +1,9 @@
--- The variables of the program of a net with these own variables of events: no two have the same name, each is found by its
+-- The variables of the program of a net with these own variables: no two have the same name, each is found by its
 -- name, and all have a spelling.
-use Rattle.std.proofs.Common.{◌≡◌, ◌^◌, ◌<◌, ◌≤◌, true, List, [], ◌∷◌, map, length, refl, sym, ap, subst, arith}
+use Rattle.std.proofs.Common.{◌≡◌, ◌≤◌, true, List, [], ◌∷◌, length, refl, sym, arith}
 use Rattle.std.specs.List.{AllByRecursion}
 use Rattle.std.proofs.lemmas.List.{append-nil}
-use Rattle.cif_model.specs.Net.{NetAlg, Net}
+use Rattle.cif_model.specs.Net.{Net}
 use Rattle.cif_model.specs.Facts.{is_net}
 use Rattle.st_ast.specs.Checks.{variables_faults}
 use Rattle.st_ast.specs.Spelled.{are_declarations}
@@ -12,20 +12,21 @@ use Rattle.st_ast.specs.declared.tree.StClass.{StClass}
 use Rattle.st_ast.specs.declared.tree.StClass.TheVariants as class
 use Rattle.plc_face.specs.declared.letter.Letter.{Letter}
 use Rattle.plc_face.specs.declared.letter.Letter.TheVariants as letter
-use Rattle.plc_face.specs.Face.{Face, VariableFace, alg_face, algs_of, places_of}
-use Rattle.plc_gen.specs.Faces.{alg_face_of, face_of_net}
+use Rattle.plc_face.specs.Face.{Face, VariableFace, algs_of, places_of}
+use Rattle.plc_gen.specs.Faces.{face_of_net}
 use Rattle.plc_gen.specs.Variables.{Block, counter_face, mark_face}
 use Rattle.plc_gen.specs.Given.{Section, all_variables, sections_of}
 use Rattle.plc_gen.proofs.Declaring.{AllDeclared, AllOf, AllSound, AreBlocks, AreSections, declared-of, section-declared, variables-checked}
 use Rattle.plc_gen.proofs.Facts.{Standing, inputs-sound, places-sound, standing, vars-sound}
-use Rattle.plc_gen.proofs.Framing.{few-inputs, few-places, few-values}
+use Rattle.plc_gen.proofs.Framing.{few-algs, few-inputs, few-places, few-values}
 use Rattle.plc_gen.proofs.Spelling.{FaceSpelled, blocks-spelled}
+use Rattle.plc_sound.proofs.Faces.{algs-good, all-sound, all-spelled}
 use Rattle.plc_sound.proofs.Own.{declared_from}
 
 abbrev block_of : Letter → StClass → List VariableFace → Block
 block_of l c xs = record { letter = l; class = c; faces = xs }
 
-module _ (n : Net) (own : List VariableFace) (net : is_net n ≡ true) (no_algs : n.algs ≡ []) (few : length own ≤ 2147483646) where
+module _ (n : Net) (own : List VariableFace) (net : is_net n ≡ true) (few : length own ≤ 2147483646) where
   abbrev face : Face
   face = face_of_net n
 
@@ -46,12 +47,6 @@ module _ (n : Net) (own : List VariableFace) (net : is_net n ≡ true) (no_algs 
       ∷ block_of letter.Q class.Output face.variables
       ∷ block_of letter.R class.Output (algs_of face)
       ∷ []
-
-  algs-none : algs_of face ≡ []
-  algs-none = ap (λ (as' : List NetAlg). map alg_face (map alg_face_of as')) no_algs
-
-  few_algs : length (algs_of face) < 2 ^ 64
-  few_algs = let same : length (algs_of face) ≡ 0 = ap length algs-none in omega (arith, same)
 
   are-blocks : AllSound own → AreBlocks blocks
   are-blocks sound = (
@@ -78,7 +73,7 @@ module _ (n : Net) (own : List VariableFace) (net : is_net n ≡ true) (no_algs 
               ((λ e. cc), ((λ e. cc), tt)),
               few-places n facts,
               places-sound n facts,
-              (((λ e. cc), tt), few-values n facts, vars-sound n facts, (tt, few_algs, subst AllSound (sym algs-none) tt, tt)),
+              (((λ e. cc), tt), few-values n facts, vars-sound n facts, (tt, few-algs n facts, all-sound (algs_of face) (algs-good n.algs), tt)),
             ),
           ),
         ),
@@ -92,7 +87,7 @@ module _ (n : Net) (own : List VariableFace) (net : is_net n ≡ true) (no_algs 
 
   pub vars-spelled : AllByRecursion FaceSpelled (places_of face) → AllByRecursion FaceSpelled face.variables → AllByRecursion FaceSpelled face.inputs → AllByRecursion FaceSpelled own → are_declarations vars_of ≡ true
   vars-spelled places values inputs own_spelled =
-      blocks-spelled blocks (places, (values, (inputs, ((record { type = refl; first = refl }, (record { type = refl; first = refl }, own_spelled)), (inputs, (places, (values, (subst (AllByRecursion FaceSpelled) (sym algs-none) tt, tt))))))))
+      blocks-spelled blocks (places, (values, (inputs, ((record { type = refl; first = refl }, (record { type = refl; first = refl }, own_spelled)), (inputs, (places, (values, (all-spelled (algs_of face) (algs-good n.algs), tt))))))))
 
   -- ---- each is found by its name
 

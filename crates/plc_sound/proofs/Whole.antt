@@ -14,7 +14,7 @@ use Rattle.cif_model.specs.Facts.{auto_stands, is_net, stored_stands}
 use Rattle.cif_model.specs.Kinds.{places_of}
 use Rattle.cif_model.specs.Listing.{NetChoice}
 use Rattle.cif_model.specs.Meaning.{system_of_net}
-use Rattle.st_ast.specs.Tree.{Program, Stms, equal, named, no_stms, number, stms_of}
+use Rattle.st_ast.specs.Tree.{Program, Stms, append, equal, named, no_stms, number, stms_of}
 use Rattle.st_ast.specs.Names.{declared}
 use Rattle.st_ast.specs.Checks.{check_faults, sort_of_type, stms_faults}
 use Rattle.st_ast.specs.Spelled.{are_declarations, are_stms, is_name, is_spelled, is_type_spelled}
@@ -36,22 +36,24 @@ use Rattle.plc_gen.proofs.Checking.{AllChecked, all-checked}
 use Rattle.plc_gen.proofs.Choosing.{all-filter}
 use Rattle.plc_gen.proofs.Declaring.{AllDeclared, AllOf, declared-at}
 use Rattle.plc_gen.proofs.Facts.{Standing, ends-within, few-places, first-inside, none-of, standing}
-use Rattle.plc_gen.proofs.Framing.{body-checked, mark_declared, place-declared, stms_of-append}
+use Rattle.plc_gen.proofs.Framing.{algs-declared, body-checked, mark_declared, place-declared, stms_of-append}
 use Rattle.plc_gen.proofs.Moving.{faces}
 use Rattle.plc_gen.proofs.Spelling.{FaceSpelled, append-spelled, both-true, copies-spelled, frame-spelled, place-face-spelled}
 use Rattle.plc_expr.specs.Sorts.{HasSort, NamesHaveSorts, OwnIs, is_bool_type, sort_by}
 use Rattle.plc_act.specs.Own.{data_naming, path_of}
 use Rattle.plc_act.specs.Parts.{data_part, event_faces}
-use Rattle.plc_parts.specs.Parts.{HasParts, data_parts, data_program, parts_from}
+use Rattle.plc_parts.specs.Definitions.{IsDefinition}
+use Rattle.plc_parts.specs.Parts.{HasParts, data_parts, data_program, parts_from, shown_faces, shown_first, shown_text}
+use Rattle.plc_parts.proofs.Defined.{all-defined}
 use Rattle.cif_nesting.specs.Nesting.{is_shallow}
-use Rattle.plc_sound.proofs.Checked.{declared-parts, part-checked}
-use Rattle.plc_sound.proofs.Faces.{AllGood, all-sound, all-spelled, faces-good}
+use Rattle.plc_sound.proofs.Checked.{algs-checked, declared-parts, part-checked}
+use Rattle.plc_sound.proofs.Faces.{AllGood, Good, all-both, all-sound, all-spelled, faces-good, shown-good}
 use Rattle.plc_sound.proofs.Literals.{stored-spelled, type-spelled}
 use Rattle.plc_sound.proofs.Nested.{Shallow, all-shallow}
-use Rattle.plc_sound.proofs.Own.{all_faces, declared_from, faces_of, few-faces, own-is}
+use Rattle.plc_sound.proofs.Own.{all_faces, declared_from, events_faces, faces_of, few-faces, first-is, own-is}
 use Rattle.plc_sound.proofs.Told.{Told, all-told}
 use Rattle.plc_sound.proofs.Variables.{inputs-declared, own-declared, own-letters, values-declared, vars-checked, vars-spelled}
-use Rattle.plc_sound.proofs.Worded.{part-spelled}
+use Rattle.plc_sound.proofs.Worded.{part-spelled, shown-spelled}
 
 -- ---- the parts
 
@@ -108,17 +110,17 @@ module _ (n : Net) (cs : List NetChoice) (U C : ℕ) (has : HasParts n cs U C) w
   facts : Standing n
   facts = standing n net
 
-  no_algs : n.algs ≡ []
-  no_algs = none-of n.algs (and-left _ _ (and-left _ _ has.silent))
-
   no_invariants : n.invariants ≡ []
-  no_invariants = none-of n.invariants (and-right _ _ (and-left _ _ has.silent))
+  no_invariants = none-of n.invariants (and-left _ _ has.silent)
+
+  definitions : AllByRecursion (IsDefinition n) n.algs
+  definitions = all-defined n has.plain
 
   few : length (all_faces n cs) ≤ 2147483646
   few = few-faces n cs has.few_own
 
   all-good : AllGood (all_faces n cs)
-  all-good = faces-good n facts.vars has.small_variables cs (range_with_len 0 (length n.events))
+  all-good = all-both Good (events_faces n cs) (shown_faces n) (faces-good n facts.vars has.small_variables cs (range_with_len 0 (length n.events))) (shown-good n)
 
   told : AllByRecursion (Told n) cs
   told = all-told n cs (and-right _ _ has.silent) has.guarded
@@ -129,31 +131,42 @@ module _ (n : Net) (cs : List NetChoice) (U C : ℕ) (has : HasParts n cs U C) w
   abbrev parts : List Part
   parts = map asked (data_parts n cs)
 
+  -- the statements that show the algebraic variables
+  abbrev last : Stms
+  last = shown_text (data_naming n fired) 0 (shown_first n cs) n.algs
+
   -- with its own variables in one list
   abbrev p : Program
-  p = program_with n (declared_from 2 (all_faces n cs)) parts U C
+  p = program_with n (declared_from 2 (all_faces n cs)) parts last U C
 
   program-same : data_program n cs U C ≡ p
-  program-same = ap (λ (vs : List StVar). program_with n vs parts U C) (own-is n cs)
+  program-same = ap (λ (vs : List StVar). program_with n vs parts last U C) (own-is n cs)
 
   letters : AllOf letter.T class.Plain (declared_from 2 (all_faces n cs))
-  letters = own-letters n (all_faces n cs) net no_algs few
+  letters = own-letters n (all_faces n cs) net few
 
   owns : AllDeclared p.vars letter.T class.Plain 2 (all_faces n cs)
-  owns = own-declared n (all_faces n cs) net no_algs few
+  owns = own-declared n (all_faces n cs) net few
+
+  -- those of the events, and those of the algebraic variables
+  both-owns : AllDeclared p.vars letter.T class.Plain 2 (events_faces n cs) × AllDeclared p.vars letter.T class.Plain (2 + length (events_faces n cs)) (shown_faces n)
+  both-owns = declared-parts p.vars letter.T class.Plain 2 (events_faces n cs) (shown_faces n) owns
+
+  shown-owns : AllDeclared p.vars letter.T class.Plain (shown_first n cs) (shown_faces n)
+  shown-owns = subst (λ j. AllDeclared p.vars letter.T class.Plain j (shown_faces n)) (sym (first-is n cs)) both-owns.1
 
   values : AllDeclared p.vars letter.V class.Plain 0 (map stored_face n.vars)
-  values = values-declared n (all_faces n cs) net no_algs few
+  values = values-declared n (all_faces n cs) net few
 
   inputs : AllDeclared p.vars letter.H class.Plain 0 (map stored_face n.inputs)
-  inputs = inputs-declared n (all_faces n cs) net no_algs few
+  inputs = inputs-declared n (all_faces n cs) net few
 
   -- ---- checks
 
   located-sort : (a k : ℕ) → k < places_of (slice_get n.autos a) → HasSort p.vars (equal (named (place_name n a)) true (number (pos k))) true
   located-sort a k inside =
       let there = auto-there n.autos a k inside in
-      let d = place-declared n (declared_from 2 (all_faces n cs)) parts U C net no_invariants no_algs letters a there.0 there.1 in
+      let d = place-declared n (declared_from 2 (all_faces n cs)) parts last U C net no_invariants letters a there.0 there.1 in
       (rw d refl, rw d refl)
 
   names-sorted : NamesHaveSorts p.vars (data_naming n fired) n None
@@ -168,16 +181,22 @@ module _ (n : Net) (cs : List NetChoice) (U C : ℕ) (has : HasParts n cs U C) w
   parts-checked k =
       every-part n cs (AllChecked p.vars) p.vars tt
       (λ j e all.
-      part-checked n p.vars names-sorted (stored-own p.vars letter.V n.vars values) (place-declared n (declared_from 2 (all_faces n cs)) parts U C net no_invariants no_algs letters)
-      (mark_declared n (declared_from 2 (all_faces n cs)) parts U C net no_invariants no_algs letters) (choices_of cs e) j all (told-of e)) 2 (range_with_len 0 (length n.events)) owns k
+      part-checked n p.vars names-sorted (stored-own p.vars letter.V n.vars values) (place-declared n (declared_from 2 (all_faces n cs)) parts last U C net no_invariants letters)
+      (mark_declared n (declared_from 2 (all_faces n cs)) parts last U C net no_invariants letters) (choices_of cs e) j all (told-of e)) 2 (range_with_len 0 (length n.events)) both-owns.0 k
+
+  last-checked : AllChecked p.vars last
+  last-checked =
+      algs-checked n p.vars names-sorted (stored-own p.vars letter.V n.vars values) (place-declared n (declared_from 2 (all_faces n cs)) parts last U C net no_invariants letters)
+      (mark_declared n (declared_from 2 (all_faces n cs)) parts last U C net no_invariants letters) (shown_first n cs) n.algs definitions
+      (algs-declared n (declared_from 2 (all_faces n cs)) parts last U C net no_invariants letters) shown-owns
 
   body : AllChecked p.vars p.body
-  body = body-checked n (declared_from 2 (all_faces n cs)) parts U C net no_invariants no_algs letters parts-checked
+  body = body-checked n (declared_from 2 (all_faces n cs)) parts last U C net no_invariants letters parts-checked last-checked
 
   pub program-checked : check_faults (data_program n cs U C) ≡ []
   program-checked =
       subst (λ (q : Program). check_faults q ≡ []) (sym program-same)
-      (ap (λ fs. fs ++ stms_faults p.vars 0 p.body) (vars-checked n (all_faces n cs) net no_algs few (all-sound (all_faces n cs) all-good)) ∙ all-checked p.vars 0 p.body body)
+      (ap (λ fs. fs ++ stms_faults p.vars 0 p.body) (vars-checked n (all_faces n cs) net few (all-sound (all_faces n cs) all-good)) ∙ all-checked p.vars 0 p.body body)
 
   -- ---- the spelling
 
@@ -191,7 +210,7 @@ module _ (n : Net) (cs : List NetChoice) (U C : ℕ) (has : HasParts n cs U C) w
 
   variables-spelled : are_declarations p.vars ≡ true
   variables-spelled =
-      vars-spelled n (all_faces n cs) net no_algs few (places-spelled n.autos facts.autos (few-places n net)) (stored-spelled n.vars facts.vars has.small_variables)
+      vars-spelled n (all_faces n cs) net few (places-spelled n.autos facts.autos (few-places n net)) (stored-spelled n.vars facts.vars has.small_variables)
       (stored-spelled n.inputs facts.inputs has.small_inputs) (all-spelled (all_faces n cs) all-good)
 
   outputs-spelled : are_stms 400 (outputs_of face) ≡ true
@@ -207,12 +226,13 @@ module _ (n : Net) (cs : List NetChoice) (U C : ℕ) (has : HasParts n cs U C) w
     parts-spelled : (k : ℕ) → are_stms 399 (part_of parts k).body ≡ true
     parts-spelled k =
         every-part n cs (λ ss. are_stms 399 ss ≡ true) p.vars refl
-        (λ j e all. part-spelled n (few-places n net) (ends-within n facts) types-spelled (choices_of cs e) j (told-of e) (shallow-of e)) 2 (range_with_len 0 (length n.events)) owns k
+        (λ j e all. part-spelled n (few-places n net) (ends-within n facts) types-spelled (choices_of cs e) j (told-of e) (shallow-of e)) 2 (range_with_len 0 (length n.events)) both-owns.0 k
 
     body-spelled : are_stms 400 p.body ≡ true
     body-spelled =
-        frame-spelled (latches_of face) (λ e. (part_of parts e).body) (of_class (system_of_net n) unc) (of_class (system_of_net n) con) U C (outputs_of face) has.unc has.con
-        (copies-spelled letter.H letter.I 400 0 face.inputs) parts-spelled outputs-spelled
+        frame-spelled (latches_of face) (λ e. (part_of parts e).body) (of_class (system_of_net n) unc) (of_class (system_of_net n) con) U C (append (outputs_of face) last) has.unc has.con
+        (copies-spelled letter.H letter.I 400 0 face.inputs) parts-spelled
+        (append-spelled 400 (outputs_of face) last outputs-spelled (shown-spelled n (few-places n net) 0 (shown_first n cs) n.algs definitions))
 
     pub program-spelled : is_spelled (data_program n cs U C) ≡ true
     program-spelled =

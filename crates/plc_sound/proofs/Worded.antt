@@ -1,28 +1,37 @@
--- The statements of the part of an event have a spelling, where the updates of its choices nest no deeper than is allowed.
+-- The statements of the part of an event have a spelling, where the updates of its choices nest no deeper than is allowed, and so
+-- have those that show the algebraic variables.
 use Rattle.std.proofs.Common.{◌≡◌, ℕ, zero, suc, ◌+◌, ◌<◌, ◌≤◌, pos, Bool, true, false, ◌&&◌, List, [], ◌∷◌, length, Option, Some, None, refl, subst, arith, le-leb, if◌then◌else◌}
 use Rattle.std.specs.Prelude.{codes, nat_le, option_and_then, slice_get}
 use Rattle.std.specs.List.{AllByRecursion}
 use Rattle.grammar.specs.Pieces.{Text}
-use Rattle.cif_model.specs.Net.{NetAuto, NetEdge, NetStored, Net}
-use Rattle.cif_model.specs.Kinds.{bool_kind, places_of}
+use Rattle.cif_term.specs.Tree.{NetExpr}
+use Rattle.cif_model.specs.Net.{NetAlg, NetAuto, NetEdge, NetStored, Net}
+use Rattle.cif_model.specs.Counts.{alg_measures, no_form}
+use Rattle.cif_model.specs.Unfolding.{at_or as or_none}
+use Rattle.cif_model.specs.Inline.{defined_by}
+use Rattle.cif_model.specs.Kinds.{Kind, bool_kind, kind_of, places_of}
 use Rattle.cif_model.specs.Listing.{NetChoice, NetMove}
 use Rattle.st_ast.specs.Tokens.{greatest}
 use Rattle.st_ast.specs.Grammar.{at_or}
 use Rattle.st_ast.specs.Spelled.{are_branches, are_stms, is_expr, is_name, is_type_spelled, is_whole_expr}
 use Rattle.st_ast.specs.Tree.{Expr, truth, number, named, complement, equal, Stms, assign, stms, append, no_branches, branches}
 use Rattle.plc_face.specs.declared.letter.Letter.TheVariants as letter
+use Rattle.plc_face.specs.Names.{name_for}
 use Rattle.plc_face.specs.Frame.{fired}
 use Rattle.plc_gen.specs.Faces.{st_type}
 use Rattle.plc_gen.specs.Places.{path_in, place_name}
 use Rattle.plc_gen.specs.Events.{Written, all_bare, alone, chain, chain_branches, done_face, event_text, marks, marks_with, move_text, moves_text, own_name, parts_text, tested, unless_done}
 use Rattle.plc_gen.proofs.Moving.{EndsWithin, edge_stands}
 use Rattle.plc_gen.proofs.Spelling.{append-spelled, both-true, name-spelled}
-use Rattle.plc_expr.specs.Texts.{Naming, temps}
+use Rattle.plc_expr.specs.Texts.{Naming, before, temps, text}
 use Rattle.plc_expr.specs.Sorts.{NamesAreSpelled}
+use Rattle.plc_expr.proofs.Spelling.{statements-spelled, text-spelled}
 use Rattle.plc_act.specs.Writes.{NewNames}
 use Rattle.plc_act.specs.Own.{choice_temps, data_naming, event_vars, new_face, new_names, path_of, place_in, range_face, range_faces}
 use Rattle.plc_act.specs.Events.{all_written, data_written}
 use Rattle.plc_act.specs.Parts.{data_first, data_part, ifs_from}
+use Rattle.plc_parts.specs.Definitions.{IsDefinition}
+use Rattle.plc_parts.specs.Parts.{shown_text}
 use Rattle.plc_sound.proofs.Nested.{Shallow}
 use Rattle.plc_sound.proofs.Spelled.{act-spelled, before-spelled, whole-spelled}
 use Rattle.plc_sound.proofs.Told.{Told}
@@ -99,6 +108,21 @@ module _ (n : Net) (small : (k : ℕ) → places_of (slice_get n.autos k) ≤ gr
     received = refl;
     own = λ k. name-spelled letter.T k (codes "if");
   }
+
+  -- the statements that show the algebraic variables
+  pub shown-spelled : (i k : ℕ) (as' : List NetAlg) → AllByRecursion (IsDefinition n) as' → are_stms 400 (shown_text (data_naming n fired) i k as') ≡ true
+  shown-spelled i k [] defs = refl
+  shown-spelled i k (a ∷ as') defs =
+      let e : NetExpr = defined_by a in
+      let w : Naming = data_naming n fired in
+      let kind : Kind = kind_of a.type_of a.literals in
+      let low = defs.0.low in
+      append-spelled 400 (before w k e) (stms (assign (name_for letter.R i a.path) (text w k e)) (shown_text w (i + 1) (k + temps e) as'))
+      (statements-spelled w n None kind e (or_none no_form (alg_measures n)) k 400 names-spelled defs.0.fit (omega (arith, low)) (omega arith))
+      (both-true (is_name (name_for letter.R i a.path) && is_whole_expr (text w k e)) (are_stms 400 (shown_text w (i + 1) (k + temps e) as'))
+      (both-true (is_name (name_for letter.R i a.path)) (is_whole_expr (text w k e)) (name-spelled letter.R i a.path)
+      (text-spelled w n None kind e (or_none no_form (alg_measures n)) k 400 names-spelled defs.0.fit (omega (arith, low))))
+      (shown-spelled (i + 1) (k + temps e) as' defs.1))
 
   module _ (within : EndsWithin n) where
     move-spelled : (d : ℕ) (m : NetMove) (ss : Stms) → are_stms d ss ≡ true → are_stms d (move_text n m ss) ≡ true

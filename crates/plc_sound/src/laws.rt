@@ -7,8 +7,8 @@ ghost use Rattle.cif_model.specs.Net.{Net};
 ghost use Rattle.cif_model.specs.Listing.{NetChoice};
 ghost use Rattle.st_ast.specs.Checks.{check_faults};
 ghost use Rattle.st_ast.specs.Spelled.{is_spelled};
-ghost use Rattle.plc_gen.specs.Given.{IsOwnVariable, own_variables};
-ghost use Rattle.plc_parts.specs.Parts.{HasParts, data_parts, data_program};
+ghost use Rattle.plc_gen.specs.Given.{IsOwnVariable};
+ghost use Rattle.plc_parts.specs.Parts.{HasParts, all_own, data_program};
 ghost use Rattle.cif_nesting.specs.Nesting.{is_shallow};
 
 /// The program of a net with data breaks no check.
@@ -22,8 +22,8 @@ pub fn data_programs_have_a_spelling()
         is_spelled (data_program n cs U C) ≡ true }
 {}
 
-/// The variables that its events have for themselves are numbered from 2 on, and below 2147483648.
+/// The variables that its parts have for themselves are numbered from 2 on, and below 2147483648.
 pub fn own_variables_are_own()
     ensures { (n : Net) (cs : List NetChoice) (U C : ℕ) → HasParts n cs U C →
-        AllByRecursion IsOwnVariable (own_variables (data_parts n cs)) }
+        AllByRecursion IsOwnVariable (all_own n cs) }
 {}

@@ -3,7 +3,8 @@ use Rattle.std.proofs.Common.{◌≡◌, ℕ, ◌+◌, ◌<◌, ◌≤◌, ℤ, 
 use Rattle.std.specs.List.{AllByRecursion}
 use Rattle.std.proofs.lemmas.Bool.{eqb-false}
 use Rattle.cif_term.specs.Tree.{NetExpr, net_expr, NetForm, n_truth, n_number, n_loc, n_var, n_input, n_alg, n_received, n_minus, n_plus, n_not, n_abs, n_min, n_max, n_sum, n_product, n_compare, n_and, n_or, n_implies, n_iff, n_if, NetExprs, no_net_exprs, net_exprs, NetTerms, no_net_terms, net_terms, NetFactors, no_net_factors, net_factors, NetBranches, no_net_branches, net_branches, NetUpdate, net_set, net_choose, NetUpdates, no_net_updates, net_updates, NetUpdateBranches, no_net_update_branches, net_update_branches}
-use Rattle.cif_model.specs.Net.{Net}
+use Rattle.cif_model.specs.Net.{NetAlg, Net}
+use Rattle.cif_model.specs.Inline.{defined_by}
 use Rattle.cif_model.specs.Listing.{NetChoice}
 use Rattle.cif_model.proofs.PartLaws.{all-append}
 use Rattle.st_ast.specs.Exec.{is_within, type_at}
@@ -16,6 +17,7 @@ use Rattle.plc_expr.specs.Sorts.{is_boolean, type_by, own_types, form_types, ter
 use Rattle.plc_expr.specs.Texts.{Naming}
 use Rattle.plc_act.specs.Own.{bodies_types, choice_types, conditions_types, update_types, updates_types}
 use Rattle.plc_act.proofs.Kept.{Declares}
+use Rattle.plc_parts.specs.Parts.{defined_types}
 
 -- each number is of the type
 abbrev pub IsFree : StTy → Type 0
@@ -99,6 +101,11 @@ module _ (n : Net) where
   choices-free (c ∷ cs) =
       two (choice_types n None c) (flat_map (choice_types n None) cs)
       (two (own_types n None c.test) (updates_types n None c.writes) (expr-free c.test) (updates-free c.writes)) (choices-free cs)
+
+  -- those of definitions
+  pub algs-free : (as' : List NetAlg) → AllByRecursion IsFree (defined_types n as')
+  algs-free [] = tt
+  algs-free (a ∷ as') = two (own_types n None (defined_by a)) (defined_types n as') (expr-free (defined_by a)) (algs-free as')
 
 -- ---- places
 

@@ -5,3 +5,4 @@ pub mod Places
 pub mod Own
 pub mod Declared
 pub mod Tried
+pub mod Showing

@@ -42,7 +42,7 @@ use Rattle.plc_tries.proofs.Own.{HasPart, has-part, range-at}
 use Rattle.plc_tries.proofs.Declared.{are-declared, first_place, mark-declared}
 
 -- what is there is named, where nothing is received
-named-there : (n : Net) (names : List Read) → AllByRecursion (IsThere n None) names → AllByRecursion (IsNamed n) names
+pub named-there : (n : Net) (names : List Read) → AllByRecursion (IsThere n None) names → AllByRecursion (IsNamed n) names
 named-there n [] h = tt
 named-there n (a_var k ∷ names) h = (h.0, named-there n names h.1)
 named-there n (an_input k ∷ names) h = (h.0, named-there n names h.1)
@@ -65,7 +65,7 @@ module _ (n : Net) (cs : List NetChoice) (U C : ℕ) (parts : HasParts n cs U C)
   silent = and-right _ _ parts.silent
 
   no-invariants : n.invariants ≡ []
-  no-invariants = none-of n.invariants (and-right _ _ (and-left _ _ parts.silent))
+  no-invariants = none-of n.invariants (and-left _ _ parts.silent)
 
   stands : AllByRecursion (λ (c : NetChoice). choice_stands n c ≡ true) (choices_of cs e)
   stands = all-filter (λ (c : NetChoice). choice_stands n c ≡ true) (λ (c : NetChoice). nat_eq c.event e) cs (all-of (λ (c : NetChoice). choice_stands n c ≡ true) cs parts.guarded.stands)

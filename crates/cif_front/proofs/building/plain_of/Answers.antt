@@ -1,25 +1,28 @@
-use Rattle.std.proofs.Common.{sym, subst}
+use Rattle.std.proofs.Common.{inl, inr, sym, subst}
 use Rattle.cif_source.specs.Source.{source_of}
 use Rattle.cif_net.specs.View.{net_tree}
-use Rattle.cif_net.specs.declared.net.Net.{Net}
-use Rattle.cif_image.specs.Represents.{Represents}
 use Rattle.cif_front.specs.Dues.{IsDueOf}
-use Rattle.cif_front.proofs.PhaseLaws.{alg_due, net_algs, net_invariants, plain_kept}
+use Rattle.cif_front.specs.Paths.{NamesOf}
+use Rattle.cif_front.proofs.PhaseLaws.{alg_due, net_invariants}
+use Rattle.cif_front.proofs.PathLaws.{error_named}
 use Rattle.cif_front.proofs.building.plain_of.Goals as goal
 
-pub inline-requires : goal.inline-requires
-inline-requires c = record {
-  algs = net_algs (source_of c.args._spec.now) (net_tree c.args.net) c.requires.represents c.requires.forms;
-  invariants = net_invariants (source_of c.args._spec.now) (net_tree c.args.net) c.requires.represents c.requires.forms;
-}
+pub check_net-requires : goal.check_net-requires
+check_net-requires c = net_invariants (source_of c.args._spec.now) (net_tree c.args.net) c.requires.represents c.requires.forms
 
-pub returns-in-Ok-clause-represents : goal.returns-in-Ok-clause-represents
-returns-in-Ok-clause-represents c = subst (λ (n : Net). Represents (net_tree n) (source_of c.args._spec.now)) (sym c.in-Ok.ensures.plain) c.requires.represents
+pub unfold-requires-clause-invariants : goal.unfold-requires-clause-invariants
+unfold-requires-clause-invariants c = net_invariants (source_of c.args._spec.now) (net_tree c.args.net) c.requires.represents c.requires.forms
 
-pub returns-in-Ok-clause-plain : goal.returns-in-Ok-clause-plain
-returns-in-Ok-clause-plain c = plain_kept (source_of c.args._spec.now) (net_tree c.args.net) c.requires.represents c.in-Ok.ensures.keeps
+pub returns-clause-refused : goal.returns-clause-refused
+returns-clause-refused c =
+    elim c.refused_net.ensures [
+      | inl h ↦ subst (IsDueOf (source_of c.args._spec.now)) (sym h.0) (alg_due (source_of c.args._spec.now) (net_tree c.args.net) c.requires.represents c.requires.kept c.in-Err.error c.in-Err.ensures.refused)
+      | inr h ↦ subst (IsDueOf (source_of c.args._spec.now)) (sym h) tt
+    ]
 
-pub returns-in-Err-clause-refused : goal.returns-in-Err-clause-refused
-returns-in-Err-clause-refused c =
-    subst (IsDueOf (source_of c.args._spec.now)) (sym c.from.ensures)
-    (alg_due (source_of c.args._spec.now) (net_tree c.args.net) c.requires.represents c.requires.kept c.in-Err.error c.in-Err.ensures.refused)
+pub returns-clause-named : goal.returns-clause-named
+returns-clause-named c =
+    elim c.refused_net.ensures [
+      | inl h ↦ subst (λ why. NamesOf (source_of c.args._spec.now) why c.refused_net.result.path) (sym h.0) (error_named (source_of c.args._spec.now) (net_tree c.args.net) c.requires.represents.translated c.in-Err.error c.refused_net.result.path h.1)
+      | inr h ↦ subst (λ why. NamesOf (source_of c.args._spec.now) why c.refused_net.result.path) (sym h) tt
+    ]

@@ -1,4 +1,4 @@
-use Rattle.std.proofs.Common.{rules, ◌≡◌, List, map, sym, ◌∙◌, ap, subst}
+use Rattle.std.proofs.Common.{rules, ◌≡◌, List, map, sym, subst}
 use Rattle.std.specs.Global.{Vec}
 use Rattle.cif_source.specs.Source.{source_of}
 use Rattle.cif_parameters.specs.declared.given.Given.{Given}

@@ -1,7 +1,5 @@
-use Rattle.std.proofs.Common.{List, map, refl, sym, ◌∙◌, ap}
+use Rattle.std.proofs.Common.{refl}
 use Rattle.cif_source.specs.Source.{syncs, use_tree, edge_tree}
-use Rattle.cif_ast.specs.declared.edges.EventUse.{EventUse}
-use Rattle.cif_inst.specs.Measures.{use_weight}
 use Rattle.cif_inst.proofs.MeasureLaws.{weight_added}
 use Rattle.cif_inst.proofs.measures.add_edge.Goals as goal
 

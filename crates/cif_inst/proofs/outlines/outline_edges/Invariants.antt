@@ -1,4 +1,4 @@
-use Rattle.std.proofs.Common.{◌≡◌, ◌+◌, ◌++◌, map, drop, length}
+use Rattle.std.proofs.Common.{◌≡◌, ◌+◌, ◌++◌, map, drop}
 use Rattle.cif_net.specs.View.{edge_tree}
 use Rattle.cif_inst.specs.Outlines as outlines
 use Rattle.cif_inst.proofs.outlines.outline_edges.Given as goal

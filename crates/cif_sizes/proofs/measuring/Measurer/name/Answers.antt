@@ -31,7 +31,8 @@ returns-in-None c =
     let m = c.args.self.now in
     let is = ready m c.requires in
     let own = home-number (source_by m) m.component is.component in
-    from-declared (source_by m) m.looking.now.scopes.now m.looking.now.components.now is.names.scopes is.names.components (map given_items m.looking.now.given.now) is.names.given
+    c.one-in-None.ensures
+    ∙ from-declared (source_by m) m.looking.now.scopes.now m.looking.now.components.now is.names.scopes is.names.components (map given_items m.looking.now.given.now) is.names.given
     m.arguments.now is.first m.component (home m) own is.enough c.args.name.now
-    c.in-Some.place (c.in-Some.ensures (source_by m) (home m) is.names.scopes is.names.components own) (sym c.in-None.ensures) c.declared.result c.declared.ensures
+    c.in-Some.place (c.in-Some.ensures (source_by m) (home m) is.names.scopes is.names.components own) (sym c.in-None.ensures)
     ∙ sym (ap (λ (f : Name → Measure). f c.args.name.now) (names-open m))

@@ -1,0 +1,34 @@
+use Rattle.std.proofs.Common.{List, map, Option, Bor, ◌∙◌, ap}
+use Rattle.cif_ast.specs.declared.declarations.Decl.{Decl}
+use Rattle.cif_constants.specs.Slots.{row_of}
+use Rattle.cif_translate.specs.Looking.{source_for}
+use Rattle.cif_inst.proofs.RuleLaws.{bounds_kept}
+use Rattle.cif_inst.proofs.objects.objects_of.Goals as goal
+
+pub all_stored-requires-clause-types : goal.all_stored-requires-clause-types
+all_stored-requires-clause-types c = record {
+  names = c.requires.names;
+  typed = record {
+    numbers = c.requires.names.scopes.numbers;
+    few = c.requires.names.components.few;
+    constancy = c.requires.constancy;
+    values = c.requires.values;
+    bounded = bounds_kept (source_for c.args.looking.now) c.requires.ranges;
+    rows = ap (λ (rs : List (List (Option (Bor Decl)))). map row_of rs) c.as_slice.ensures ∙ c.in_ok-declared.ensures;
+    counted = c.in_ok-turns.ensures;
+  };
+}
+
+pub all_algs-requires-clause-types : goal.all_algs-requires-clause-types
+all_algs-requires-clause-types c = record {
+  names = c.requires.names;
+  typed = record {
+    numbers = c.requires.names.scopes.numbers;
+    few = c.requires.names.components.few;
+    constancy = c.requires.constancy;
+    values = c.requires.values;
+    bounded = bounds_kept (source_for c.args.looking.now) c.requires.ranges;
+    rows = ap (λ (rs : List (List (Option (Bor Decl)))). map row_of rs) c.as_slice.ensures ∙ c.in_ok-declared.ensures;
+    counted = c.in_ok-turns.ensures;
+  };
+}
