@@ -8,11 +8,14 @@ WHAT is one of
     chain        N algebraic variables (99,000) of which each is a bare name of the one before, from an input on
     by-location  an algebraic variable with an equation in each of N locations (10,000), between which an event leads on
     pairs        N pairs (100) of a feeder and a belt with two inputs each, and algebraic variables over both
+    cells        N cells (10) as in examples/cell.cif
 
 `rows` writes so many rows for the program of `pairs N`.
 """
+import os
 import sys
 
+CELL = os.path.join(os.path.dirname(os.path.dirname(os.path.abspath(__file__))), "examples", "cell.cif")
 PAIR = """// A feeder puts parts on a belt that stands still, and the belt takes them away.
 group def Pair():
   input bool part, stop;
@@ -59,6 +62,15 @@ def pairs(count=100):
     return PAIR + "".join("pair%d: Pair();\n" % k for k in range(count))
 
 
+def cells(count=10):
+    """The definitions of the example stand once, and all else of it in a group with `count` instances."""
+    with open(CELL, encoding="utf-8") as file:
+        text = file.read()
+    begin, end = text.index("// A button or a sensor"), text.index("start: Sensor")
+    cell = "group def Cell():\n%send\n" % (text[:begin] + text[end:])
+    return text[begin:end] + cell + "".join("cell%d: Cell();\n" % k for k in range(count))
+
+
 def rows(count, scans):
     """Each pair has its parts and stops at other scans than the one before."""
     header = ["scan"] + ["I%d_pair%d_%s" % (2 * k + last, k, name) for k in range(count) for last, name in enumerate(("part", "stop"))]
@@ -69,7 +81,7 @@ def rows(count, scans):
     return "\n".join(lines + [""])
 
 
-SOURCES = {"doubling": doubling, "chain": chain, "by-location": by_location, "pairs": pairs, "rows": rows}
+SOURCES = {"doubling": doubling, "chain": chain, "by-location": by_location, "pairs": pairs, "cells": cells, "rows": rows}
 
 if __name__ == "__main__":
     print(SOURCES[sys.argv[1]](*map(int, sys.argv[2:])), end="")

@@ -22,8 +22,6 @@ from plain_tokens import Unread
 sys.setrecursionlimit(4000)
 
 CLASSES = ("event", "controllable", "uncontrollable")
-# The words of declarations for which a program may tell that they are not built yet. Who has built all of one takes it out of here.
-LATER = ("alg", "equation")
 AUTOMATON_WORDS = ("automaton", "plant", "requirement", "supervisor")
 MOST_OBJECTS, MOST_NODES, MOST_DEPTH, MOST_CHOICES = 100000, 1000000, 100, 16384
 
@@ -42,14 +40,13 @@ class Source(ExpressionReader):
     declarations and locations. A body has its own types and slots with values, the number of its marking predicates, its definitions of
     algebraic variables and the number of equations among its declarations, and its automaton, or None. A slot of a type, a constant, a
     variable or a parameter has its body as `home`, and its `type` and `value`; one of an event or an event parameter has the `word` of
-    its class, one of an enumeration the names of its `literals`, and one of a literal the slot `enum`. `forms` has the words of the
-    declarations that stand in it, of those in LATER.
+    its class, one of an enumeration the names of its `literals`, and one of a literal the slot `enum`.
     """
 
     def __init__(self, text):
         super().__init__(text)
         self.bodies, self.automata = [], []
-        self.types, self.valued, self.marks, self.forms, self.frames = [], [], [], set(), None
+        self.types, self.valued, self.marks, self.frames = [], [], [], None
         self.root = self.body_in(None, False)
         while self.next < len(self.tokens):
             self.item(self.root)
@@ -174,7 +171,6 @@ class Source(ExpressionReader):
 
     def declaration(self, body):
         """Whether a declaration comes next, which is taken then."""
-        self.forms.update(form for form in LATER if self.is_next(form))
         if self.is_next(*CLASSES):
             self.events(body)
         elif self.is_next("type"):
@@ -293,7 +289,6 @@ class Source(ExpressionReader):
             if self.is_next("edge"):
                 self.edge(automaton)
             elif self.is_next("equation"):
-                self.forms.add("equation")
                 self.equation(automaton.body, len(automaton.places) - 1)
             elif self.is_next("initial"):
                 self.take("initial")
@@ -436,7 +431,6 @@ class Net:
 
     def __init__(self, source):
         frames, _ = components_of(source)
-        self.forms = source.forms
         self.data, automata, events = Data(source), automata_in(frames), declared_in(frames, EVENT)
         variables, inputs = declared_in(frames, DISC), declared_in(frames, INPUT)
         self.numbers = {event: number for number, event in enumerate(events)}
