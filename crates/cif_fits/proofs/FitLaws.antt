@@ -11,7 +11,7 @@ use Rattle.cif_source.specs.Components.{Component}
 use Rattle.cif_source.specs.Objects.{components_of}
 use Rattle.cif_rules.specs.Kinds.{Kind, bool_kind}
 use Rattle.cif_rules.specs.Demands.{asked_for}
-use Rattle.cif_image.specs.Built.{is_built}
+use Rattle.cif_built.specs.Built.{is_built}
 use Rattle.cif_image.specs.Flat.{net_of_source}
 use Rattle.cif_image.specs.Small.{HasSmallParts}
 use Rattle.cif_image.specs.Translation.{conjunction, net_of, net_list, net_guard, net_name}

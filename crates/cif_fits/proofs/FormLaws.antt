@@ -9,7 +9,8 @@ use Rattle.cif_model.proofs.Passing.{all-member}
 use Rattle.cif_source.specs.Source.{RoleTree, syncs, sends, receives, UseTree, EdgeTree, LocationTree, DeclTree, Source}
 use Rattle.cif_source.specs.Components.{Component}
 use Rattle.cif_source.specs.Objects.{components_of, decls_of, decls_in, locs_of, locs_in, EventEdge, event_edges}
-use Rattle.cif_image.specs.Built.{is_no_channel, only_syncs, takes_no_channel, has_no_channels, is_no_invariant, has_no_invariants, has_no_received, every_item, every_decl, every_location, every_edge, is_built}
+use Rattle.cif_image.specs.Bodies.{every_item, every_decl, every_location, every_edge}
+use Rattle.cif_built.specs.Built.{is_no_channel, only_syncs, takes_no_channel, has_no_channels, is_no_invariant, has_no_invariants, has_no_received, is_built}
 use Rattle.cif_image.proofs.StandingLaws.{edge-stands, enumerated}
 use Rattle.cif_written.proofs.Bodies.{components-written}
 use Rattle.cif_written.proofs.RuleLaws.{bodies-pass}

@@ -16,7 +16,7 @@ use Rattle.cif_source.specs.Scoping.{UnknownDue, DuplicateDue, WrongKindDue, as_
 use Rattle.cif_source.proofs.ReachLaws.{frames-listed, found-listed}
 use Rattle.cif_rules.specs.BodyRules.{MismatchDue}
 use Rattle.cif_rules.specs.InstanceRules.{ConstantRangeDue}
-use Rattle.cif_image.specs.Built.{is_built}
+use Rattle.cif_built.specs.Built.{is_built}
 use Rattle.cif_image.specs.Small.{HasSmallParts}
 use Rattle.cif_image.specs.WellFormed.{unknown, duplicate, wrong_kind, mismatch, too_many_objects, constant_range, KeepsBefore, algebraic}
 use Rattle.cif_image.proofs.RuleLaws.{few-kept}

@@ -12,7 +12,7 @@ ghost use Rattle.cif_source.specs.Components.{Component};
 ghost use Rattle.cif_source.specs.Objects.{components_of};
 ghost use Rattle.cif_rules.specs.Kinds.{Kind, bool_kind};
 ghost use Rattle.cif_rules.specs.Demands.{asked_for};
-ghost use Rattle.cif_image.specs.Built.{is_built};
+ghost use Rattle.cif_built.specs.Built.{is_built};
 ghost use Rattle.cif_image.specs.Flat.{net_of_source};
 ghost use Rattle.cif_image.specs.Small.{HasSmallParts};
 ghost use Rattle.cif_image.specs.Translation.{conjunction, net_of, net_list, net_guard};

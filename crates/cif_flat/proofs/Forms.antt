@@ -3,7 +3,7 @@ use Rattle.std.proofs.Common.{◌≡◌, true}
 use Rattle.cif_system.specs.Words.{Member}
 use Rattle.cif_source.specs.Source.{DeclTree, Source}
 use Rattle.cif_source.specs.Objects.{Declared, declarations}
-use Rattle.cif_image.specs.Built.{is_no_channel, is_no_invariant, is_built}
+use Rattle.cif_built.specs.Built.{is_no_channel, is_no_invariant, is_built}
 use Rattle.cif_image.proofs.RuleLaws.{declaration-cases}
 use Rattle.cif_fits.proofs.FormLaws.{forms-of, decl-channel, decl-invariant}
 

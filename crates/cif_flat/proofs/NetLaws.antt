@@ -8,7 +8,7 @@ use Rattle.cif_model.specs.Net.{NetEvent, no_net_chan}
 use Rattle.cif_source.specs.Source.{DeclTree, type_decl, enum_decl, event_decl, const_decl, alg_decl, input_decl, disc_decl, equation_decl, invariant_decl, marked_decl, ChannelTree, no_type, void_type, value_type, Source}
 use Rattle.cif_source.specs.Components.{Component}
 use Rattle.cif_source.specs.Objects.{events, is_event, Declared, declarations}
-use Rattle.cif_image.specs.Built.{is_built, is_no_channel}
+use Rattle.cif_built.specs.Built.{is_built, is_no_channel}
 use Rattle.cif_image.specs.Flat.{net_of_source, net_event, net_invariants}
 use Rattle.cif_image.proofs.StandingLaws.{flat-nothing}
 use Rattle.cif_flat.specs.Silent.{IsSilent}

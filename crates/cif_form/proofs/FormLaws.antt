@@ -9,8 +9,9 @@ use Rattle.cif_model.proofs.Passing.{both-pass, all-member}
 use Rattle.cif_source.specs.Source.{RoleTree, syncs, sends, receives, UseTree, EdgeTree, LocationTree, DeclTree, ParamTree, SourceItem, decl_item, component_item, definition_item, instance_item, SourceBody, group_body, automaton_body, Source, no_source, source, list_of_items}
 use Rattle.cif_source.specs.Components.{Component, whole, part, blank, body_of}
 use Rattle.cif_source.specs.Objects.{bodies, bodies_in, bodies_at, bodies_under, items_in, item_decls, decls_in, locs_in}
-use Rattle.cif_image.specs.Received.{without_received, updates_without, decl_without, use_without, edge_without, location_without, param_without, item_without}
-use Rattle.cif_image.specs.Built.{is_no_channel, is_no_channel_param, only_syncs, takes_no_channel, has_no_channels, is_no_invariant, has_no_invariants, has_no_received, every_item, every_decl, every_edge, every_location, is_built}
+use Rattle.cif_built.specs.Received.{without_received, updates_without, decl_without, use_without, edge_without, location_without, param_without, item_without}
+use Rattle.cif_image.specs.Bodies.{every_item, every_decl, every_edge, every_location}
+use Rattle.cif_built.specs.Built.{is_no_channel, is_no_channel_param, only_syncs, takes_no_channel, has_no_channels, is_no_invariant, has_no_invariants, has_no_received, is_built}
 use Rattle.cif_image.proofs.RuleLaws.{all-from}
 use Rattle.cif_form.specs.Forms.{decl_fits, edge_fits, equation_fits, location_fits, param_fits, items_fit, item_fits, body_fits}
 

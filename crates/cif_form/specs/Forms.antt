@@ -2,8 +2,8 @@
 use Rattle.std.specs.Prelude.{◌≡◌, ℕ, Bool, true, false, ◌&&◌, Result, Ok, Err}
 use Rattle.std.specs.List.{list_all}
 use Rattle.cif_source.specs.Source.{EdgeTree, EquationTree, LocationTree, DeclTree, ParamTree, AutomatonTree, SourceItem, decl_item, component_item, definition_item, instance_item, SourceBody, group_body, automaton_body, Source, no_source, source}
-use Rattle.cif_image.specs.Received.{without_received, updates_without, decl_without, param_without}
-use Rattle.cif_image.specs.Built.{only_syncs, is_no_channel, is_no_channel_param, is_no_invariant}
+use Rattle.cif_built.specs.Received.{without_received, updates_without, decl_without, param_without}
+use Rattle.cif_built.specs.Built.{only_syncs, is_no_channel, is_no_channel_param, is_no_invariant}
 
 -- no invariant, an event that is no channel, and no `?` in it
 abbrev pub decl_fits : DeclTree → Bool

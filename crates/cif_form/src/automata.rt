@@ -4,8 +4,8 @@ ghost use Rattle.std.specs.Prelude.{map, option_map};
 ghost use Rattle.std.specs.List.{list_all};
 ghost use Rattle.cif_ast.specs.View.{view};
 ghost use Rattle.cif_source.specs.Source as source;
-ghost use Rattle.cif_image.specs.Built.{only_syncs};
-ghost use Rattle.cif_image.specs.Received as received;
+ghost use Rattle.cif_built.specs.Built.{only_syncs};
+ghost use Rattle.cif_built.specs.Received as received;
 ghost use Rattle.cif_form.specs.Forms as form;
 ghost use Rattle.cif_form.specs.Forms.{Answers};
 

@@ -3,7 +3,7 @@
 ghost use Rattle.std.specs.Prelude.{map};
 ghost use Rattle.std.specs.List.{list_all};
 ghost use Rattle.cif_ast.specs.View.{view, view_form, view_exprs, view_terms, view_factors, view_branches, view_update, view_updates, view_update_branches};
-ghost use Rattle.cif_image.specs.Received as received;
+ghost use Rattle.cif_built.specs.Received as received;
 ghost use Rattle.cif_form.specs.Forms.{Answers};
 
 use cif_ast::{Branch, Expr, Factor, Form, Term, Update, UpdateBranch};

@@ -3,7 +3,7 @@
 ghost use Rattle.std.specs.Prelude.{◌≡◌, ℕ, Some, None, true, false};
 ghost use Rattle.cif_ast.specs.View.{view_body, view_item, view_items};
 ghost use Rattle.cif_source.specs.Source.{source_of, source_body, source_item, source_items};
-ghost use Rattle.cif_image.specs.Built.{is_built};
+ghost use Rattle.cif_built.specs.Built.{is_built};
 ghost use Rattle.cif_form.specs.Forms as form;
 ghost use Rattle.cif_form.specs.Forms.{Answers};
 

@@ -24,7 +24,7 @@ use Rattle.cif_alg.specs.declared.error.AlgErr.{AlgErr}
 use Rattle.cif_alg.specs.declared.error.AlgErr.TheVariants as alg
 use Rattle.cif_lin.specs.declared.error.LinErr.{LinErr}
 use Rattle.cif_lin.specs.declared.error.LinErr.TheVariants as lin
-use Rattle.cif_image.specs.Built.{is_built}
+use Rattle.cif_built.specs.Built.{is_built}
 use Rattle.cif_image.specs.Flat.{net_of_source}
 use Rattle.cif_image.specs.Represents.{Represents}
 use Rattle.cif_image.specs.WellFormed.{Refusal, unknown, duplicate, wrong_kind, definition_cycle, mismatch, not_constant, initials, not_own, assigned_twice, equations, alphabet_lacks, role_mixed, too_many_objects, constant_range, alg_cycle, zero_divisor, too_wide, invariant_reads_input, invariant_false, too_large, too_many_choices, Broken, Phase, phase, order, scope as scopes, kinds, instances, algebraic, choices, KeepsBefore}

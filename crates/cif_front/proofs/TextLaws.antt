@@ -10,7 +10,7 @@ use Rattle.cif_parse.specs.declared.error.ParseErr.{ParseErr}
 use Rattle.cif_parse.specs.declared.error.ParseErr.TheVariants as parse
 use Rattle.cif_net.specs.declared.guarded.Guarded.{Guarded}
 use Rattle.cif_source.specs.Source.{source_of}
-use Rattle.cif_image.specs.Built.{is_built}
+use Rattle.cif_built.specs.Built.{is_built}
 use Rattle.cif_image.specs.WellFormed as rule
 use Rattle.cif_image.specs.WellFormed.{Due}
 use Rattle.cif_front.specs.declared.refusal.Refusal.{Refusal}

@@ -10,7 +10,7 @@ use Rattle.cif_net.specs.View.{net_tree}
 use Rattle.cif_model.specs.Inline.{Unfolds}
 use Rattle.cif_model.specs.Meaning.{system_of_net}
 use Rattle.cif_model.specs.Net.{Net}
-use Rattle.cif_image.specs.Built.{is_built}
+use Rattle.cif_built.specs.Built.{is_built}
 use Rattle.cif_image.specs.Flat.{net_of_source}
 use Rattle.cif_image.specs.WellFormed.{Refusal, Broken}
 

@@ -6,7 +6,7 @@ ghost use Rattle.cif_ast.specs.SmallNumbers.{HasSmallNumbers};
 ghost use Rattle.cif_source.specs.Source.{source_of};
 ghost use Rattle.cif_scope.specs.Scopes.{AreScopesOf};
 ghost use Rattle.cif_net.specs.View.{net_tree};
-ghost use Rattle.cif_image.specs.Built.{is_built};
+ghost use Rattle.cif_built.specs.Built.{is_built};
 ghost use Rattle.cif_image.specs.Represents.{Represents};
 ghost use Rattle.cif_image.specs.Flat.{net_of_source};
 ghost use Rattle.cif_alg.specs.Keeps.{KeepsAlgebraic};

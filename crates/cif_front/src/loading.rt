@@ -6,7 +6,7 @@ ghost use Rattle.cif_ast.specs.Countable.{IsCountable};
 ghost use Rattle.cif_ast.specs.SmallNumbers.{HasSmallNumbers};
 ghost use Rattle.cif_source.specs.Source.{source_of};
 ghost use Rattle.cif_parse.specs.Grammar.{Reads};
-ghost use Rattle.cif_image.specs.Built.{is_built};
+ghost use Rattle.cif_built.specs.Built.{is_built};
 ghost use Rattle.cif_front.specs.Dues.{IsDue};
 ghost use Rattle.cif_front.specs.Loads.{Loads};
 ghost use Rattle.cif_front.specs.Paths.{NamesIn, NamesNothing};

@@ -6,7 +6,7 @@ use Rattle.grammar.specs.Pieces.{Text}
 use Rattle.cif_parse.proofs.CountedSources.{tree_shallow}
 use Rattle.cif_model.specs.Net.{no_net_chan}
 use Rattle.cif_source.specs.Source.{Source}
-use Rattle.cif_image.specs.Built.{is_built}
+use Rattle.cif_built.specs.Built.{is_built}
 use Rattle.cif_image.specs.Flat.{net_of_source}
 use Rattle.cif_image.proofs.RuleLaws.{all-from}
 use Rattle.cif_flat.proofs.NetLaws as flat

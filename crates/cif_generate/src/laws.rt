@@ -5,7 +5,7 @@ ghost use Rattle.std.specs.Prelude.{◌≡◌, true};
 ghost use Rattle.plc_gen.specs.Faces.{face_of_net};
 ghost use Rattle.plc_parts.specs.Parts.{is_silent};
 ghost use Rattle.cif_source.specs.Source.{Source};
-ghost use Rattle.cif_image.specs.Built.{is_built};
+ghost use Rattle.cif_built.specs.Built.{is_built};
 ghost use Rattle.cif_image.specs.Flat.{net_of_source};
 ghost use Rattle.cif_generate.specs.Shown.{face_of};
 

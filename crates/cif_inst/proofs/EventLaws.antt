@@ -9,7 +9,7 @@ use Rattle.cif_source.specs.Source.{Text, no_type, void_type, value_type, DeclTr
 use Rattle.cif_source.specs.Components.{Component, body_of, path_of}
 use Rattle.cif_source.specs.Objects.{components_of, item_decls, decls_in, decls_of, is_event, events as events_of, Declared}
 use Rattle.cif_source.specs.Step.{class_of}
-use Rattle.cif_image.specs.Built.{is_no_channel}
+use Rattle.cif_built.specs.Built.{is_no_channel}
 use Rattle.cif_image.specs.Flat.{net_event}
 use Rattle.cif_image.proofs.NumberLaws.{kept-all, append-kept}
 use Rattle.cif_fits.proofs.FormLaws.{HasForms, decl-channel}

@@ -29,7 +29,7 @@ use Rattle.cif_net.specs.declared.data.Alg.{Alg}
 use Rattle.cif_net.specs.declared.predicates.Exclusion.{Exclusion}
 use Rattle.cif_net.specs.declared.predicates.Invariant.{Invariant}
 use Rattle.cif_net.specs.Parts.{auto_tree, event_tree, input_tree, var_tree, alg_tree, net_of_parts}
-use Rattle.cif_image.specs.Built.{is_no_invariant, is_built}
+use Rattle.cif_built.specs.Built.{is_no_invariant, is_built}
 use Rattle.cif_image.specs.Flat.{dotted, location_name, net_auto, net_event, net_stored, net_alg, net_exclusions, net_invariants, net_of_source}
 use Rattle.cif_image.specs.Represents.{Represents}
 use Rattle.cif_image.specs.Small.{HasSmallParts}

@@ -1,7 +1,7 @@
 -- The names of a source of which nets are built.
 use Rattle.std.specs.Prelude.{◌≡◌, ℕ, true}
 use Rattle.cif_rules.specs.BodyRules.{MismatchDue}
-use Rattle.cif_image.specs.Built.{is_built}
+use Rattle.cif_built.specs.Built.{is_built}
 use Rattle.cif_translate.specs.Looking.{AreNamesOf, source_for}
 use Rattle.cif_translate.specs.declared.looking.Looking.{Looking}
 

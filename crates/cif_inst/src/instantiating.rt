@@ -10,7 +10,7 @@ ghost use Rattle.cif_scope.specs.Scopes.{AreScopesOf};
 ghost use Rattle.cif_constants.specs.Constants.{HasValues};
 ghost use Rattle.cif_types.specs.Kinds.{KeepsKinds, AreKindsOf};
 ghost use Rattle.cif_net.specs.View.{net_tree, event_tree};
-ghost use Rattle.cif_image.specs.Built.{is_built};
+ghost use Rattle.cif_built.specs.Built.{is_built};
 ghost use Rattle.cif_image.specs.Represents.{Represents};
 ghost use Rattle.cif_translate.specs.Looking.{AreNamesOf, source_for};
 ghost use Rattle.cif_inst.specs.Alphabets.{rows_alphabets};

@@ -19,7 +19,7 @@ use Rattle.cif_rules.specs.BodyRules.{targets_of_all}
 use Rattle.cif_fits.specs.Forms.{HasSmallArguments}
 use Rattle.cif_fits.proofs.SoundLaws as fits
 use Rattle.cif_fits.proofs.TypeLaws.{type-fits}
-use Rattle.cif_image.specs.Built.{is_built}
+use Rattle.cif_built.specs.Built.{is_built}
 use Rattle.cif_image.specs.Flat.{net_of_source, net_auto, net_edge, net_event, net_stored, net_alg, event_number, location_name, alphabet_of, monitored_in, sent_tree, net_updates_of, variable_number}
 use Rattle.cif_image.specs.Translation.{net_of, net_guard}
 use Rattle.cif_image.specs.Small.{HasSmallParts}

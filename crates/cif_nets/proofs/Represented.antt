@@ -7,7 +7,7 @@ use Rattle.cif_source.specs.Source.{Source}
 use Rattle.cif_source.specs.Components.{Component}
 use Rattle.cif_source.specs.Objects.{components_of, automata, EventEdge, event_edges}
 use Rattle.cif_rules.specs.BodyRules.{targets_of_all}
-use Rattle.cif_image.specs.Built.{is_built}
+use Rattle.cif_built.specs.Built.{is_built}
 use Rattle.cif_image.specs.Flat.{net_of_source}
 use Rattle.cif_image.specs.Represents.{Represents}
 use Rattle.cif_image.specs.WellFormed.{algebraic, KeepsBefore}

@@ -15,7 +15,7 @@ use Rattle.cif_source.specs.Source.{int_type, range_type, no_type, syncs, event_
 use Rattle.cif_source.specs.Components.{Component, whole, part, copy}
 use Rattle.cif_source.specs.Objects.{automata}
 use Rattle.cif_source.proofs.Terms.{word, single, dotted, event_use, edge_by, place, behaviour, instance_named, source_list}
-use Rattle.cif_image.specs.Built.{is_built}
+use Rattle.cif_built.specs.Built.{is_built}
 use Rattle.cif_image.specs.Flat.{net_of_source, event_number}
 use Rattle.cif_image.specs.Translation.{net_of, net_guard}
 use Rattle.cif_image.specs.Represents.{Represents}

@@ -13,7 +13,7 @@ use Rattle.cif_source.specs.Source.{no_type, void_type, value_type, DeclTree, ty
 use Rattle.cif_source.specs.Components.{Component, body_of}
 use Rattle.cif_source.specs.Objects.{components_of, most_objects, automata, is_automaton, locs_of, event_edges, events, inputs, variables, algs, is_event, is_input, is_variable, is_alg, Declared, declarations, decls_of}
 use Rattle.cif_rules.specs.InstanceRules.{decl_objects, component_objects, object_count}
-use Rattle.cif_image.specs.Built.{is_no_channel, is_no_invariant}
+use Rattle.cif_built.specs.Built.{is_no_channel, is_no_invariant}
 use Rattle.cif_image.specs.Flat.{net_of_source, net_auto, net_edge, net_event, net_stored, net_alg, net_exclusions, net_invariants, location_name}
 use Rattle.cif_image.proofs.RuleLaws.{declaration-cases, within-or-past, all-from}
 use Rattle.cif_image.proofs.NumberLaws.{append-kept}

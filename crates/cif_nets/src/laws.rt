@@ -3,7 +3,7 @@
 ghost use Rattle.std.specs.Prelude.{◌≡◌, true};
 ghost use Rattle.cif_model.specs.Facts.{is_net};
 ghost use Rattle.cif_source.specs.Source.{Source};
-ghost use Rattle.cif_image.specs.Built.{is_built};
+ghost use Rattle.cif_built.specs.Built.{is_built};
 ghost use Rattle.cif_image.specs.Flat.{net_of_source};
 ghost use Rattle.cif_image.specs.Represents.{Represents};
 ghost use Rattle.cif_image.specs.Small.{HasSmallParts};

@@ -14,7 +14,7 @@ use Rattle.cif_source.specs.Uses.{OwnName, own_ident, own_names, own_sought}
 use Rattle.cif_rules.specs.Demands.{event_channel, is_unfit}
 use Rattle.cif_rules.specs.BodyRules.{edges_of, MismatchDue, BadValue, BadUse, BadArgument, initial_count, name_at, HasInitials, InitialsDue, algs_of, definition_counts, EquationsDue}
 use Rattle.cif_model.proofs.Passing.{all-member}
-use Rattle.cif_image.specs.Built.{every_body}
+use Rattle.cif_image.specs.Bodies.{every_body}
 use Rattle.cif_image.proofs.RuleLaws.{member-any}
 use Rattle.cif_written.specs.Alike.{AreWrittenAlike, AreAlike}
 use Rattle.cif_written.proofs.Alike.{twice, body-written, params-written, in_scope-written, alike-places}

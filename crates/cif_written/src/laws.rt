@@ -19,7 +19,7 @@ ghost use Rattle.cif_rules.specs.Kinds.{Demand, Kind, kind_of, operands, same_ki
 ghost use Rattle.cif_rules.specs.BodyRules.{AssignedTwiceDue, AssignsTwice, EquationsDue, InitialsDue, LeadsElsewhere, MismatchDue, NotConstantDue, NotOwnDue, algs_of, definition_counts, edges_of, initial_count, lists_of, targets_of_all};
 ghost use Rattle.cif_rules.specs.Constants.{constants_of, types_of};
 ghost use Rattle.cif_image.specs.Types.{net_type};
-ghost use Rattle.cif_image.specs.Built.{every_body};
+ghost use Rattle.cif_image.specs.Bodies.{every_body};
 ghost use Rattle.cif_written.specs.Alike.{AreAlike, AreWrittenAlike};
 ghost use Rattle.cif_written.specs.Arguments.{IsArgumentFor};
 ghost use Rattle.cif_written.specs.Constancy.{HasConstantNames};

@@ -1,6 +1,6 @@
 use Rattle.std.proofs.Common.{◌≡◌, drop}
 use Rattle.cif_ast.specs.View.{view_exprs, view_terms, view_factors, view_branches}
-use Rattle.cif_image.specs.Received.{all_without, terms_without, factors_without, branches_without}
+use Rattle.cif_built.specs.Received.{all_without, terms_without, factors_without, branches_without}
 use Rattle.cif_form.proofs.expressions.+expressions.Given as goal
 
 abbrev pub invariant-check_parts-loop-expr : goal.invariant-check_parts-loop-expr

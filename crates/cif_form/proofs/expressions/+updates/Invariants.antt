@@ -1,6 +1,6 @@
 use Rattle.std.proofs.Common.{◌≡◌, drop}
 use Rattle.cif_ast.specs.View.{view_updates, view_update_branches}
-use Rattle.cif_image.specs.Received.{updates_without, update_branches_without}
+use Rattle.cif_built.specs.Received.{updates_without, update_branches_without}
 use Rattle.cif_form.proofs.expressions.+updates.Given as goal
 
 abbrev pub invariant-check_updates-loop-update : goal.invariant-check_updates-loop-update

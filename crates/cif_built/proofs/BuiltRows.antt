@@ -6,7 +6,7 @@ use Rattle.cif_ast.specs.declared.declarations.Class.TheVariants as class
 use Rattle.cif_source.specs.Source.{bool_type, no_type, syncs, event_decl, const_decl, input_decl, event_param, alg_param, location_param, decl_item, component_item, definition_item, instance_item, group_body, automaton_body, Source}
 use Rattle.cif_source.proofs.Terms.{word, single, dotted, event_use, edge_by, place, behaviour, instance_named, source_list}
 use Rattle.cif_source.proofs.Rows.{two_classes, counter, invariant, frames}
-use Rattle.cif_image.specs.Built.{has_no_channels, has_no_invariants, has_no_received, is_built}
+use Rattle.cif_built.specs.Built.{has_no_channels, has_no_invariants, has_no_received, is_built}
 use Rattle.cif_image.proofs.Trees.{channel, circular, classless, fixed, monitored, never, passing, reading, safe_division, swap}
 
 two_classes_is_built : is_built two_classes ≡ true

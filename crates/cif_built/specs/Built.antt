@@ -1,27 +1,9 @@
 -- The forms of a source that are built so far. Each test names one form that is not built yet, and is about bodies as written.
 use Rattle.std.specs.Prelude.{Bool, true, false, ◌&&◌}
 use Rattle.std.specs.List.{list_all}
-use Rattle.cif_source.specs.Source.{ChannelTree, no_type, void_type, value_type, syncs, sends, receives, UseTree, EdgeTree, LocationTree, DeclTree, event_decl, invariant_decl, ParamTree, event_param, SourceItem, definition_item, SourceBody, Source}
-use Rattle.cif_source.specs.Components.{body_of}
-use Rattle.cif_source.specs.Objects.{bodies, items_in, decls_in, locs_in}
-use Rattle.cif_image.specs.Received.{decl_without, location_without, item_without}
-
--- ---- tests of all bodies
-
-abbrev pub every_body : (SourceBody → Bool) → Source → Bool
-every_body test t = list_all (λ c. test (body_of c)) (bodies t)
-
-abbrev pub every_item : (SourceItem → Bool) → Source → Bool
-every_item test t = every_body (λ b. list_all test (items_in b)) t
-
-abbrev pub every_decl : (DeclTree → Bool) → Source → Bool
-every_decl test t = every_body (λ b. list_all test (decls_in b)) t
-
-abbrev pub every_location : (LocationTree → Bool) → Source → Bool
-every_location test t = every_body (λ b. list_all test (locs_in b)) t
-
-abbrev pub every_edge : (EdgeTree → Bool) → Source → Bool
-every_edge test t = every_location (λ l. list_all test l.edges) t
+use Rattle.cif_source.specs.Source.{ChannelTree, no_type, void_type, value_type, syncs, sends, receives, UseTree, DeclTree, event_decl, invariant_decl, ParamTree, event_param, SourceItem, definition_item, Source}
+use Rattle.cif_image.specs.Bodies.{every_item, every_decl, every_location, every_edge}
+use Rattle.cif_built.specs.Received.{decl_without, location_without, item_without}
 
 -- ---- channels
 
