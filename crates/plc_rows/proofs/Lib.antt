@@ -10,3 +10,4 @@ pub mod Whole
 pub mod InRange
 pub mod Lines
 pub mod Examples
+pub mod Digits

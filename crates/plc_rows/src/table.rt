@@ -1,6 +1,7 @@
 //! The output table.
 
-ghost use Rattle.std.specs.Prelude.{◌≡◌, ◌++◌, ℤ, List, map, length, All, IfOk, OnOk, decimal, codes};
+ghost use Rattle.std.specs.Prelude.{◌≡◌, ◌++◌, [], ◌∷◌, ℤ, List, map, length, All, IfOk, IfSome, OnOk, decimal, codes};
+ghost use Rattle.std.specs.Fmt.{signed_decimal};
 ghost use Rattle.st_ast.specs.Interface.{is_output, numbers_of};
 ghost use Rattle.st_ast.specs.declared.tree.StVar.{StVar};
 ghost use Rattle.plc_rows.specs.Table.{output_table, outputs_of, names_text, header_text, line_text, cells_text, value_text};
@@ -73,6 +74,33 @@ fn put_line(
     Ok(())
 }
 
+/// The decimal text of a number of one digit.
+#[inline(always)]
+#[tactic(auto, using(crate::proofs::Digits::digits))]
+fn digit(value: i64) -> Option<u8>
+    ensures { IfSome result (λ d. signed_decimal value ≡ d ∷ []) }
+{
+    if 0 <= value && value <= 9 {
+        Some(b'0' + value as u8)
+    } else {
+        None
+    }
+}
+
+/// Appends an integer.
+#[inline(always)]
+fn put_number(text: &mut Vec<u8>, value: i64) -> Result<(), Memory>
+    ensures { OnOk result (text.new.items ≡ text.old.items ++ signed_decimal value) }
+{
+    match digit(value) {
+        Some(digit) => {
+            text.push(digit)?;
+            Ok(())
+        }
+        None => put_int(text, value),
+    }
+}
+
 /// Appends a value of that type.
 fn put_value(text: &mut Vec<u8>, ty: StTy, value: i64) -> Result<(), Memory>
     ensures { OnOk result (text.new.items ≡ text.old.items ++ value_text ty value) }
@@ -83,6 +111,6 @@ fn put_value(text: &mut Vec<u8>, ty: StTy, value: i64) -> Result<(), Memory>
             text.extend_from_slice(word)?;
             Ok(())
         }
-        StTy::Lint | StTy::Range { lo: _, hi: _ } => put_int(text, value),
+        StTy::Lint | StTy::Range { lo: _, hi: _ } => put_number(text, value),
     }
 }

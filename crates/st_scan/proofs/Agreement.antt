@@ -1,5 +1,5 @@
 -- What statements do with their names resolved is what they do by name.
-use Rattle.std.proofs.Common.{◌≡◌, ℕ, zero, suc, ℤ, Bool, true, false, ◌&&◌, ◌||◌, List, refl, ap, ◌∙◌, pos, negsuc, sym, inl, inr}
+use Rattle.std.proofs.Common.{◌≡◌, ℕ, zero, suc, ℤ, Bool, true, false, ◌&&◌, ◌||◌, List, refl, ap, ◌∙◌, pos, negsuc, sym, inl, inr, length}
 use Rattle.std.specs.Prelude.{Result, Ok, Err, int_lt, int_le, nat_lt, nat_le, not, if◌then◌else◌}
 use Rattle.std.proofs.lemmas.Bool.{lt-ltb, le-ltb}
 use Rattle.std.proofs.lemmas.Bool.Decides.{leb_tells}
@@ -11,14 +11,17 @@ use Rattle.st_ast.specs.declared.tree.StVar.{StVar}
 use Rattle.st_ast.specs.Tree.{Expr, Exprs, Factors, Terms, truth, number, named, paren, negation, complement, product, sum, order, equal, all_of, odd_of, any_of, absolute, least, greatest, selection, no_exprs, exprs, no_factors, factors, no_terms, terms, Stm, Stms, Branches, Other, assign, choice, loop, no_stms, stms, no_branches, branches, no_other, other}
 use Rattle.st_ast.specs.Values.{Fault, Memory, of_bool, is_true, checked, with_value, both, holds, added, are_equal, multiplied, differ, value_of, product_on, sum_on, joined}
 use Rattle.st_ast.specs.Exec.{Outcome, Ended, Faulted, OutOfTurns, Act, and_then, take_turn, repeated, exec, exec_one, exec_other, exec_choice}
-use Rattle.st_ast.specs.Scan.{store_row, turns_of_scan, scan_of}
+use Rattle.st_ast.specs.Interface.{numbers_of}
+use Rattle.st_ast.specs.Scan.{is_input, turns_of_scan, scan_of}
 use Rattle.st_ast.specs.View.{view_stmts, view}
 use Rattle.st_ast.specs.declared.tree.Program.{Program}
 use Rattle.st_scan.specs.Placing.{of_order, of_equality, placed, placed_exprs, placed_factors, placed_terms, placed_stm, placed_stms, placed_branches, placed_other}
 use Rattle.st_scan.specs.PlacedTree as to
 use Rattle.st_scan.specs.PlacedTree.{Operator, of_factor, of_term}
-use Rattle.st_scan.specs.PlacedValues.{value_at, steps_at, applied}
+use Rattle.st_scan.specs.PlacedValues.{value_at, steps_at, applied, decided, with_truth}
 use Rattle.st_scan.specs.PlacedExec.{exec_at, exec_one_at, exec_choice_at}
+use Rattle.st_scan.specs.Stored.{stored}
+use Rattle.st_scan.proofs.Rows.{stored-row}
 
 after : {X : Type 0} (r : Result ℤ Fault) (fails : Fault → X) (f g : ℤ → X) → ((v : ℤ) → f v ≡ g v) → with_value r fails f ≡ with_value r fails g
 after (Ok v) fails f g same = same v
@@ -145,6 +148,11 @@ repeated-same (suc tests) c d a b p q n m =
     (λ v. if-same (is_true v) (take_turn a (repeated tests c a) n m) (Ended n m) (take_turn b (repeated tests d b) n m) (Ended n m)
     (take_turn-same a b (repeated tests c a) (repeated tests d b) q (repeated-same tests c d a b p q) n m) refl)
 
+-- a truth that is decided of a value is asked of it
+by-value : (r : Result ℤ Fault) (x y : Outcome) → with_truth (decided r) Faulted (λ b. if b then x else y) ≡ with_value r Faulted (λ v. if is_true v then x else y)
+by-value (Ok v) x y = refl
+by-value (Err f) x y = refl
+
 mutual
   pub exec-same : (vars : List StVar) (ss : Stms) (n : ℕ) (m : Memory) → exec_at (placed_stms vars ss) n m ≡ exec vars ss n m
   exec-same vars no_stms n m = refl
@@ -162,14 +170,14 @@ mutual
   exec_choice-same : (vars : List StVar) (bs : Branches) (f g : Act) → ((n : ℕ) (m : Memory) → f n m ≡ g n m) → (n : ℕ) (m : Memory) → exec_choice_at (placed_branches vars bs) f n m ≡ exec_choice vars bs g n m
   exec_choice-same vars no_branches f g same n m = same n m
   exec_choice-same vars (branches c ss bs) f g same n m =
-      with_value-same _ _ Faulted _ _ (value-same vars c m)
+      by-value (value_at (placed vars c) m) (exec_at (placed_stms vars ss) n m) (exec_choice_at (placed_branches vars bs) f n m)
+      ∙ with_value-same _ _ Faulted _ _ (value-same vars c m)
       (λ v. if-same (is_true v) _ _ _ _ (exec-same vars ss n m) (exec_choice-same vars bs f g same n m))
 
 -- what a machine executes is the scan of its program
-pub scan-same : (p : Program) (ps : to.Stms) (work memory : Memory) (row : List ℤ) → ps ≡ placed_stms p.vars (view_stmts p.body) → work ≡ store_row p.vars row memory → exec_at ps turns_of_scan work ≡ scan_of (view p) memory row
-scan-same p ps work memory row placed_is stored_is =
+pub scan-same : (p : Program) (ps : to.Stms) (inputs : List ℕ) (work memory : Memory) (row : List ℤ) → ps ≡ placed_stms p.vars (view_stmts p.body) → inputs ≡ numbers_of is_input 0 p.vars
+    → length memory ≡ length p.vars → work ≡ stored row inputs memory → exec_at ps turns_of_scan work ≡ scan_of (view p) memory row
+scan-same p ps inputs work memory row placed_is inputs_are long stored_is =
     ap (λ qs. exec_at qs turns_of_scan work) placed_is
     ∙ exec-same p.vars (view_stmts p.body) turns_of_scan work
-    ∙ ap (λ m. exec p.vars (view_stmts p.body) turns_of_scan m) stored_is
-
-pub ruleset scans = (scan-same)
+    ∙ ap (λ m. exec p.vars (view_stmts p.body) turns_of_scan m) (stored_is ∙ ap (λ ks. stored row ks memory) inputs_are ∙ stored-row p.vars row memory long)

@@ -4,3 +4,4 @@ pub mod Listed
 pub mod Loop
 pub mod Outputs
 pub mod Rows
+pub mod Truths

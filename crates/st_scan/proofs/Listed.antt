@@ -9,7 +9,9 @@ use Rattle.st_ast.specs.declared.tree.Stmt.{Stmt}
 use Rattle.st_ast.specs.declared.tree.StBranch.{StBranch}
 use Rattle.st_ast.specs.View.{view_expr, view_exprs, view_factor, view_factors, view_term, view_terms, view_stmt, view_stmts, view_branch, view_branches}
 use Rattle.st_scan.specs.PlacedTree as to
-use Rattle.st_scan.specs.PlacedView.{branches_of}
+use Rattle.st_scan.specs.PlacedTests.{expr_of, exprs_of}
+use Rattle.st_scan.specs.PlacedView.{branches_of, test_view, tests_view}
+use Rattle.st_scan.specs.declared.placed.PlacedTest.{PlacedTest}
 use Rattle.st_scan.specs.PlacedTree.{Operator, of_factor, of_term}
 use Rattle.st_scan.specs.Placing.{placed, placed_exprs, placed_factors, placed_terms, placed_stm, placed_stms, placed_branches}
 
@@ -67,3 +69,10 @@ each-branch vars (b ∷ bs) = ap (to.branches (placed vars (view_branch b).0) (p
 
 pub branches-placed : (vars : List StVar) (bs : List StBranch) (found : List (to.Expr × to.Stms)) → found ≡ map (branch_placed vars) bs → branches_of found ≡ placed_branches vars (view_branches bs)
 branches-placed vars bs found is = ap branches_of is ∙ each-branch vars bs
+
+abbrev pub test_expr : PlacedTest → to.Expr
+test_expr t = expr_of (test_view t)
+
+pub each-test : (ts : List PlacedTest) → exprs_of (tests_view ts) ≡ map test_expr ts
+each-test [] = refl
+each-test (t ∷ ts) = ap (λ es. test_expr t ∷ es) (each-test ts)

@@ -8,7 +8,7 @@ use Rattle.st_scan.specs.declared.error.ScanErr.{ScanErr}
 use Rattle.st_scan.specs.declared.error.ScanErr.TheVariants.{Overflow, ZeroDivide, SubrangeLeft, Budget}
 use Rattle.st_scan.specs.Endings.{stopped, outcome_of}
 use Rattle.st_scan.specs.PlacedTree.{Stm, Stms, Branches, assign, choice, loop, no_stms, stms, no_branches, branches}
-use Rattle.st_scan.specs.PlacedValues.{value_at}
+use Rattle.st_scan.specs.PlacedValues.{value_at, decided, with_truth}
 use Rattle.st_scan.specs.PlacedExec.{store_at, exec_at, exec_one_at, exec_choice_at}
 
 -- an outcome that leaves at most so many turns
@@ -34,6 +34,10 @@ within-and_then OutOfTurns f n h s = tt
 within-with_value : (r : Result ℤ Fault) (go : ℤ → Outcome) (n : ℕ) → ((v : ℤ) → IsWithin n (go v)) → IsWithin n (with_value r Faulted go)
 within-with_value (Ok v) go n h = h v
 within-with_value (Err f) go n h = tt
+
+within-with_truth : (r : Result Bool Fault) (go : Bool → Outcome) (n : ℕ) → ((b : Bool) → IsWithin n (go b)) → IsWithin n (with_truth r Faulted go)
+within-with_truth (Ok b) go n h = h b
+within-with_truth (Err f) go n h = tt
 
 within-if : (b : Bool) (x y : Outcome) (n : ℕ) → IsWithin n x → IsWithin n y → IsWithin n (if b then x else y)
 within-if true x y n h k = h
@@ -66,8 +70,8 @@ mutual
   exec_choice_at-shrinks : (bs : Branches) (last : Act) → Shrinks last → Shrinks (λ n m. exec_choice_at bs last n m)
   exec_choice_at-shrinks no_branches last s n m = s n m
   exec_choice_at-shrinks (branches c ss bs) last s n m =
-      within-with_value (value_at c m) _ n
-      (λ v. within-if (is_true v) (exec_at ss n m) (exec_choice_at bs last n m) n (exec_at-shrinks ss n m) (exec_choice_at-shrinks bs last s n m))
+      within-with_truth (decided (value_at c m)) _ n
+      (λ b. within-if b (exec_at ss n m) (exec_choice_at bs last n m) n (exec_at-shrinks ss n m) (exec_choice_at-shrinks bs last s n m))
 
 -- where at most n turns are left, only those matter to what follows
 and_then-same : (o : Outcome) (n : ℕ) (f g : Act) → IsWithin n o → ((k : ℕ) (m : Memory) → k ≤ n → f k m ≡ g k m) → and_then o f ≡ and_then o g
@@ -91,43 +95,48 @@ stays-stopped ZeroDivide f = refl
 stays-stopped (SubrangeLeft k v) f = refl
 stays-stopped Budget f = refl
 
+-- a truth that is asked of a value, and of what was decided of it
+by-truth : (r : Result ℤ Fault) (x y : Outcome) → with_value r Faulted (λ v. if is_true v then x else y) ≡ with_truth (decided r) Faulted (λ b. if b then x else y)
+by-truth (Ok v) x y = refl
+by-truth (Err f) x y = refl
+
 -- The equations of a loop.
-pub loop-fault : (cond : Memory → Result ℤ Fault) (body : Act) (n : ℕ) (m : Memory) (f : Fault) → cond m ≡ Err f → repeated (suc n) cond body n m ≡ Faulted f
+loop-by-truth : (cond : Memory → Result ℤ Fault) (body : Act) (n : ℕ) (m : Memory) (r : Result Bool Fault) → decided (cond m) ≡ r
+    → repeated (suc n) cond body n m ≡ with_truth r Faulted (λ b. if b then take_turn body (repeated n cond body) n m else Ended n m)
 unfolding repeated
-loop-fault cond body n m f is = ap (λ r. with_value r Faulted (λ w. if is_true w then take_turn body (repeated n cond body) n m else Ended n m)) is
+loop-by-truth cond body n m r is =
+    by-truth (cond m) (take_turn body (repeated n cond body) n m) (Ended n m)
+    ∙ ap (λ q. with_truth q Faulted (λ b. if b then take_turn body (repeated n cond body) n m else Ended n m)) is
 
-pub loop-idle : (cond : Memory → Result ℤ Fault) (body : Act) (n : ℕ) (m : Memory) (v : ℤ) → cond m ≡ Ok v → is_true v ≡ false → repeated (suc n) cond body n m ≡ Ended n m
-unfolding repeated
-loop-idle cond body n m v is false_is =
-    ap (λ r. with_value r Faulted (λ w. if is_true w then take_turn body (repeated n cond body) n m else Ended n m)) is
-    ∙ ap (λ b. if b then take_turn body (repeated n cond body) n m else Ended n m) false_is
+pub loop-fault : (cond : Memory → Result ℤ Fault) (body : Act) (n : ℕ) (m : Memory) (f : Fault) → decided (cond m) ≡ Err f → repeated (suc n) cond body n m ≡ Faulted f
+loop-fault cond body n m f is = loop-by-truth cond body n m (Err f) is
 
-loop-busy : (cond : Memory → Result ℤ Fault) (body : Act) (n : ℕ) (m : Memory) (v : ℤ) → cond m ≡ Ok v → is_true v ≡ true → repeated (suc n) cond body n m ≡ take_turn body (repeated n cond body) n m
-unfolding repeated
-loop-busy cond body n m v is true_is =
-    ap (λ r. with_value r Faulted (λ w. if is_true w then take_turn body (repeated n cond body) n m else Ended n m)) is
-    ∙ ap (λ b. if b then take_turn body (repeated n cond body) n m else Ended n m) true_is
+pub loop-idle : (cond : Memory → Result ℤ Fault) (body : Act) (n : ℕ) (m : Memory) → decided (cond m) ≡ Ok false → repeated (suc n) cond body n m ≡ Ended n m
+loop-idle cond body n m is = loop-by-truth cond body n m (Ok false) is
 
-pub loop-out : (cond : Memory → Result ℤ Fault) (body : Act) (n : ℕ) (m : Memory) (v : ℤ) → cond m ≡ Ok v → is_true v ≡ true → n ≡ 0 → repeated (suc n) cond body n m ≡ OutOfTurns
-loop-out cond body zero m v is true_is e = loop-busy cond body zero m v is true_is
-loop-out cond body (suc n) m v is true_is e = absurd (omega arith)
+loop-busy : (cond : Memory → Result ℤ Fault) (body : Act) (n : ℕ) (m : Memory) → decided (cond m) ≡ Ok true → repeated (suc n) cond body n m ≡ take_turn body (repeated n cond body) n m
+loop-busy cond body n m is = loop-by-truth cond body n m (Ok true) is
+
+pub loop-out : (cond : Memory → Result ℤ Fault) (body : Act) (n : ℕ) (m : Memory) → decided (cond m) ≡ Ok true → n ≡ 0 → repeated (suc n) cond body n m ≡ OutOfTurns
+loop-out cond body zero m is e = loop-busy cond body zero m is
+loop-out cond body (suc n) m is e = absurd (omega arith)
 
 -- one more turn of a body of statements, and the loop as from its beginning
-pub loop-turn : (cond : Memory → Result ℤ Fault) (ss : Stms) (n : ℕ) (m : Memory) (v : ℤ) → cond m ≡ Ok v → is_true v ≡ true → 0 < n
+pub loop-turn : (cond : Memory → Result ℤ Fault) (ss : Stms) (n : ℕ) (m : Memory) → decided (cond m) ≡ Ok true → 0 < n
     → repeated (suc n) cond (λ l k. exec_at ss l k) n m ≡ and_then (exec_at ss (n - 1) m) (λ l k. repeated (suc l) cond (λ i j. exec_at ss i j) l k)
-loop-turn cond ss zero m v is true_is some = absurd (omega arith)
-loop-turn cond ss (suc n) m v is true_is some =
+loop-turn cond ss zero m is some = absurd (omega arith)
+loop-turn cond ss (suc n) m is some =
     let less : suc n - 1 ≡ n = omega arith in
-    loop-busy cond (λ l k. exec_at ss l k) (suc n) m v is true_is
+    loop-busy cond (λ l k. exec_at ss l k) (suc n) m is
     ∙ and_then-same (exec_at ss n m) n _ (λ l k. repeated (suc l) cond (λ i j. exec_at ss i j) l k) (exec_at-shrinks ss n m)
     (λ k x h. repeated-enough (suc n) (suc k) cond (λ i j. exec_at ss i j) (exec_at-shrinks ss) k x (omega arith) (omega arith))
     ∙ ap (λ j. and_then (exec_at ss j m) (λ l k. repeated (suc l) cond (λ i j. exec_at ss i j) l k)) (sym less)
 
 -- a body that is stopped stops its loop
-pub loop-stopped : (cond : Memory → Result ℤ Fault) (ss : Stms) (n : ℕ) (m k : Memory) (v : ℤ) (e : ScanErr) → cond m ≡ Ok v → is_true v ≡ true → 0 < n
+pub loop-stopped : (cond : Memory → Result ℤ Fault) (ss : Stms) (n : ℕ) (m k : Memory) (e : ScanErr) → decided (cond m) ≡ Ok true → 0 < n
     → exec_at ss (n - 1) m ≡ outcome_of None e k → repeated (suc n) cond (λ i j. exec_at ss i j) n m ≡ outcome_of None e k
-loop-stopped cond ss n m k v e is true_is some stops =
-    loop-turn cond ss n m v is true_is some
+loop-stopped cond ss n m k e is some stops =
+    loop-turn cond ss n m is some
     ∙ ap (λ o. and_then o (λ i j. repeated (suc i) cond (λ x y. exec_at ss x y) i j)) stops
     ∙ stays-stopped e _
 

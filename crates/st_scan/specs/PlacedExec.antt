@@ -1,10 +1,10 @@
 -- Helper of the code: what statements do whose names are resolved, as those of `st_ast`.
 use Rattle.std.specs.Prelude.{ℕ, suc, ℤ, slice_set, if◌then◌else◌}
-use Rattle.st_ast.specs.Values.{subrange_left, is_true, with_value}
+use Rattle.st_ast.specs.Values.{subrange_left, with_value}
 use Rattle.st_ast.specs.Exec.{Ended, Faulted, Act, and_then, is_within, repeated}
 use Rattle.st_ast.specs.declared.tree.StTy.{StTy}
 use Rattle.st_scan.specs.PlacedTree.{Stm, Stms, Branches, assign, choice, loop, no_stms, stms, no_branches, branches}
-use Rattle.st_scan.specs.PlacedValues.{value_at}
+use Rattle.st_scan.specs.PlacedValues.{value_at, decided, with_truth}
 
 -- a value outside the subrange of its variable is a fault
 abbrev pub store_at : ℕ → StTy → ℤ → Act
@@ -24,4 +24,4 @@ abbrev mutual
   pub exec_choice_at : Branches → Act → Act
   exec_choice_at no_branches last n m = last n m
   exec_choice_at (branches c ss bs) last n m =
-      with_value (value_at c m) Faulted (λ v. if is_true v then exec_at ss n m else exec_choice_at bs last n m)
+      with_truth (decided (value_at c m)) Faulted (λ b. if b then exec_at ss n m else exec_choice_at bs last n m)

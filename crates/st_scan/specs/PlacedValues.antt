@@ -60,3 +60,13 @@ abbrev mutual
   steps_at z no_steps m = Ok z
   steps_at z (steps f e ss) m =
       with_value (value_at e m) (λ e. Err e) (λ x. with_value (applied f z x) (λ e. Err e) (λ y. steps_at y ss m))
+
+-- whether a value is TRUE
+abbrev pub decided : Result ℤ Fault → Result Bool Fault
+decided (Ok v) = Ok (is_true v)
+decided (Err f) = Err f
+
+-- goes on with a truth
+abbrev pub with_truth : {X : Type 0} → Result Bool Fault → (Fault → X) → (Bool → X) → X
+with_truth (Ok b) fails go = go b
+with_truth (Err f) fails go = fails f

@@ -12,6 +12,11 @@ use Rattle.st_scan.specs.declared.placed.PlacedExpr.TheFolds.{fold-PlacedExpr, f
 use Rattle.st_scan.specs.declared.placed.PlacedForm.{PlacedForm}
 use Rattle.st_scan.specs.declared.placed.PlacedTerm.{PlacedTerm}
 use Rattle.st_scan.specs.declared.placed.PlacedFactor.{PlacedFactor}
+use Rattle.st_scan.specs.PlacedTests.{Test, Tests, compare, flag, contrary, all_of, any_of, no_tests, tests, expr_of}
+use Rattle.st_scan.specs.declared.placed.PlacedTest.{PlacedTest}
+use Rattle.st_scan.specs.declared.placed.PlacedTest.TheOpen.{PlacedTest-F}
+use Rattle.st_scan.specs.declared.placed.PlacedTest.TheOpen as T
+use Rattle.st_scan.specs.declared.placed.PlacedTest.TheFolds.{fold-PlacedTest}
 use Rattle.st_scan.specs.declared.placed.PlacedCond.{PlacedCond}
 use Rattle.st_scan.specs.declared.placed.PlacedCond.TheVariants as cond
 use Rattle.st_scan.specs.declared.placed.PlacedStmt.{PlacedStmt}
@@ -61,8 +66,25 @@ factors_view fs = steps_of (map factor_view fs)
 abbrev pub operands_view : Join → List PlacedExpr → Steps
 operands_view j es = same_steps (of_join j) (map expr_view es)
 
+abbrev pub tests_of : List Test → Tests
+tests_of [] = no_tests
+tests_of (t ∷ ts) = tests t (tests_of ts)
+
+abbrev pub test_step : PlacedTest-F Test → Test
+test_step (T.Compare r holds turned k z) = compare r holds turned k z
+test_step (T.Flag turned k) = flag turned k
+test_step (T.Not t) = contrary t
+test_step (T.All ts) = all_of (tests_of ts)
+test_step (T.Any ts) = any_of (tests_of ts)
+
+abbrev pub test_view : PlacedTest → Test
+test_view = fold-PlacedTest _ test_step
+
+abbrev pub tests_view : List PlacedTest → Tests
+tests_view ts = tests_of (map test_view ts)
+
 abbrev pub cond_view : PlacedCond → Expr
-cond_view (cond.Test r holds k z) = pair (placed k) (op.is r holds) (number z)
+cond_view (cond.Test t) = expr_of (test_view t)
 cond_view (cond.Value e) = expr_view e
 
 abbrev pub branches_of : List (Expr × Stms) → Branches

@@ -3,7 +3,7 @@
 ghost use Rattle.std.specs.Prelude.{◌≡◌, ◌<◌, ◌^◌, ℕ, length, slice_get, IfOk, OnOk, OnErr, IfErr, map};
 ghost use Rattle.st_ast.specs.Exec.{Ended};
 ghost use Rattle.st_ast.specs.Interface.{is_output, numbers_of, output_values};
-ghost use Rattle.st_ast.specs.Scan.{value_of_literal, first_of, start_memory, is_input, store_row, scan_of};
+ghost use Rattle.st_ast.specs.Scan.{value_of_literal, first_of, start_memory, scan_of};
 ghost use Rattle.st_ast.specs.View.{view, view_stmts};
 ghost use Rattle.st_scan.specs.Standing.{Standing};
 ghost use Rattle.st_scan.specs.Endings.{stopped, outcome_of};
@@ -14,8 +14,9 @@ use crate::error::ScanErr;
 use crate::placed::PlacedStmt;
 use crate::resolving::resolve_stmts;
 use crate::statements::run;
+use crate::storing::store;
 use cif_base::{Items, Memory};
-use st_ast::{StClass, StLit, StTy, StVar};
+use st_ast::{StLit, StTy, StVar};
 use st_check::Checked;
 use std::alloc::Global;
 use std::marker::Model;
@@ -168,30 +169,7 @@ fn first_values(alloc: Global, vars: &[StVar]) -> Result<Vec<i64>, Memory>
     Ok(memory)
 }
 
-fn reads_row(class: StClass) -> bool
-    ensures { result ≡ is_input class }
-{
-    matches!(class, StClass::Input)
-}
-
-/// Writes the memory to `work`, where the inputs take over the numbers of the row as far as it goes.
-fn store(vars: &[StVar], row: &[i64], memory: &[i64], work: &mut [i64])
-    requires memory { length memory.now ≡ length vars.now }
-    requires work { length work.old ≡ length vars.now }
-    ensures { work.new ≡ store_row vars.now row.now memory.now }
-{
-    let mut next = 0;
-    for (i, var) in vars.iter().enumerate() {
-        work[i] = memory[i];
-        if reads_row(var.class) && next < row.len() {
-            work[i] = row[next];
-            next += 1;
-        }
-    }
-}
-
 /// Executes a program once, whose statements with their names resolved are `body`. The memory after it is left in `work`.
-#[tactic(auto, using(crate::proofs::Agreement::scans))]
 fn execute(
     program: &Checked,
     body: &[PlacedStmt],
@@ -205,6 +183,6 @@ fn execute(
     requires work { length work.old ≡ length program.now.vars }
     ensures { scan_of (view program.now) memory.now row.now ≡ outcome_of result why.new work.new }
 {
-    store(program.program().vars.as_slice(), row, memory, work);
+    store(program.inputs(), row, memory, work);
     run(body, work, TURNS, why)
 }

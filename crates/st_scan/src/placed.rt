@@ -92,15 +92,33 @@ pub struct PlacedFactor {
     pub value: PlacedExpr,
 }
 
-/// A condition. What programs have most, a variable beside a number, stands in place.
+/// A test of variables, which has a truth in every memory, so that a test that decides spares the others. `turned` says that
+/// it stands under `NOT`.
+#[cycle(placed_tests)]
 #[derive(Debug, Drop)]
-pub enum PlacedCond {
-    Test {
+pub enum PlacedTest {
+    /// A variable beside a number.
+    Compare {
         is: Relation,
         holds: bool,
+        turned: bool,
         place: u32,
         number: i64,
     },
+    /// A BOOL.
+    Flag {
+        turned: bool,
+        place: u32,
+    },
+    Not(Boxed<PlacedTest>),
+    All(Items<PlacedTest>),
+    Any(Items<PlacedTest>),
+}
+
+/// A condition.
+#[derive(Debug, Drop)]
+pub enum PlacedCond {
+    Test(PlacedTest),
     Value(PlacedExpr),
 }
 

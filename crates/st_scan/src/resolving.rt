@@ -6,14 +6,15 @@ ghost use Rattle.st_ast.specs.Names.{place_of};
 ghost use Rattle.st_ast.specs.Values.{of_bool};
 ghost use Rattle.st_ast.specs.View.{view_expr, view_exprs, view_factors, view_terms, view_stmt, view_stmts, view_branches};
 ghost use Rattle.st_scan.specs.PlacedTree as to;
-ghost use Rattle.st_scan.specs.PlacedView.{expr_view, form_view, terms_view, factors_view, operands_view, cond_view, stmt_view, stmts_view, branches_view};
+ghost use Rattle.st_scan.specs.PlacedView.{expr_view, form_view, terms_view, factors_view, operands_view, stmt_view, stmts_view, branches_view};
 ghost use Rattle.st_scan.specs.Placing as placing;
 ghost use Rattle.st_scan.specs.Placing.{placed, placed_exprs, placed_factors, placed_terms, placed_stm, placed_stms, placed_branches};
 
 use crate::placed::{
-    Join, PlacedBranch, PlacedCond, PlacedExpr, PlacedFactor, PlacedForm, PlacedStmt, PlacedTerm,
-    Relation, Single,
+    Join, PlacedBranch, PlacedExpr, PlacedFactor, PlacedForm, PlacedStmt, PlacedTerm, Relation,
+    Single,
 };
+use crate::testing::condition;
 use crate::values::number;
 use cif_base::{Boxed, Items, Memory};
 use st_ast::{StBranch, StExpr, StFactor, StOrder, StTerm, StTy, StVar, Stmt};
@@ -114,29 +115,6 @@ fn select(
         then,
     };
     formed(alloc, form)
-}
-
-/// An expression as a condition.
-fn condition(expr: PlacedExpr) -> PlacedCond
-    ensures { cond_view result ≡ expr_view expr }
-{
-    if let PlacedExpr::Form(form) = &expr
-        && let PlacedForm::Related {
-            is,
-            holds,
-            first: PlacedExpr::Place(place),
-            second: PlacedExpr::Number(number),
-        } = form.get()
-    {
-        let (is, holds, place, number) = (*is, *holds, *place, *number);
-        return PlacedCond::Test {
-            is,
-            holds,
-            place,
-            number,
-        };
-    }
-    PlacedCond::Value(expr)
 }
 
 #[cycle(resolve_expressions)]
@@ -283,7 +261,7 @@ fn resolve_stmt(alloc: Global, program: &Checked, stmt: &Stmt) -> Result<Boxed<P
         }
         Stmt::While { cond, body } => {
             let body = resolve_stmts(alloc, program, body.as_slice())?;
-            let cond = condition(resolve_expr(alloc, program, cond)?);
+            let cond = condition(alloc, resolve_expr(alloc, program, cond)?)?.into_inner();
             Boxed::new(alloc, PlacedStmt::While { cond, body })
         }
     }
@@ -316,7 +294,7 @@ fn resolve_branches(
     let mut found = Vec::with_capacity(alloc, branches.len())?;
     for branch in branches {
         let body = resolve_stmts(alloc, program, branch.body.as_slice())?;
-        let cond = condition(resolve_expr(alloc, program, &branch.cond)?);
+        let cond = condition(alloc, resolve_expr(alloc, program, &branch.cond)?)?.into_inner();
         found.push(PlacedBranch { cond, body })?;
     }
     Ok(Items::from_vec(found))

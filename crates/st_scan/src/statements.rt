@@ -9,9 +9,11 @@ ghost use Rattle.st_scan.specs.PlacedValues.{value_at};
 ghost use Rattle.st_scan.specs.PlacedView.{cond_view, stmt_view, stmts_view, branches_view};
 ghost use Rattle.st_scan.specs.Told.{fault_of};
 
+use crate::conditions::test;
 use crate::error::ScanErr;
 use crate::placed::{PlacedBranch, PlacedCond, PlacedStmt};
-use crate::values::{ValueFault, is_set, test, value};
+use crate::storing::put;
+use crate::values::{ValueFault, value};
 use st_ast::StTy;
 
 /// What became of the branches of an IF: the turns that the one that was taken left, none was taken, or the scan ended.
@@ -53,9 +55,7 @@ fn assign(
         };
         return None;
     }
-    if (place as usize) < memory.len() {
-        memory[place as usize] = value;
-    }
+    put(memory, place, value);
     Some(turns)
 }
 
@@ -124,7 +124,7 @@ fn choose(branches: &[PlacedBranch], memory: &mut [i64], turns: u32, why: &mut S
             *why = ScanErr::from(fault);
             return Chosen::Stopped;
         };
-        if is_set(truth) {
+        if truth {
             return match run(branch.body.as_slice(), memory, turns, why) {
                 Some(left) => Chosen::Branch(left),
                 None => Chosen::Stopped,
@@ -154,7 +154,7 @@ fn repeat(
         let Some(truth) = test(cond, memory, &mut fault) else {
             return stop(fault, why);
         };
-        if !is_set(truth) {
+        if !truth {
             return Some(left);
         }
         if left == 0 {

@@ -5,12 +5,10 @@ ghost use Rattle.std.specs.Prelude.{◌≡◌, slice_index_or, pos, Ok};
 ghost use Rattle.st_ast.specs.Values.{of_bool, is_true, same_number, divided, remainder};
 ghost use Rattle.st_scan.specs.PlacedTree.{of_term, of_factor, of_extreme, joined_none};
 ghost use Rattle.st_scan.specs.PlacedValues.{value_at, steps_at, applied_to, applied, related, joined_with};
-ghost use Rattle.st_scan.specs.PlacedView.{expr_view, form_view, terms_view, factors_view, operands_view, cond_view};
+ghost use Rattle.st_scan.specs.PlacedView.{expr_view, form_view, terms_view, factors_view, operands_view};
 ghost use Rattle.st_scan.specs.Told.{told, or_overflow};
 
-use crate::placed::{
-    Join, PlacedCond, PlacedExpr, PlacedFactor, PlacedForm, PlacedTerm, Relation, Single,
-};
+use crate::placed::{Join, PlacedExpr, PlacedFactor, PlacedForm, PlacedTerm, Relation, Single};
 use st_ast::StMul;
 
 /// Why an expression has no value: a result outside 64 bits, or a divisor 0.
@@ -52,7 +50,7 @@ fn extreme(larger: bool, x: i64, y: i64) -> i64
 
 /// Whether one number stands so to another, or whether it doesn't.
 #[inline(always)]
-fn is_so(relation: Relation, holds: bool, x: i64, y: i64) -> bool
+pub fn is_so(relation: Relation, holds: bool, x: i64, y: i64) -> bool
     ensures { result ≡ related relation holds x y }
 {
     let so = match relation {
@@ -153,7 +151,7 @@ fn of_none(join: Join) -> bool
 
 /// The number at a place, and 0 beyond the memory.
 #[inline(always)]
-fn read(memory: &[i64], place: u32) -> i64
+pub fn read(memory: &[i64], place: u32) -> i64
     ensures { result ≡ slice_index_or memory.now place (pos 0) }
 {
     match memory.get(place as usize) {
@@ -278,20 +276,4 @@ fn joined(
         so_far = join_with(join, so_far, is_set(x));
     }
     Some(number(so_far))
-}
-
-/// The value of a condition, or why it has none.
-#[inline(always)]
-pub fn test(cond: &PlacedCond, memory: &[i64], fault: &mut ValueFault) -> Option<i64>
-    ensures { told result fault.new ≡ value_at (cond_view cond.now) memory.now }
-{
-    match cond {
-        PlacedCond::Test {
-            is,
-            holds,
-            place,
-            number: y,
-        } => Some(number(is_so(*is, *holds, read(memory, *place), *y))),
-        PlacedCond::Value(expr) => value(expr, memory, fault),
-    }
 }
