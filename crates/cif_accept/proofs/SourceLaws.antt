@@ -64,6 +64,7 @@ module _ (text name : Text) where
 
   inst_ends : (e : InstErr) → HasRule (SourceDue text) (inst_rule e) → SourceEnds text (inst_status_of e) name
   inst_ends (inst.AlphabetLacks at) h = h
+  inst_ends (inst.RoleMixed at) h = h
   inst_ends (inst.TooManyObjects count) h = h
   inst_ends (inst.ConstantRange at) h = h
   inst_ends (inst.TooLarge nodes depth) h = h
@@ -124,6 +125,7 @@ module _ (text : Text) (t : Built) (reads : ReadsAsBuilt text t) where
   refused_reads_none (refusal.AssignedTwice at) h = source_keeps (rule.assigned_twice at) h
   refused_reads_none (refusal.Equations at count) h = source_keeps (rule.equations at count) h
   refused_reads_none (refusal.AlphabetLacks at) h = source_keeps (rule.alphabet_lacks at) h
+  refused_reads_none (refusal.RoleMixed at) h = source_keeps (rule.role_mixed at) h
   refused_reads_none (refusal.TooManyObjects count) h = source_keeps (rule.too_many_objects count) h
   refused_reads_none (refusal.ConstantRange at) h = source_keeps (rule.constant_range at) h
   refused_reads_none (refusal.AlgCycle number) h = source_keeps (rule.alg_cycle number) h

@@ -48,6 +48,7 @@ type_status_of type.Memory = status.Memory
 
 abbrev pub inst_status_of : InstErr → Status
 inst_status_of (inst.AlphabetLacks at) = status.Refused (refusal.AlphabetLacks at)
+inst_status_of (inst.RoleMixed at) = status.Refused (refusal.RoleMixed at)
 inst_status_of (inst.TooManyObjects count) = status.Refused (refusal.TooManyObjects count)
 inst_status_of (inst.ConstantRange at) = status.Refused (refusal.ConstantRange at)
 inst_status_of (inst.TooLarge nodes depth) = status.Refused (refusal.TooLarge nodes depth)

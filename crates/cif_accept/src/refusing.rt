@@ -68,6 +68,7 @@ fn inst_status(error: InstErr) -> Status
 {
     let why = match error {
         InstErr::AlphabetLacks { at } => Refusal::AlphabetLacks { at },
+        InstErr::RoleMixed { at } => Refusal::RoleMixed { at },
         InstErr::TooManyObjects { count } => Refusal::TooManyObjects { count },
         InstErr::ConstantRange { at } => Refusal::ConstantRange { at },
         InstErr::TooLarge { nodes, depth } => Refusal::TooLarge { nodes, depth },

@@ -6,7 +6,8 @@ use Rattle.cif_ast.specs.declared.declarations.Class.TheVariants as class
 use Rattle.cif_source.specs.Source.{bool_type, no_type, syncs, event_decl, const_decl, input_decl, event_param, alg_param, location_param, decl_item, component_item, definition_item, instance_item, group_body, automaton_body, Source}
 use Rattle.cif_source.proofs.Terms.{word, single, dotted, event_use, edge_by, place, behaviour, instance_named, source_list}
 use Rattle.cif_source.proofs.Rows.{two_classes, counter, invariant, frames}
-use Rattle.cif_built.specs.Built.{has_no_channels, has_no_invariants, has_no_received, is_built}
+use Rattle.cif_built.specs.Built.{has_no_invariants, is_built}
+use Rattle.cif_built.proofs.Trees.{signal, delivering}
 use Rattle.cif_image.proofs.Trees.{channel, circular, classless, fixed, monitored, never, passing, reading, safe_division, swap}
 
 two_classes_is_built : is_built two_classes ≡ true
@@ -93,25 +94,19 @@ reading_has_invariants = refl
 reading_is_not_built : is_built reading ≡ false
 reading_is_not_built = refl
 
--- channels
-channel_has_a_channel : has_no_channels channel ≡ false
-channel_has_a_channel = refl
+-- channels: with a value, without one, and as a parameter
+channel_is_built : is_built channel ≡ true
+channel_is_built = refl
 
-channel_receives : has_no_received channel ≡ false
-channel_receives = refl
+signal_is_built : is_built signal ≡ true
+signal_is_built = refl
 
-channel_is_not_built : is_built channel ≡ false
-channel_is_not_built = refl
+delivering_is_built : is_built delivering ≡ true
+delivering_is_built = refl
 
--- a parameter that is a channel, and a `?` as an argument
-passing_has_a_channel : has_no_channels passing ≡ false
-passing_has_a_channel = refl
-
-passing_receives : has_no_received passing ≡ false
-passing_receives = refl
-
-passing_is_not_built : is_built passing ≡ false
-passing_is_not_built = refl
+-- so is a `?` where nothing is received, which breaks the rule on kinds
+passing_is_built : is_built passing ≡ true
+passing_is_built = refl
 
 -- invariants
 invariant_has_invariants : has_no_invariants invariant ≡ false

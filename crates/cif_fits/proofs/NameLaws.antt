@@ -5,6 +5,7 @@ use Rattle.std.specs.Prelude.{◌&&◌, ◌||◌, not, nat_lt, slice_get, int_le
 use Rattle.std.specs.List.{list_any, position_or_len, cons_option}
 use Rattle.std.proofs.lemmas.Bool.Decides.{nat_tests}
 use Rattle.std.proofs.lemmas.Cmp.{nat_list_eq_equiv}
+use Rattle.cif_base.specs.declared.types.Ty.{Ty}
 use Rattle.cif_ast.specs.Tree.{Tree}
 use Rattle.cif_ast.specs.Throughout.{HoldsInTree}
 use Rattle.cif_ast.specs.SmallNumbers.{small_parts}
@@ -45,7 +46,7 @@ use Rattle.cif_written.proofs.Bodies.{components-written}
 use Rattle.cif_written.proofs.DemandLaws.{demands-met}
 use Rattle.cif_written.proofs.ArgumentLaws.{given-by, parameter-argument}
 use Rattle.cif_written.proofs.NumberLaws.{stands-at-number}
-use Rattle.cif_fits.specs.Kinds.{net_kind, AreMet}
+use Rattle.cif_fits.specs.Kinds.{net_kind, AreMet, IsCarried, IsReceived}
 use Rattle.cif_fits.proofs.KindLaws.{texts-self, kind-self}
 use Rattle.cif_fits.proofs.ExprLaws.{is_valued, expr-fits}
 use Rattle.cif_fits.proofs.Places.{HoldsOfNames, HoldsOfThings, HoldsOfParameters, holds-of-names}
@@ -83,6 +84,10 @@ mapped-member f x (z ∷ xs) y m e =
       | inl w ↦ subst (λ o. Member y (cons_option o (filter_map f xs))) (sym (ap f (sym w) ∙ e)) (inl refl)
       | inr w ↦ cons-later (f z) (filter_map f xs) y (mapped-member f x xs y w e)
     ]
+
+-- where no `?` has a kind
+pub nothing-received : (n : Net) (r : Option Ty) → IsCarried n r → IsReceived n no_kind r
+nothing-received n r carried = record { takes = λ some. absurd (some refl); carried = carried }
 
 -- ---- what a name becomes
 
@@ -163,30 +168,30 @@ module _ (t : Source) (s : IsSound t) where
         → stored_fits (net_kind (type_kind c x)) (slice_get (map net_stored (of_sort sort t)) (number_in (of_sort sort (specification_of c)) c n.text)) ≡ true
     stored-there sort is fits = ap (stored_fits (net_kind (type_kind c x))) (number-leads sort net_stored c m d k is n.text named) ∙ fits
 
-  module _ (c : Component) (m : Member c (components_of t)) (x : TypeTree) (n : Ident) (v : is_valued (type_kind c x) ≡ true) where
-    pub variable-fits : (e : Option Tree) → Member (disc_decl x n e) (decls_of c) → form_fits whole_net None (net_kind (type_kind c x)) (net_object (c, declared (disc_decl x n e))) ≡ true
+  module _ (received : Option Ty) (c : Component) (m : Member c (components_of t)) (x : TypeTree) (n : Ident) (v : is_valued (type_kind c x) ≡ true) where
+    pub variable-fits : (e : Option Tree) → Member (disc_decl x n e) (decls_of c) → form_fits whole_net received (net_kind (type_kind c x)) (net_object (c, declared (disc_decl x n e))) ≡ true
     variable-fits e k =
         stored-there c m x n (disc_decl x n e) k (inl refl) (nat_list_eq_equiv.refl n.text) v is_variable refl
         (kind-stays c m x n (disc_decl x n e) k (inl refl) (nat_list_eq_equiv.refl n.text) v)
 
-    pub input-fits : Member (input_decl x n) (decls_of c) → form_fits whole_net None (net_kind (type_kind c x)) (net_object (c, declared (input_decl x n))) ≡ true
+    pub input-fits : Member (input_decl x n) (decls_of c) → form_fits whole_net received (net_kind (type_kind c x)) (net_object (c, declared (input_decl x n))) ≡ true
     input-fits k =
         stored-there c m x n (input_decl x n) k (inl refl) (nat_list_eq_equiv.refl n.text) v is_input refl
         (kind-stays c m x n (input_decl x n) k (inl refl) (nat_list_eq_equiv.refl n.text) v)
 
-    pub alg-fits : (e : Option Tree) → Member (alg_decl x n e) (decls_of c) → form_fits whole_net None (net_kind (type_kind c x)) (net_object (c, declared (alg_decl x n e))) ≡ true
+    pub alg-fits : (e : Option Tree) → Member (alg_decl x n e) (decls_of c) → form_fits whole_net received (net_kind (type_kind c x)) (net_object (c, declared (alg_decl x n e))) ≡ true
     alg-fits e k =
         ap (net.alg_fits (net_kind (type_kind c x))) (number-leads is_alg net_alg c m (alg_decl x n e) k refl n.text (nat_list_eq_equiv.refl n.text))
         ∙ kind-stays c m x n (alg_decl x n e) k (inl refl) (nat_list_eq_equiv.refl n.text) v
 
   -- ---- constants
 
-  constant-fits : (c : Component) → Member c (components_of t) → (x : TypeTree) (n : Ident) (e : Tree) → Member (const_decl x n e) (decls_of c) → is_valued (type_kind c x) ≡ true
-      → form_fits whole_net None (net_kind (type_kind c x)) (net_object (c, declared (const_decl x n e))) ≡ true
-  constant-fits c m x n e k v =
+  constant-fits : (received : Option Ty) (c : Component) → Member c (components_of t) → (x : TypeTree) (n : Ident) (e : Tree) → Member (const_decl x n e) (decls_of c) → is_valued (type_kind c x) ≡ true
+      → form_fits whole_net received (net_kind (type_kind c x)) (net_object (c, declared (const_decl x n e))) ≡ true
+  constant-fits received c m x n e k v =
       let f = type-fits t s whole_net c m x (written c (const_decl x n e) x k (inl refl)) v in
       let inside = all-member constant_fits (declarations t) (c, const_decl x n e) (constants-kept t s.ranges) (declaration-listed t s.few c (const_decl x n e) m k) in
-      f.constants (constant c e) (subst (λ r. in_range r (constant c e) ≡ true) (sym (range-same c x)) inside)
+      f.constants received (constant c e) (subst (λ r. in_range r (constant c e) ≡ true) (sym (range-same c x)) inside)
 
   -- ---- locations
 
@@ -201,71 +206,72 @@ module _ (t : Source) (s : IsSound t) where
       ∙ get-map net_auto (automata t) (automaton_number t c) at.0 at.1
       ∙ ap (λ d. Some (net_auto d)) one
 
-  module _ (c : Component) (m : Member c (components_of t)) (k : ℕ) (below : k < length (locs_of c)) where
+  module _ (received : Option Ty) (c : Component) (m : Member c (components_of t)) (k : ℕ) (below : k < length (locs_of c)) where
     place-below : (n : ℕ) → n ≡ length (locs_of c) → nat_lt k n ≡ true
     place-below n is = grind (arith, nat_tests)
 
-    pub location-fits : form_fits whole_net None net.bool_kind (net_object (c, location k)) ≡ true
+    pub location-fits : form_fits whole_net received net.bool_kind (net_object (c, location k)) ≡ true
     location-fits = ap (λ o. nat_lt k (places_of o)) (automaton-at c m (with-locations (body_of c) k below)) ∙ place-below (length (map location_name (locs_of c))) (map-length location_name (locs_of c))
 
   -- ---- all
 
-  abbrev Keeps : Component → Entry → Type 0
-  Keeps c e = is_valued (kind_at (reached (c, e))) ≡ true → (at : ℕ) → fits whole_net None (net_kind (kind_at (reached (c, e)))) (became c e at) ≡ true
+  module _ (received : Option Ty) (carried : IsCarried whole_net received) where
+    abbrev Keeps : Component → Entry → Type 0
+    Keeps c e = is_valued (kind_at (reached (c, e))) ≡ true → (at : ℕ) → fits whole_net received (net_kind (kind_at (reached (c, e)))) (became c e at) ≡ true
 
-  thing-fits : (c : Component) (e : Entry) → Member c (components_of t) → IsOf c e → is_parameter e ≡ false → is_valued (kind_at (reached (c, e))) ≡ true → form_fits whole_net None (net_kind (kind_at (reached (c, e)))) (net_object (c, e)) ≡ true
-  thing-fits c (declared (const_decl x n e)) l m p v = constant-fits c l x n e m v
-  thing-fits c (declared (disc_decl x n e)) l m p v = variable-fits c l x n v e m
-  thing-fits c (declared (alg_decl x n e)) l m p v = alg-fits c l x n v e m
-  thing-fits c (declared (input_decl x n)) l m p v = input-fits c l x n v m
-  thing-fits c (declared (type_decl n x)) l m p v = absurd (false-true refl v)
-  thing-fits c (declared (enum_decl n ls)) l m p v = absurd (false-true refl v)
-  thing-fits c (declared (event_decl k h n)) l m p v = absurd (false-true refl v)
-  thing-fits c (declared (equation_decl q)) l m p v = absurd (false-true refl v)
-  thing-fits c (declared (invariant_decl i)) l m p v = absurd (false-true refl v)
-  thing-fits c (declared (marked_decl q)) l m p v = absurd (false-true refl v)
-  thing-fits c (literal k ls) l m p v =
-      subst (λ j. (in_32_bits (pos k) && int_le (pos 0) (pos k) && int_lt (pos k) (pos j)) ≡ true) (sym (map-length (λ (i : Ident). i.text) ls))
-      (literal-fits (length ls) k (s.literals c l m.0 ls m.1).1 m.2)
-  thing-fits c (location k) l m p v = location-fits c l k m
-  thing-fits c (inner n b) l m p v = absurd (false-true refl v)
-  thing-fits c (definition n ps b) l m p v = absurd (false-true refl v)
-  thing-fits c (instance i) l m p v = absurd (false-true refl v)
-  thing-fits c (parameter k q) l m p v = absurd (false-true p refl)
+    thing-fits : (c : Component) (e : Entry) → Member c (components_of t) → IsOf c e → is_parameter e ≡ false → is_valued (kind_at (reached (c, e))) ≡ true → form_fits whole_net received (net_kind (kind_at (reached (c, e)))) (net_object (c, e)) ≡ true
+    thing-fits c (declared (const_decl x n e)) l m p v = constant-fits received c l x n e m v
+    thing-fits c (declared (disc_decl x n e)) l m p v = variable-fits received c l x n v e m
+    thing-fits c (declared (alg_decl x n e)) l m p v = alg-fits received c l x n v e m
+    thing-fits c (declared (input_decl x n)) l m p v = input-fits received c l x n v m
+    thing-fits c (declared (type_decl n x)) l m p v = absurd (false-true refl v)
+    thing-fits c (declared (enum_decl n ls)) l m p v = absurd (false-true refl v)
+    thing-fits c (declared (event_decl k h n)) l m p v = absurd (false-true refl v)
+    thing-fits c (declared (equation_decl q)) l m p v = absurd (false-true refl v)
+    thing-fits c (declared (invariant_decl i)) l m p v = absurd (false-true refl v)
+    thing-fits c (declared (marked_decl q)) l m p v = absurd (false-true refl v)
+    thing-fits c (literal k ls) l m p v =
+        subst (λ j. (in_32_bits (pos k) && int_le (pos 0) (pos k) && int_lt (pos k) (pos j)) ≡ true) (sym (map-length (λ (i : Ident). i.text) ls))
+        (literal-fits (length ls) k (s.literals c l m.0 ls m.1).1 m.2)
+    thing-fits c (location k) l m p v = location-fits received c l k m
+    thing-fits c (inner n b) l m p v = absurd (false-true refl v)
+    thing-fits c (definition n ps b) l m p v = absurd (false-true refl v)
+    thing-fits c (instance i) l m p v = absurd (false-true refl v)
+    thing-fits c (parameter k q) l m p v = absurd (false-true p refl)
 
-  things-keep : HoldsOfThings t s.few Keeps
-  things-keep c e l m p v at =
-      ap (λ (f : ℕ → NetExpr). fits whole_net None (net_kind (kind_at (reached (c, e)))) (f at)) (met_at-own things nothing arguments c e p) ∙ thing-fits c e l m p v
+    things-keep : HoldsOfThings t s.few Keeps
+    things-keep c e l m p v at =
+        ap (λ (f : ℕ → NetExpr). fits whole_net received (net_kind (kind_at (reached (c, e)))) (f at)) (met_at-own things nothing arguments c e p) ∙ thing-fits c e l m p v
 
-  -- names keep their kinds, where what they find does
-  names-keep : (c : Component) → HoldsOfNames t s.few Keeps c → (nm : Name) (at : ℕ) → is_valued (kind_at (found c nm)) ≡ true → fits whole_net None (net_kind (kind_at (found c nm))) (net_name c nm at) ≡ true
-  names-keep c all nm at v =
-      (elim (found c nm) as (λ r. found c nm ≡ r → is_valued (kind_at r) ≡ true → fits whole_net None (net_kind (kind_at r)) (net_name c nm at) ≡ true) [
-        | missing ↦ λ h w. absurd (false-true refl w)
-        | blocked ↦ λ h w. absurd (false-true refl w)
-        | reached x ↦ λ h w.
-            ap (fits whole_net None (net_kind (kind_at (reached x)))) (name-followed c nm at ∙ ap (λ r. met things nothing arguments r at) h) ∙ all nm x h w at
-      ]) refl v
+    -- names keep their kinds, where what they find does
+    names-keep : (c : Component) → HoldsOfNames t s.few Keeps c → (nm : Name) (at : ℕ) → is_valued (kind_at (found c nm)) ≡ true → fits whole_net received (net_kind (kind_at (found c nm))) (net_name c nm at) ≡ true
+    names-keep c all nm at v =
+        (elim (found c nm) as (λ r. found c nm ≡ r → is_valued (kind_at r) ≡ true → fits whole_net received (net_kind (kind_at r)) (net_name c nm at) ≡ true) [
+          | missing ↦ λ h w. absurd (false-true refl w)
+          | blocked ↦ λ h w. absurd (false-true refl w)
+          | reached x ↦ λ h w.
+              ap (fits whole_net received (net_kind (kind_at (reached x)))) (name-followed c nm at ∙ ap (λ r. met things nothing arguments r at) h) ∙ all nm x h w at
+        ]) refl v
 
-  parameters-keep : HoldsOfParameters t s.few Keeps
-  parameters-keep o g n ps b i l giver all k (event_param x h m) hp v at = absurd (false-true refl v)
-  parameters-keep o g n ps b i l giver all k (alg_param ty m) hp v at =
-      let e = parameter-argument t s.known s.sorts s.matched o g n ps b i l k (alg_param ty m) hp in
-      let kind : Kind = type_kind (copy o n ps b g i) ty in
-      let met : AreMet g (asked_for g kind e.0) = λ d inside. elim inside [
-        | inl w ↦ subst (λ (x : Demand). same_kind (kind_of g x.received_kind x.value) x.kind ≡ true) (sym w) e.3
-        | inr w ↦ argument-met t s o g n ps b i l k e.0 ty m e.1 hp d w
-      ] in
-      ap (λ a. fits whole_net None (net_kind kind) (by_argument nothing (arguments (net_name g) g) (net_name g) (alg_param ty m) a at)) e.1
-      ∙ expr-fits whole_net g (net_name g) (names-keep g all) kind e.0 met (argument-small t s o g n ps b i l k e.0 e.1)
-  parameters-keep o g n ps b i l giver all k (location_param m) hp v at =
-      let e = parameter-argument t s.known s.sorts s.matched o g n ps b i l k (location_param m) hp in
-      let is = e.3 in
-      let kind : kind_at (found g is.name) ≡ bool_kind = ap kind_at is.is_found ∙ location-kind is.place.0 is.place.1 is.is_sort in
-      ap (λ a. fits whole_net None net.bool_kind (by_argument nothing (arguments (net_name g) g) (net_name g) (location_param m) a at)) (e.1 ∙ ap Some is.is_bare)
-      ∙ ap (λ j. fits whole_net None (net_kind j) (net_name g is.name at)) (sym kind)
-      ∙ names-keep g all is.name at (ap is_valued kind)
+    parameters-keep : HoldsOfParameters t s.few Keeps
+    parameters-keep o g n ps b i l giver all k (event_param x h m) hp v at = absurd (false-true refl v)
+    parameters-keep o g n ps b i l giver all k (alg_param ty m) hp v at =
+        let e = parameter-argument t s.known s.sorts s.matched o g n ps b i l k (alg_param ty m) hp in
+        let kind : Kind = type_kind (copy o n ps b g i) ty in
+        let met : AreMet g (asked_for g kind e.0) = λ d inside. elim inside [
+          | inl w ↦ subst (λ (x : Demand). same_kind (kind_of g x.received_kind x.value) x.kind ≡ true) (sym w) e.3
+          | inr w ↦ argument-met t s o g n ps b i l k e.0 ty m e.1 hp d w
+        ] in
+        ap (λ a. fits whole_net received (net_kind kind) (by_argument nothing (arguments (net_name g) g) (net_name g) (alg_param ty m) a at)) e.1
+        ∙ expr-fits whole_net g no_kind received (nothing-received whole_net received carried) (net_name g) (names-keep g all) kind e.0 met (argument-small t s o g n ps b i l k e.0 e.1)
+    parameters-keep o g n ps b i l giver all k (location_param m) hp v at =
+        let e = parameter-argument t s.known s.sorts s.matched o g n ps b i l k (location_param m) hp in
+        let is = e.3 in
+        let kind : kind_at (found g is.name) ≡ bool_kind = ap kind_at is.is_found ∙ location-kind is.place.0 is.place.1 is.is_sort in
+        ap (λ a. fits whole_net received net.bool_kind (by_argument nothing (arguments (net_name g) g) (net_name g) (location_param m) a at)) (e.1 ∙ ap Some is.is_bare)
+        ∙ ap (λ j. fits whole_net received (net_kind j) (net_name g is.name at)) (sym kind)
+        ∙ names-keep g all is.name at (ap is_valued kind)
 
-  -- a name that has a kind becomes an expression of that kind
-  pub name-fits : (c : Component) → Member c (components_of t) → (nm : Name) (at : ℕ) → is_valued (kind_at (found c nm)) ≡ true → fits whole_net None (net_kind (kind_at (found c nm))) (net_name c nm at) ≡ true
-  name-fits c m = names-keep c (holds-of-names t s.few Keeps things-keep parameters-keep c m)
+    -- a name that has a kind becomes an expression of that kind
+    pub name-fits : (c : Component) → Member c (components_of t) → (nm : Name) (at : ℕ) → is_valued (kind_at (found c nm)) ≡ true → fits whole_net received (net_kind (kind_at (found c nm))) (net_name c nm at) ≡ true
+    name-fits c m = names-keep c (holds-of-names t s.few Keeps things-keep parameters-keep c m)

@@ -51,7 +51,7 @@ sound t built keeps small few = record {
   matched = λ at. keeps (mismatch at) (omega arith);
   ranges = λ at. keeps (constant_range at) (omega arith);
   literals = λ c m n ls k. small.literals (as_written c) (components-written t c m) n ls (subst (λ b. Member (enum_decl n ls) (decls_in b)) (sym (body-written c)) k);
-  arguments = λ c m i k. few (as_written c) (components-written t c m) i (subst (λ b. Member i (filter_map as_instance (items_in b))) (sym (body-written c)) k);
+  arguments = λ c m i k. few.given (as_written c) (components-written t c m) i (subst (λ b. Member i (filter_map as_instance (items_in b))) (sym (body-written c)) k);
 }
 
 module _ (t : Source) (s : IsSound t) where

@@ -1,7 +1,8 @@
 -- A type of a source that has a kind has that kind in the net, and a constant of it fits the kind.
-use Rattle.std.proofs.Common.{◌≡◌, ℕ, zero, suc, ◌≤◌, ◌<◌, ℤ, pos, ◌-ℤ◌, true, false, ◌⊎◌, inl, inr, List, [], ◌∷◌, length, None, refl, sym, ◌∙◌, ap, subst, arith}
+use Rattle.std.proofs.Common.{◌≡◌, ℕ, zero, suc, ◌≤◌, ◌<◌, ℤ, pos, ◌-ℤ◌, true, false, ◌⊎◌, inl, inr, List, [], ◌∷◌, length, Option, refl, sym, ◌∙◌, ap, subst, arith}
 use Rattle.std.specs.Prelude.{◌&&◌, flat_map, int_le, int_lt}
 use Rattle.std.proofs.lemmas.Int.{ints}
+use Rattle.cif_base.specs.declared.types.Ty.{Ty}
 use Rattle.cif_base.specs.declared.types.Ty.TheVariants as ty
 use Rattle.cif_ast.specs.Tree.{Tree}
 use Rattle.cif_ast.specs.declared.names.Ident.{Ident}
@@ -48,19 +49,19 @@ literal-fits m k few h = grind (arith, ints)
 -- the type has the kind, and a constant of the type fits the kind
 pub record TypeFits (n : Net) (k : Kind) (y : NetType) : Type 0 where
   pub same : net.kind_of y.type_of y.literals ≡ net_kind k
-  pub constants : (z : ℤ) → in_range (type_range y.type_of) z ≡ true → form_fits n None (net_kind k) (net_constant y.type_of z) ≡ true
+  pub constants : (r : Option Ty) (z : ℤ) → in_range (type_range y.type_of) z ≡ true → form_fits n r (net_kind k) (net_constant y.type_of z) ≡ true
 
 enum-fits : (n : Net) (ls : List Ident) → length ls ≤ 2147483647 → TypeFits n (enum_of ls) (enum_type ls)
 enum-fits n ls few = record {
   same = refl;
-  constants = λ z h. subst (λ m. (in_32_bits z && int_le (pos 0) z && int_lt z (pos m)) ≡ true) (sym (map-length (λ (i : Ident). i.text) ls)) (place-fits (length ls) z few h);
+  constants = λ r z h. subst (λ m. (in_32_bits z && int_le (pos 0) z && int_lt z (pos m)) ≡ true) (sym (map-length (λ (i : Ident). i.text) ls)) (place-fits (length ls) z few h);
 }
 
 range-fits : (n : Net) (lo hi : ℤ) → in_32_bits lo ≡ true → in_32_bits hi ≡ true → TypeFits n int_kind (plain_type (ty.Int lo hi))
-range-fits n lo hi h g = record { same = refl; constants = λ z k. within-bits lo hi z h g k }
+range-fits n lo hi h g = record { same = refl; constants = λ r z k. within-bits lo hi z h g k }
 
 bool-fits : (n : Net) → TypeFits n bool_kind (plain_type ty.Bool)
-bool-fits n = record { same = refl; constants = λ z k. refl }
+bool-fits n = record { same = refl; constants = λ r z k. refl }
 
 -- a type that a declaration of a component writes is one of the component's
 pub written : (c : Component) (d : DeclTree) (x : TypeTree) → Member d (decls_of c) → Member x (decl_types d) → Member x (types_of c)

@@ -4,4 +4,8 @@
 
 mod laws;
 
-pub use laws::{conditions_keep_their_kind, expressions_keep_their_kinds, guards_keep_their_kind};
+pub use laws::{
+    conditions_keep_their_kind, conditions_of_updates_keep_their_kind,
+    expressions_keep_their_kinds, guards_keep_their_kind, sent_values_keep_their_kinds,
+    values_of_updates_keep_their_kinds,
+};

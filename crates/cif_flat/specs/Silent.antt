@@ -1,8 +1,6 @@
--- Nets without state invariants and channels.
+-- Nets without state invariants.
 use Rattle.std.specs.Prelude.{◌≡◌, []}
-use Rattle.cif_system.specs.Words.{Member}
-use Rattle.cif_model.specs.Net.{NetEvent, Net, no_net_chan}
+use Rattle.cif_model.specs.Net.{Net}
 
 pub record IsSilent (n : Net) : Type 0 where
   pub invariants : n.invariants ≡ []
-  pub channels : (e : NetEvent) → Member e n.events → e.chan ≡ no_net_chan

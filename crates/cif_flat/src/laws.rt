@@ -6,7 +6,7 @@ ghost use Rattle.cif_built.specs.Built.{is_built};
 ghost use Rattle.cif_image.specs.Flat.{net_of_source};
 ghost use Rattle.cif_flat.specs.Silent.{IsSilent};
 
-/// The net of a source of the forms built so far has no state invariants and channels.
+/// The net of a source of the forms built so far has no state invariants.
 pub fn nets_of_built_sources_are_silent()
     ensures { (t : Source) → is_built t ≡ true → IsSilent (net_of_source t) }
 {}

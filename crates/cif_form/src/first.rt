@@ -7,8 +7,7 @@ ghost use Rattle.cif_built.specs.Built.{is_built};
 ghost use Rattle.cif_form.specs.Forms as form;
 ghost use Rattle.cif_form.specs.Forms.{Answers};
 
-use crate::automata::{check_automaton, check_decl, check_params};
-use crate::expressions::check_exprs;
+use crate::declarations::{check_decl, check_decls};
 use cif_ast::{Body, Item, Spec};
 
 #[cycle(forms)]
@@ -17,7 +16,7 @@ fn check_body(body: &Body) -> Result<(), u32>
 {
     match body {
         Body::Group(items) => check_items(items.as_slice()),
-        Body::Auto(automaton) => check_automaton(automaton),
+        Body::Auto(automaton) => check_decls(automaton.decls.as_slice()),
     }
 }
 
@@ -28,11 +27,8 @@ fn check_item(item: &Item) -> Result<(), u32>
     match item {
         Item::Decl(decl) => check_decl(decl),
         Item::Comp(component) => check_body(&component.body),
-        Item::Def(definition) => {
-            check_params(definition.params.as_slice())?;
-            check_body(&definition.body)
-        }
-        Item::Inst(instance) => check_exprs(instance.args.as_slice()),
+        Item::Def(definition) => check_body(&definition.body),
+        Item::Inst(_) => Ok(()),
     }
 }
 
@@ -46,10 +42,8 @@ fn check_items(items: &[Item]) -> Result<(), u32>
     Ok(())
 }
 
-/// The byte of a thing that has no form for which programs are written so far: an invariant, a channel, also as a parameter, a use
-/// of an event that sends or receives, or a `?`. It is the first, but for the parts of a location and of an edge: a location's
-/// equations come before its predicates, and an edge's events before its guards and updates. `None` where there is no such thing.
-/// The time is linear in the tree.
+/// The byte of the first thing that has no form for which programs are written so far: an invariant. `None` where there is none. The
+/// time is linear in the tree.
 #[tactic(auto, using(crate::proofs::FormLaws::fitting, crate::proofs::FormLaws::misfitting))]
 pub fn misfit(spec: &Spec) -> Option<u32>
     ensures none { result ≡ None → is_built (source_of spec.now) ≡ true }

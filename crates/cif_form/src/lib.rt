@@ -1,10 +1,8 @@
 //! Which sources have the forms for which programs are written so far: groups, automata, definitions and instances with events,
-//! locations, edges, inputs, discrete and algebraic variables, equations, constants and types, without channels and invariants.
+//! channels, locations, edges, inputs, discrete and algebraic variables, equations, constants and types, without invariants.
 #![tactic(auto)]
 
-mod automata;
-mod expressions;
+mod declarations;
 mod first;
-mod places;
 
 pub use first::misfit;

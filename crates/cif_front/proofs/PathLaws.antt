@@ -57,6 +57,7 @@ type_silent type.Memory = tt
 
 pub inst_silent : (e : InstErr) → NamesNothing (inst_refusal e)
 inst_silent (inst.AlphabetLacks at) = tt
+inst_silent (inst.RoleMixed at) = tt
 inst_silent (inst.TooManyObjects count) = tt
 inst_silent (inst.ConstantRange at) = tt
 inst_silent (inst.TooLarge nodes depth) = tt

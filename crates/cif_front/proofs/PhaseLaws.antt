@@ -98,6 +98,7 @@ module _ (t : Source) where
 
   pub inst_due : (s : Scopes) → AreScopesOf t s → types.KeepsKinds t → (e : InstErr) → insts.due t e → IsDueOf t (inst_refusal e)
   inst_due s names typed (inst.AlphabetLacks at) h = record { broken = h; first_phase = before_instances names.rules typed }
+  inst_due s names typed (inst.RoleMixed at) h = record { broken = h; first_phase = before_instances names.rules typed }
   inst_due s names typed (inst.TooManyObjects count) h = record { broken = h; first_phase = before_instances names.rules typed }
   inst_due s names typed (inst.ConstantRange at) h = record { broken = h; first_phase = before_instances names.rules typed }
   inst_due s names typed (inst.TooLarge nodes depth) h = record { broken = h.1; first_phase = before_algebraic (source_kept s names typed h.0) }

@@ -56,6 +56,7 @@ type_refusal (type.Equations at count) = refusal.Types (type.Equations at count)
 abbrev pub inst_refusal : InstErr → Refusal
 inst_refusal inst.Memory = refusal.Memory
 inst_refusal (inst.AlphabetLacks at) = refusal.Inst (inst.AlphabetLacks at)
+inst_refusal (inst.RoleMixed at) = refusal.Inst (inst.RoleMixed at)
 inst_refusal (inst.TooManyObjects count) = refusal.Inst (inst.TooManyObjects count)
 inst_refusal (inst.ConstantRange at) = refusal.Inst (inst.ConstantRange at)
 inst_refusal (inst.TooLarge nodes depth) = refusal.Inst (inst.TooLarge nodes depth)
@@ -91,6 +92,7 @@ type_rule type.Memory = None
 
 abbrev pub inst_rule : InstErr → Option rule.Refusal
 inst_rule (inst.AlphabetLacks at) = Some (rule.alphabet_lacks at)
+inst_rule (inst.RoleMixed at) = Some (rule.role_mixed at)
 inst_rule (inst.TooManyObjects count) = Some (rule.too_many_objects count)
 inst_rule (inst.ConstantRange at) = Some (rule.constant_range at)
 inst_rule (inst.TooLarge nodes depth) = Some (rule.too_large nodes depth)

@@ -9,7 +9,7 @@ use Rattle.cif_model.specs.Net.{NetEdge, NetAuto, NetInvariant, Net}
 use Rattle.cif_model.specs.Inline.{replaced, updates_replaced, update_replaced, update_branches_replaced, edge_replaced, auto_replaced, alg_replaced, net_replaced, Unfolds}
 use Rattle.cif_nesting.specs.Nesting.{updates_depth, update_depth, branches_depth, most_nesting, is_shallow}
 use Rattle.plc_gen.specs.Faces.{auto_face, alg_face_of, face_of_net}
-use Rattle.plc_parts.specs.Parts.{is_no_channel, is_silent}
+use Rattle.plc_parts.specs.Parts.{is_silent}
 
 module _ (by : ℕ → NetExpr) where
   -- ---- what it shows
@@ -27,7 +27,7 @@ module _ (by : ℕ → NetExpr) where
   -- ---- programs are written for it
 
   silent-replaced : (n : Net) → is_silent (net_replaced by n) ≡ is_silent n
-  silent-replaced n = ap (λ k. nat_eq k 0 && list_all is_no_channel n.events) (map-length (λ (v : NetInvariant). record v { pred = replaced by v.pred }) n.invariants)
+  silent-replaced n = ap (λ k. nat_eq k 0) (map-length (λ (v : NetInvariant). record v { pred = replaced by v.pred }) n.invariants)
 
   -- ---- how deep its updates nest
 

@@ -14,7 +14,7 @@ pub fn net_shows_the_same()
     ensures { (t : Source) → face_of_net (net_of_source t) ≡ face_of t }
 {}
 
-/// The net of a source of the forms built so far has no state invariants and channels.
+/// The net of a source of the forms built so far has no state invariants.
 pub fn built_net_is_silent()
     ensures { (t : Source) → is_built t ≡ true → is_silent (net_of_source t) ≡ true }
 {}

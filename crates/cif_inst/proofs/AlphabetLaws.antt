@@ -1,5 +1,5 @@
 -- The alphabets and monitors that are made are those of the net of a source.
-use Rattle.std.proofs.Common.{◌≡◌, ℕ, ◌<◌, inl, inr, List, [], ◌∷◌, ◌++◌, length, map, Option, Some, None, refl, sym, ◌∙◌, ap, subst, arith}
+use Rattle.std.proofs.Common.{◌≡◌, ℕ, ◌<◌, true, false, inl, inr, List, [], ◌∷◌, ◌++◌, length, map, Option, Some, None, refl, sym, ◌∙◌, ap, subst, arith}
 use Rattle.std.specs.Prelude.{flat_map, unwrap_or, if◌then◌else◌}
 use Rattle.std.specs.List.{cons_option}
 use Rattle.cif_ast.specs.declared.names.Name.{Name}
@@ -12,20 +12,20 @@ use Rattle.cif_source.specs.Lookup.{denotes}
 use Rattle.cif_source.specs.Objects.{components_of, EventEdge, event_edges, events}
 use Rattle.cif_source.specs.Uses.{uses, event_asked, asking, param_uses, body_uses, decl_uses, location_uses}
 use Rattle.cif_source.specs.Step.{event_at, role_of}
-use Rattle.cif_system.specs.System.{syncing}
+use Rattle.cif_system.specs.System.{Role, syncing}
 use Rattle.cif_system.specs.Step.{same_role}
 use Rattle.cif_rules.specs.InstanceRules.{synchronised_name}
+use Rattle.cif_image.proofs.FoundLaws.{flat-cases}
 use Rattle.cif_image.specs.Flat.{event_number, named_events, alphabet_in, alphabet_of, monitored_in, monitored_events, net_edge}
 use Rattle.cif_written.specs.Denoted.{DenotesEvent}
 use Rattle.cif_written.proofs.DenotedLaws.{event-names}
-use Rattle.cif_fits.proofs.FormLaws.{way-syncs}
 use Rattle.cif_translate.specs.Looking.{component_at}
 use Rattle.cif_translate.specs.declared.looking.Looking.{Looking}
 use Rattle.cif_inst.specs.Edges.{automaton_edges}
-use Rattle.cif_inst.specs.Alphabets.{used_events, alphabet_by, alphabet_for, monitors_by, monitors_for}
+use Rattle.cif_inst.specs.Alphabets.{automaton_used, events_as, synced_events, alphabet_by, alphabet_for, monitors_by, monitors_for}
 use Rattle.cif_inst.proofs.SoundLaws.{IsSound}
-use Rattle.cif_inst.proofs.EdgeLaws.{Syncs, event_of, found-events}
-use Rattle.cif_inst.proofs.ListedLaws.{used-edges}
+use Rattle.cif_inst.proofs.EdgeLaws.{role-back}
+use Rattle.cif_inst.proofs.ListedLaws.{used_by, used-edges}
 use Rattle.cif_inst.proofs.UseLaws.{event-use, edge-event-used}
 
 -- ---- names of events
@@ -50,15 +50,31 @@ pub named-are : (c : Component) (nms : List Name) → ((nm : Name) → Member nm
 named-are c [] h = refl
 named-are c (nm ∷ nms) h = ap (λ o. cons_option o (named_events c nms)) (h nm (inl refl)) ∙ ap (λ es. event_number c nm ∷ es) (named-are c nms (λ x m. h x (inr m)))
 
--- the name of the event of an edge
-abbrev pub use_name : EventEdge → Name
-use_name w = w.event_use.name
+-- ---- the names of the edges in one role
 
-pub synchronised-all : (ws : List EventEdge) → ((w : EventEdge) → Member w ws → Syncs w) → flat_map synchronised_name ws ≡ map use_name ws
-synchronised-all [] syncs = refl
-synchronised-all (w ∷ ws) syncs =
-    ap (λ r. (if same_role syncing (role_of r) then w.event_use.name ∷ [] else []) ++ flat_map synchronised_name ws) (syncs w (inl refl))
-    ∙ ap (λ xs. w.event_use.name ∷ xs) (synchronised-all ws (λ v m. syncs v (inr m)))
+abbrev pub role_name : Role → EventEdge → List Name
+role_name p w = if same_role p (role_of w.event_use.role) then w.event_use.name ∷ [] else []
+
+abbrev pub role_names : Role → Component → List Name
+role_names p c = flat_map (role_name p) (event_edges c)
+
+its-name : (p : Role) (w : EventEdge) (nm : Name) → Member nm (role_name p w) → nm ≡ w.event_use.name
+its-name p w nm m =
+    (elim (same_role p (role_of w.event_use.role)) as (λ b. Member nm (if b then w.event_use.name ∷ [] else []) → nm ≡ w.event_use.name) [
+      | true ↦ λ k. elim k [ inl x ↦ x | inr x ↦ absurd x ]
+      | false ↦ λ k. absurd k
+    ]) m
+
+-- the events in one role, of the uses of edges of the net
+pub role-events : (p : Role) (c : Component) (ws : List EventEdge) → events_as p (map used_by (map (net_edge c) ws)) ≡ map (event_number c) (flat_map (role_name p) ws)
+role-events p c [] = refl
+role-events p c (w ∷ ws) =
+    ap (λ r. (if same_role p r then event_number c w.event_use.name ∷ [] else []) ++ events_as p (map used_by (map (net_edge c) ws))) (role-back (role_of w.event_use.role))
+    ∙ (elim (same_role p (role_of w.event_use.role)) as (λ b. (if b then event_number c w.event_use.name ∷ [] else []) ++ events_as p (map used_by (map (net_edge c) ws))
+    ≡ map (event_number c) ((if b then w.event_use.name ∷ [] else []) ++ flat_map (role_name p) ws)) [
+      | true ↦ ap (λ es. event_number c w.event_use.name ∷ es) (role-events p c ws)
+      | false ↦ role-events p c ws
+    ])
 
 module _ (t : Source) (h : IsSound t) where
   used-numbered : (c : Component) → Member c (components_of t) → (nm : Name) → Member (event-use nm) (uses c) → Numbered t c nm
@@ -72,6 +88,11 @@ module _ (t : Source) (h : IsSound t) where
 
   pub edge-numbered : (c : Component) → Member c (components_of t) → (w : EventEdge) → Member w (event_edges c) → Numbered t c w.event_use.name
   edge-numbered c m w k = used-numbered c m w.event_use.name (edge-event-used c w k)
+
+  pub role-numbered : (c : Component) → Member c (components_of t) → (p : Role) (nm : Name) → Member nm (role_names p c) → Numbered t c nm
+  role-numbered c m p nm k =
+      let w = flat-cases (role_name p) nm (event_edges c) k in
+      subst (Numbered t c) (sym (its-name p w.0 nm w.2)) (edge-numbered c m w.0 w.1)
 
   module _ (c : Component) (m : Member c (components_of t)) (a : AutomatonTree) (e : body_of c ≡ automaton_body a) where
     in-body : (nm : Name) → Member (event-use nm) (body_uses c (automaton_body a)) → Numbered t c nm
@@ -90,17 +111,12 @@ module _ (t : Source) (h : IsSound t) where
         let nm = member-map (event_number c) x nms (subst (Member x) (named-are c nms (λ nm k. (u nm k).number)) y) in
         omega (arith, nm.2, (u nm.0 nm.1).below)
 
-    synchronised-numbered : (nm : Name) → Member nm (flat_map synchronised_name (event_edges c)) → Numbered t c nm
-    synchronised-numbered nm k =
-        let w = member-map use_name nm (event_edges c) (subst (Member nm) (synchronised-all (event_edges c) (way-syncs t h.forms c m)) k) in
-        subst (Numbered t c) (sym w.2) (edge-numbered c m w.0 w.1)
-
     pub alphabet-below : (x : ℕ) → Member x (alphabet_of c) → x < length (events t)
     alphabet-below x y = named a.alphabet alphabet-numbered (subst (Member x) (ap (alphabet_in c) e) y)
       where
         named : (o : Option (List Name)) → ((nm : Name) → Member nm (unwrap_or o []) → Numbered t c nm)
             → Member x (named_events c (elim o [ None ↦ flat_map synchronised_name (event_edges c) | Some nms ↦ nms ])) → x < length (events t)
-        named None u y = below-of (flat_map synchronised_name (event_edges c)) synchronised-numbered x y
+        named None u y = below-of (role_names syncing c) (role-numbered c m syncing) x y
         named (Some nms) u y = below-of nms u x y
 
     pub monitors-below : (x : ℕ) → Member x (monitored_in c (body_of c)) → x < length (events t)
@@ -117,15 +133,16 @@ module _ (l : Looking) (k : ℕ) (t : Source) (h : IsSound t) (m : Member (compo
   abbrev own : Component
   own = component_at l k
 
-  pub used-are : used_events l k a ≡ map event_of (map (net_edge own) (event_edges own))
-  used-are = used-edges l k a ∙ ap (map event_of) edges
+  -- the events of its edges in one role
+  pub roles-are : (p : Role) → events_as p (automaton_used l k a) ≡ map (event_number own) (role_names p own)
+  roles-are p = ap (events_as p) (used-edges l k a ∙ ap (map used_by) edges) ∙ role-events p own (event_edges own)
 
   pub alphabet-is : alphabet_of own ≡ alphabet_for l k a
   alphabet-is =
       ap (alphabet_in own) e
       ∙ (elim a.alphabet as (λ o. ((nm : Name) → Member nm (unwrap_or o []) → Numbered t own nm)
-      → named_events own (elim o [ None ↦ flat_map synchronised_name (event_edges own) | Some nms ↦ nms ]) ≡ alphabet_by l k o (used_events l k a)) [
-        | None ↦ λ u. found-events own (event_edges own) (way-syncs t h.forms own m) (λ w x. (edge-numbered t h own m w x).number) ∙ sym used-are
+      → named_events own (elim o [ None ↦ flat_map synchronised_name (event_edges own) | Some nms ↦ nms ]) ≡ alphabet_by l k o (synced_events l k a)) [
+        | None ↦ λ u. named-are own (role_names syncing own) (λ nm x. (role-numbered t h own m syncing nm x).number) ∙ sym (roles-are syncing)
         | Some nms ↦ λ u. named-are own nms (λ nm x. (u nm x).number)
       ]) (alphabet-numbered t h own m a e)
 
@@ -139,8 +156,7 @@ module _ (l : Looking) (k : ℕ) (t : Source) (h : IsSound t) (m : Member (compo
       named (Some []) u = alphabet-is
       named (Some (nm ∷ nms)) u = named-are own (nm ∷ nms) (λ x y. (u x y).number)
 
-  pub used-below : (x : ℕ) → Member x (used_events l k a) → x < length (events t)
-  used-below x y =
-      let z = member-map event_of x (map (net_edge own) (event_edges own)) (subst (Member x) used-are y) in
-      let w = member-map (net_edge own) z.0 (event_edges own) z.1 in
-      omega (arith, z.2, ap event_of w.2, (edge-numbered t h own m w.0 w.1).below)
+  pub role-below : (p : Role) (x : ℕ) → Member x (events_as p (automaton_used l k a)) → x < length (events t)
+  role-below p x y =
+      let nm = member-map (event_number own) x (role_names p own) (subst (Member x) (roles-are p) y) in
+      omega (arith, nm.2, (role-numbered t h own m p nm.0 nm.1).below)

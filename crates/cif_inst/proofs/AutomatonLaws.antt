@@ -3,6 +3,7 @@ use Rattle.std.proofs.Common.{◌≡◌, ℕ, ◌+◌, ◌<◌, List, [], ◌++�
 use Rattle.std.specs.Prelude.{flat_map, unwrap_or}
 use Rattle.std.specs.List.{position_or_len}
 use Rattle.cif_system.specs.Words.{Member}
+use Rattle.cif_system.specs.System.{syncing}
 use Rattle.cif_source.specs.Source.{AutomatonTree, automaton_body, Source}
 use Rattle.cif_source.specs.Components.{Component, as_written, body_of, params_of, scope_of, param_entries, body_entries, entry_named}
 use Rattle.cif_source.specs.Objects.{components_of, locs_in, event_edges, events}
@@ -15,21 +16,21 @@ use Rattle.cif_image.specs.Flat.{net_edge}
 use Rattle.cif_image.proofs.KeptLaws.{has_twice}
 use Rattle.cif_image.proofs.PathLaws.{names}
 use Rattle.cif_image.proofs.SingleLaws.{scopes-single}
-use Rattle.cif_fits.proofs.FormLaws.{way-syncs}
 use Rattle.cif_translate.specs.Looking.{source_for, component_at}
 use Rattle.cif_translate.specs.declared.looking.Looking.{Looking}
-use Rattle.cif_inst.specs.Names.{AreBuiltNames}
+use Rattle.cif_inst.specs.Names.{AreMatchedNames}
 use Rattle.cif_inst.specs.Rows.{body_number}
 use Rattle.cif_inst.specs.Edges.{locations_edges, automaton_edges}
-use Rattle.cif_inst.specs.Alphabets.{name_places, location_places, used_events, alphabet_for, monitors_for, is_outside, first_failing, or_later, tells, marked, is_unmarked, AreMarks}
+use Rattle.cif_inst.specs.Alphabets.{name_places, location_places, synced_events, alphabet_for, monitors_for, is_outside, first_failing, or_later, tells}
+use Rattle.cif_inst.specs.Marks.{marked, is_unmarked, AreMarks}
 use Rattle.cif_inst.specs.declared.error.InstErr.{InstErr}
-use Rattle.cif_inst.specs.declared.error.InstErr.TheVariants.{AlphabetLacks, TooManyObjects, ConstantRange, TooLarge, Memory}
+use Rattle.cif_inst.specs.declared.error.InstErr.TheVariants.{AlphabetLacks, RoleMixed, TooManyObjects, ConstantRange, TooLarge, Memory}
 use Rattle.cif_inst.proofs.SoundLaws.{IsSound, names-sound, component-is, component-listed, body-numbered}
 use Rattle.cif_inst.proofs.EdgeLaws.{place_of, TargetsAre, slotted-place, automaton-place, all-edges-are}
 use Rattle.cif_inst.proofs.MarkLaws.{marked-outside, same-failing}
-use Rattle.cif_inst.proofs.AlphabetLaws.{monitors-below, monitors-are, used-below}
+use Rattle.cif_inst.proofs.AlphabetLaws.{monitors-below, monitors-are, role-below}
 
-module _ (l : Looking) (h : AreBuiltNames l) where
+module _ (l : Looking) (h : AreMatchedNames l) where
   pub sound : IsSound (source_for l)
   sound = names-sound l h
 
@@ -52,21 +53,21 @@ module _ (l : Looking) (h : AreBuiltNames l) where
   pub edges : (k : ℕ) → k < length components → (a : AutomatonTree) → body_of (component_at l k) ≡ automaton_body a → automaton_edges l k a ≡ map (net_edge (component_at l k)) (event_edges (component_at l k))
   edges k below a e =
       ap (λ b. locations_edges l k (length a.locs) 0 (locs_in b)) (sym e)
-      ∙ all-edges-are l k (length a.locs) (targets k below a e) (way-syncs (source_for l) sound.forms (component_at l k) (component-listed (source_for l) k below))
+      ∙ all-edges-are l k (length a.locs) (targets k below a e)
 
   -- ---- marks
 
-  module _ (k : ℕ) (below : k < length components) (a : AutomatonTree) (e : body_of (component_at l k) ≡ automaton_body a) (ms : List ℕ) (marks : AreMarks l k ms) where
+  module _ (k : ℕ) (below : k < length components) (a : AutomatonTree) (e : body_of (component_at l k) ≡ automaton_body a) (ms : List ℕ) (marks : AreMarks (length (events (source_for l))) k ms) where
     unmarked : (x : ℕ) → x < length (events (source_for l)) → is_unmarked (k + 1) (marked (k + 1) (alphabet_for l k a) ms) x ≡ is_outside (alphabet_for l k a) x
     unmarked x small = marked-outside k (alphabet_for l k a) ms x marks.small (omega (arith, small, marks.every))
 
-    -- what is told of marks is what is outside the alphabet, for the events of edges and for those that are monitored
-    pub used_told : (mark : ℕ) (es us ps new : List ℕ) → mark ≡ k + 1 → es ≡ alphabet_for l k a → us ≡ used_events l k a → ps ≡ flat_map location_places a.locs → new ≡ marked mark es ms
-        → first_failing (is_unmarked mark new) us ps ≡ first_failing (is_outside (alphabet_for l k a)) (used_events l k a) (flat_map location_places a.locs)
-    used_told mark es us ps new next alphabet used places is =
-        (λ i. first_failing (is_unmarked (next i) ((is ∙ (λ j. marked (next j) (alphabet j) ms)) i)) (used i) (places i))
-        ∙ same-failing (is_unmarked (k + 1) (marked (k + 1) (alphabet_for l k a) ms)) (is_outside (alphabet_for l k a)) (used_events l k a) (flat_map location_places a.locs)
-        (λ x y. unmarked x (used-below l k (source_for l) sound (component-listed (source_for l) k below) a e (edges k below a e) x y))
+    -- what is told of marks is what is outside the alphabet, for the events of edges that synchronise and for those that are monitored
+    pub synced_told : (mark : ℕ) (es us ps new : List ℕ) → mark ≡ k + 1 → es ≡ alphabet_for l k a → us ≡ synced_events l k a → ps ≡ flat_map location_places a.locs → new ≡ marked mark es ms
+        → first_failing (is_unmarked mark new) us ps ≡ first_failing (is_outside (alphabet_for l k a)) (synced_events l k a) (flat_map location_places a.locs)
+    synced_told mark es us ps new next alphabet synced places is =
+        (λ i. first_failing (is_unmarked (next i) ((is ∙ (λ j. marked (next j) (alphabet j) ms)) i)) (synced i) (places i))
+        ∙ same-failing (is_unmarked (k + 1) (marked (k + 1) (alphabet_for l k a) ms)) (is_outside (alphabet_for l k a)) (synced_events l k a) (flat_map location_places a.locs)
+        (λ x y. unmarked x (role-below l k (source_for l) sound (component-listed (source_for l) k below) a e (edges k below a e) syncing x y))
 
     pub monitors_told : (mark : ℕ) (es us ps new : List ℕ) → mark ≡ k + 1 → es ≡ alphabet_for l k a → us ≡ monitors_for l k a → ps ≡ name_places (unwrap_or a.monitor []) → new ≡ marked mark es ms
         → first_failing (is_unmarked mark new) us ps ≡ first_failing (is_outside (alphabet_for l k a)) (monitors_for l k a) (name_places (unwrap_or a.monitor []))
@@ -79,6 +80,7 @@ module _ (l : Looking) (h : AreBuiltNames l) where
 
 pub or_tells : (e : InstErr) (o r : Option ℕ) → tells e o → tells e (or_later o r)
 or_tells (AlphabetLacks at) o r h = ap (λ x. or_later x r) h
+or_tells (RoleMixed at) o r h = absurd h
 or_tells (TooManyObjects count) o r h = absurd h
 or_tells (ConstantRange at) o r h = absurd h
 or_tells (TooLarge nodes depth) o r h = absurd h

@@ -1,6 +1,6 @@
 -- The edges that are made are those of the net of a source.
 use Rattle.std.proofs.Common.{◌≡◌, ℕ, suc, ◌+◌, Bool, true, false, cond, inl, inr, List, [], ◌∷◌, ◌++◌, length, map, find, append_assoc, Option, Some, None, refl, sym, ◌∙◌, ap, arith}
-use Rattle.std.specs.Prelude.{not, flat_map, filter_map, option_map, if◌then◌else◌}
+use Rattle.std.specs.Prelude.{not, flat_map, filter_map, option_map}
 use Rattle.std.specs.List.{list_all, enumerate_from, position_or_len, cons_option}
 use Rattle.std.specs.Cmp.Lexicographic as words
 use Rattle.std.proofs.lemmas.List.{map-append}
@@ -12,27 +12,24 @@ use Rattle.cif_term.specs.View.{view, view_updates}
 use Rattle.cif_term.specs.declared.expressions.NetExpr.{NetExpr}
 use Rattle.cif_term.specs.declared.updates.NetUpdate.{NetUpdate}
 use Rattle.cif_net.specs.declared.automata.NetEdge.{NetEdge as NetEdgeOf}
-use Rattle.cif_net.specs.declared.automata.NetRole.TheVariants as role
-use Rattle.cif_net.specs.View.{edge_tree as net_tree}
+use Rattle.cif_net.specs.declared.automata.NetRole.{NetRole}
+use Rattle.cif_net.specs.View.{role_of as net_role, edge_tree as net_tree}
 use Rattle.cif_system.specs.Words.{Member}
-use Rattle.cif_system.specs.System.{syncing}
-use Rattle.cif_system.specs.Step.{same_role}
+use Rattle.cif_system.specs.System.{Role, syncing, sending, receiving}
 use Rattle.cif_system.proofs.Lists.{false-true, some-same, none-some, find-passes}
 use Rattle.cif_system.proofs.Picks.{map-member, append-left, append-right}
 use Rattle.cif_model.specs.Net.{NetEdge}
-use Rattle.cif_source.specs.Source.{Text, syncs, ParamTree, use_tree, edge_tree, UseTree, EdgeTree, LocationTree, DeclTree, type_decl, enum_decl, event_decl, const_decl, alg_decl, input_decl, disc_decl, equation_decl, invariant_decl, marked_decl, AutomatonTree, automaton_body, Source}
+use Rattle.cif_source.specs.Source.{Text, ParamTree, role_tree, use_tree, edge_tree, UseTree, EdgeTree, LocationTree, DeclTree, type_decl, enum_decl, event_decl, const_decl, alg_decl, input_decl, disc_decl, equation_decl, invariant_decl, marked_decl, AutomatonTree, automaton_body, Source}
 use Rattle.cif_source.specs.Components.{Component, scope_of, same_text, param_name, param_entries, body_entries, decl_entries, location_entry, entry_named, Entry, Entries, declared, literal, location, inner, definition, instance, parameter}
 use Rattle.cif_source.specs.Objects.{locs_of, EventEdge, event_edges, edges_of_uses}
-use Rattle.cif_source.specs.Lookup.{denotes}
-use Rattle.cif_source.specs.Step.{is_named, role_of, end_of, event_at}
-use Rattle.cif_rules.specs.InstanceRules.{synchronised_name}
+use Rattle.cif_source.specs.Step.{is_named, role_of, end_of}
 use Rattle.cif_scope.specs.declared.scope.What.{What}
 use Rattle.cif_scope.specs.declared.scopes.Scopes.{Scopes}
 use Rattle.cif_scope.specs.Tables.{IsBody, IsWhat}
 use Rattle.cif_scope.specs.Scopes.{AreScopesOf}
 use Rattle.cif_scope.proofs.LookLaws.{Slotted, what-is}
 use Rattle.cif_image.specs.Translation.{net_of, net_guard}
-use Rattle.cif_image.specs.Flat.{event_number, sent_tree, net_updates_of, value_places, net_edge, named_events}
+use Rattle.cif_image.specs.Flat.{event_number, sent_tree, net_updates_of, value_places, net_edge}
 use Rattle.cif_image.proofs.KeptLaws.{has_twice}
 use Rattle.cif_image.proofs.PathLaws.{names, not-twice-right}
 use Rattle.cif_image.proofs.BodyLaws.{other-name}
@@ -42,7 +39,8 @@ use Rattle.cif_image.proofs.NumberLaws.{all-joined}
 use Rattle.cif_translate.specs.Looking.{component_at}
 use Rattle.cif_translate.specs.declared.looking.Looking.{Looking}
 use Rattle.cif_inst.specs.Targets.{place_in, place_at, target_place}
-use Rattle.cif_inst.specs.Edges.{sync_edge, end_place, uses_edges, locations_edges}
+use Rattle.cif_inst.specs.Edges.{use_edge, end_place, uses_edges, locations_edges}
+use Rattle.cif_inst.specs.Views.{role_back, role_for}
 
 -- ---- the place of a target
 
@@ -224,10 +222,6 @@ automaton-place ps a x single =
 
 -- ---- edges
 
--- it neither sends nor receives
-abbrev pub Syncs : EventEdge → Type 0
-Syncs w = w.event_use.role ≡ syncs
-
 abbrev at_use : ℕ → EdgeTree → UseTree → EventEdge
 at_use from e u = record { from = from; event_use = u; edge = e }
 
@@ -246,74 +240,56 @@ module _ (l : Looking) (k : ℕ) where
       target None = refl
       target (Some x) = targets x
 
-  sync-is : (w : EventEdge) → Syncs w → sync_edge l k w.from (end_of own w) w.edge w.event_use ≡ net_edge own w
-  sync-is w r = let path : net_edge own w ≡ sync_edge l k w.from (end_of own w) w.edge w.event_use = λ i. record {
-    event = event_number own w.event_use.name;
-    role = role_of (r i);
-    from = w.from;
-    to = end_of own w;
-    guard = net_guard own w.event_use.name.at w.edge.guards;
-    sent = option_map (net_of own) (sent_tree (r i));
-    updates = net_updates_of own w.edge.updates;
-    places = value_places w;
-  } in sym path
+  uses-are : (count from : ℕ) (e : EdgeTree) → TargetsAre count → uses_edges l k from count e ≡ map (net_edge own) (edges_of_uses from e)
+  uses-are count from e targets =
+      sym (map-map (net_edge own) (at_use from e) (use_edge l k from (end_place l k from count e.target) e) e.uses (λ u m. sym (ap (λ to. use_edge l k from to e u) (end-is count from u e targets))))
 
-  uses-are : (count from : ℕ) (e : EdgeTree) → TargetsAre count → ((w : EventEdge) → Member w (edges_of_uses from e) → Syncs w) → uses_edges l k from count e ≡ map (net_edge own) (edges_of_uses from e)
-  uses-are count from e targets sync =
-      sym (map-map (net_edge own) (at_use from e) (sync_edge l k from (end_place l k from count e.target) e) e.uses (λ u m.
-      sym (ap (λ to. sync_edge l k from to e u) (end-is count from u e targets) ∙ sync-is (at_use from e u) (sync (at_use from e u) (map-member (at_use from e) u e.uses m)))))
-
-  edges-are : (count from : ℕ) (es : List EdgeTree) → TargetsAre count → ((w : EventEdge) → Member w (flat_map (edges_of_uses from) es) → Syncs w) → flat_map (uses_edges l k from count) es ≡ map (net_edge own) (flat_map (edges_of_uses from) es)
-  edges-are count from [] targets sync = refl
-  edges-are count from (e ∷ es) targets sync =
-      ap (λ xs. xs ++ flat_map (uses_edges l k from count) es) (uses-are count from e targets (λ w m. sync w (append-left w (edges_of_uses from e) (flat_map (edges_of_uses from) es) m)))
-      ∙ ap (λ xs. map (net_edge own) (edges_of_uses from e) ++ xs) (edges-are count from es targets (λ w m. sync w (append-right w (edges_of_uses from e) (flat_map (edges_of_uses from) es) m)))
+  edges-are : (count from : ℕ) (es : List EdgeTree) → TargetsAre count → flat_map (uses_edges l k from count) es ≡ map (net_edge own) (flat_map (edges_of_uses from) es)
+  edges-are count from [] targets = refl
+  edges-are count from (e ∷ es) targets =
+      ap (λ xs. xs ++ flat_map (uses_edges l k from count) es) (uses-are count from e targets)
+      ∙ ap (λ xs. map (net_edge own) (edges_of_uses from e) ++ xs) (edges-are count from es targets)
       ∙ sym (map-append (net_edge own) (edges_of_uses from e) (flat_map (edges_of_uses from) es))
 
   abbrev edges_from : ℕ → List LocationTree → List EventEdge
   edges_from j ls = flat_map (λ (l : ℕ × LocationTree). flat_map (edges_of_uses l.0) l.1.edges) (enumerate_from j ls)
 
-  locations-are : (count j : ℕ) (xs : List LocationTree) → TargetsAre count → ((w : EventEdge) → Member w (edges_from j xs) → Syncs w) → locations_edges l k count j xs ≡ map (net_edge own) (edges_from j xs)
-  locations-are count j [] targets sync = refl
-  locations-are count j (x ∷ xs) targets sync =
-      ap (λ ys. ys ++ locations_edges l k count (j + 1) xs) (edges-are count j x.edges targets (λ w m. sync w (append-left w (flat_map (edges_of_uses j) x.edges) (edges_from (j + 1) xs) m)))
-      ∙ ap (λ ys. map (net_edge own) (flat_map (edges_of_uses j) x.edges) ++ ys) (locations-are count (j + 1) xs targets (λ w m. sync w (append-right w (flat_map (edges_of_uses j) x.edges) (edges_from (j + 1) xs) m)))
+  locations-are : (count j : ℕ) (xs : List LocationTree) → TargetsAre count → locations_edges l k count j xs ≡ map (net_edge own) (edges_from j xs)
+  locations-are count j [] targets = refl
+  locations-are count j (x ∷ xs) targets =
+      ap (λ ys. ys ++ locations_edges l k count (j + 1) xs) (edges-are count j x.edges targets)
+      ∙ ap (λ ys. map (net_edge own) (flat_map (edges_of_uses j) x.edges) ++ ys) (locations-are count (j + 1) xs targets)
       ∙ sym (map-append (net_edge own) (flat_map (edges_of_uses j) x.edges) (edges_from (j + 1) xs))
 
-  pub all-edges-are : (count : ℕ) → TargetsAre count → ((w : EventEdge) → Member w (event_edges own) → Syncs w) → locations_edges l k count 0 (locs_of own) ≡ map (net_edge own) (event_edges own)
-  all-edges-are count targets sync = locations-are count 0 (locs_of own) targets sync
-
--- ---- alphabets
-
-abbrev pub event_of : NetEdge → ℕ
-event_of e = e.event
-
-pub found-events : (c : Component) (ws : List EventEdge) → ((w : EventEdge) → Member w ws → Syncs w) → ((w : EventEdge) → Member w ws → event_at (denotes c w.event_use.name) ≡ Some (event_number c w.event_use.name))
-    → named_events c (flat_map synchronised_name ws) ≡ map event_of (map (net_edge c) ws)
-found-events c [] sync numbered = refl
-found-events c (w ∷ ws) sync numbered =
-    ap (λ r. named_events c ((if same_role syncing (role_of r) then w.event_use.name ∷ [] else []) ++ flat_map synchronised_name ws)) (sync w (inl refl))
-    ∙ ap (λ o. cons_option o (named_events c (flat_map synchronised_name ws))) (numbered w (inl refl))
-    ∙ ap (λ es. event_number c w.event_use.name ∷ es) (found-events c ws (λ v m. sync v (inr m)) (λ v m. numbered v (inr m)))
+  pub all-edges-are : (count : ℕ) → TargetsAre count → locations_edges l k count 0 (locs_of own) ≡ map (net_edge own) (event_edges own)
+  all-edges-are count targets = locations-are count 0 (locs_of own) targets
 
 -- ---- one edge more
 
-pub edge_added : (l : Looking) (k from to : ℕ) (e : Edge) (u : EventUse) (event : ℕ) (guard : NetExpr) (updates : List NetUpdate) (places : List ℕ) (before after : List NetEdgeOf)
+-- the role of the code is the role of the net
+pub role-back : (r : Role) → net_role (role_back r) ≡ r
+role-back syncing = refl
+role-back sending = refl
+role-back receiving = refl
+
+pub edge_added : (l : Looking) (k from to : ℕ) (e : Edge) (u : EventUse) (event : ℕ) (role : NetRole) (guard : NetExpr) (value : Option NetExpr) (updates : List NetUpdate) (places : List ℕ) (before after : List NetEdgeOf)
     → event ≡ event_number (component_at l k) u.name
+    → role ≡ role_for (role_tree u.role)
     → view guard ≡ net_guard (component_at l k) u.name.at (map source_view e.guards)
+    → option_map view value ≡ option_map (net_of (component_at l k)) (sent_tree (role_tree u.role))
     → view_updates updates ≡ net_updates_of (component_at l k) (source_updates e.updates)
     → places ≡ value_places (record { from = from; event_use = use_tree u; edge = edge_tree e })
-    → after ≡ before ++ record { event = event; role = role.Sync; from = from; to = to; guard = guard; sent = None; updates = updates; places = places } ∷ []
-    → map net_tree after ≡ map net_tree before ++ sync_edge l k from to (edge_tree e) (use_tree u) ∷ []
-edge_added l k from to e u event guard updates places before after numbered guarded updated placed pushed =
-    let x : NetEdgeOf = record { event = event; role = role.Sync; from = from; to = to; guard = guard; sent = None; updates = updates; places = places } in
-    let same : net_tree x ≡ sync_edge l k from to (edge_tree e) (use_tree u) = λ i. record {
+    → after ≡ before ++ record { event = event; role = role; from = from; to = to; guard = guard; sent = value; updates = updates; places = places } ∷ []
+    → map net_tree after ≡ map net_tree before ++ use_edge l k from to (edge_tree e) (use_tree u) ∷ []
+edge_added l k from to e u event role guard value updates places before after numbered roled guarded valued updated placed pushed =
+    let x : NetEdgeOf = record { event = event; role = role; from = from; to = to; guard = guard; sent = value; updates = updates; places = places } in
+    let same : net_tree x ≡ use_edge l k from to (edge_tree e) (use_tree u) = λ i. record {
       event = numbered i;
-      role = syncing;
+      role = (ap net_role roled ∙ role-back (role_of (role_tree u.role))) i;
       from = from;
       to = to;
       guard = guarded i;
-      sent = None;
+      sent = valued i;
       updates = updated i;
       places = placed i;
     } in

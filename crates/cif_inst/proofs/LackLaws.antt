@@ -1,8 +1,9 @@
 -- The first event outside an alphabet is told where the rule on alphabets is broken, and none where it is kept.
 use Rattle.std.proofs.Common.{◌≡◌, ℕ, suc, ◌+◌, ◌⊎◌, Bool, true, false, cond, inl, inr, List, [], ◌∷◌, ◌++◌, map, Option, Some, None, refl, sym, ◌∙◌, ap, subst, arith}
-use Rattle.std.specs.Prelude.{not, flat_map, slice_get, unwrap_or, IsTrue}
+use Rattle.std.specs.Prelude.{not, flat_map, slice_get, unwrap_or, IsTrue, if◌then◌else◌}
 use Rattle.std.specs.List.{Any, enumerate_from, position_or_len}
 use Rattle.std.proofs.lemmas.List.{map-append}
+use Rattle.std.proofs.lemmas.Grind.{flat_map-append}
 use Rattle.cif_ast.specs.declared.names.Name.{Name}
 use Rattle.cif_system.specs.Words.{Member}
 use Rattle.cif_system.proofs.Lists.{some-same, none-some}
@@ -12,21 +13,20 @@ use Rattle.cif_model.specs.Facts.{has}
 use Rattle.cif_source.specs.Source.{UseTree, EdgeTree, LocationTree, AutomatonTree, automaton_body, Source}
 use Rattle.cif_source.specs.Components.{Component, body_of}
 use Rattle.cif_source.specs.Objects.{components_of, locs_of, locs_in, EventEdge, event_edges, edges_of_uses}
-use Rattle.cif_source.specs.Step.{synchronises}
+use Rattle.cif_system.specs.System.{syncing}
+use Rattle.cif_system.specs.Step.{same_role}
+use Rattle.cif_source.specs.Step.{role_of, synchronises}
 use Rattle.cif_rules.specs.InstanceRules as rules
 use Rattle.cif_rules.specs.InstanceRules.{synchronised_name, is_lacking}
 use Rattle.cif_image.specs.Flat.{event_number, net_edge}
-use Rattle.cif_image.proofs.SystemLaws.{map-map, alphabet-same}
+use Rattle.cif_image.proofs.SystemLaws.{alphabet-same}
 use Rattle.cif_image.proofs.RuleLaws.{member-any}
-use Rattle.cif_fits.proofs.FormLaws.{way-syncs}
 use Rattle.cif_translate.specs.Looking.{component_at}
 use Rattle.cif_translate.specs.declared.looking.Looking.{Looking}
 use Rattle.cif_inst.specs.Edges.{automaton_edges}
-use Rattle.cif_inst.specs.Alphabets.{name_places, use_place, edge_places, location_places, used_events, alphabet_for, monitors_by, monitors_for, is_outside, first_failing, or_later, automaton_lacks}
+use Rattle.cif_inst.specs.Alphabets.{name_places, use_place, edge_places, location_places, synced_events, alphabet_for, monitors_by, monitors_for, is_outside, first_failing, or_later, automaton_lacks}
 use Rattle.cif_inst.proofs.SoundLaws.{IsSound}
-use Rattle.cif_inst.proofs.EdgeLaws.{event_of}
-use Rattle.cif_inst.proofs.ListedLaws.{used-edges}
-use Rattle.cif_inst.proofs.AlphabetLaws.{use_name, synchronised-all, Numbered, edge-numbered, monitor-numbered, alphabet-is}
+use Rattle.cif_inst.proofs.AlphabetLaws.{role_names, Numbered, role-numbered, monitor-numbered, roles-are, alphabet-is}
 
 -- ---- the first that fails
 
@@ -74,22 +74,44 @@ or-second (Some x) r h = absurd (none-some x (sym h))
 abbrev edges_from : ℕ → List LocationTree → List EventEdge
 edges_from j ls = flat_map (λ (l : ℕ × LocationTree). flat_map (edges_of_uses l.0) l.1.edges) (enumerate_from j ls)
 
-uses-places : (from : ℕ) (e : EdgeTree) → edge_places e ≡ map (λ (w : EventEdge). w.event_use.name.at) (edges_of_uses from e)
-uses-places from e = sym (map-map (λ (w : EventEdge). w.event_use.name.at) (λ (u : UseTree). record { from = from; event_use = u; edge = e }) use_place e.uses (λ u m. refl))
+-- where the names of edges that synchronise stand
+synced-places : (ws : List EventEdge) (us : List UseTree) → us ≡ map (λ (w : EventEdge). w.event_use) ws → flat_map use_place us ≡ name_places (flat_map synchronised_name ws)
+synced-places [] us is = ap (flat_map use_place) is
+synced-places (w ∷ ws) us is =
+    ap (flat_map use_place) is
+    ∙ ap (λ xs. use_place w.event_use ++ xs) (synced-places ws (map (λ (w : EventEdge). w.event_use) ws) refl)
+    ∙ (elim (same_role syncing (role_of w.event_use.role)) as (λ b. (if b then w.event_use.name.at ∷ [] else []) ++ name_places (flat_map synchronised_name ws)
+    ≡ name_places ((if b then w.event_use.name ∷ [] else []) ++ flat_map synchronised_name ws)) [
+      | true ↦ refl
+      | false ↦ refl
+    ])
 
-edges-places : (from : ℕ) (es : List EdgeTree) → flat_map edge_places es ≡ map (λ (w : EventEdge). w.event_use.name.at) (flat_map (edges_of_uses from) es)
+uses-places : (from : ℕ) (e : EdgeTree) → edge_places e ≡ name_places (flat_map synchronised_name (edges_of_uses from e))
+uses-places from e = synced-places (edges_of_uses from e) e.uses (same e.uses)
+  where
+    same : (us : List UseTree) → us ≡ map (λ (w : EventEdge). w.event_use) (map (λ u. record { from = from; event_use = u; edge = e }) us)
+    same [] = refl
+    same (u ∷ us) = ap (λ vs. u ∷ vs) (same us)
+
+-- those of two lists of edges stand one behind the other
+joined-places : (vs ws : List EventEdge) → name_places (flat_map synchronised_name vs) ++ name_places (flat_map synchronised_name ws) ≡ name_places (flat_map synchronised_name (vs ++ ws))
+joined-places vs ws =
+    sym (map-append (λ (nm : Name). nm.at) (flat_map synchronised_name vs) (flat_map synchronised_name ws))
+    ∙ ap name_places (sym (flat_map-append synchronised_name vs ws))
+
+edges-places : (from : ℕ) (es : List EdgeTree) → flat_map edge_places es ≡ name_places (flat_map synchronised_name (flat_map (edges_of_uses from) es))
 edges-places from [] = refl
 edges-places from (e ∷ es) =
     ap (λ xs. xs ++ flat_map edge_places es) (uses-places from e)
-    ∙ ap (λ xs. map (λ (w : EventEdge). w.event_use.name.at) (edges_of_uses from e) ++ xs) (edges-places from es)
-    ∙ sym (map-append (λ (w : EventEdge). w.event_use.name.at) (edges_of_uses from e) (flat_map (edges_of_uses from) es))
+    ∙ ap (λ xs. name_places (flat_map synchronised_name (edges_of_uses from e)) ++ xs) (edges-places from es)
+    ∙ joined-places (edges_of_uses from e) (flat_map (edges_of_uses from) es)
 
-locations-places : (j : ℕ) (ls : List LocationTree) → flat_map location_places ls ≡ map (λ (w : EventEdge). w.event_use.name.at) (edges_from j ls)
+locations-places : (j : ℕ) (ls : List LocationTree) → flat_map location_places ls ≡ name_places (flat_map synchronised_name (edges_from j ls))
 locations-places j [] = refl
 locations-places j (l ∷ ls) =
     ap (λ xs. xs ++ flat_map location_places ls) (edges-places j l.edges)
-    ∙ ap (λ xs. map (λ (w : EventEdge). w.event_use.name.at) (flat_map (edges_of_uses j) l.edges) ++ xs) (locations-places (j + 1) ls)
-    ∙ sym (map-append (λ (w : EventEdge). w.event_use.name.at) (flat_map (edges_of_uses j) l.edges) (edges_from (j + 1) ls))
+    ∙ ap (λ xs. name_places (flat_map synchronised_name (flat_map (edges_of_uses j) l.edges)) ++ xs) (locations-places (j + 1) ls)
+    ∙ joined-places (flat_map (edges_of_uses j) l.edges) (edges_from (j + 1) ls)
 
 -- ---- one automaton
 
@@ -112,34 +134,25 @@ module _ (l : Looking) (k : ℕ) (t : Source) (h : IsSound t) (m : Member (compo
   -- ---- its edges
 
   abbrev edge_names : List Name
-  edge_names = map use_name (event_edges own)
+  edge_names = role_names syncing own
 
-  used-are : used_events l k a ≡ map (event_number own) edge_names
-  used-are =
-      used-edges l k a
-      ∙ ap (map event_of) edges
-      ∙ map-map event_of (net_edge own) (λ w. event_number own (use_name w)) (event_edges own) (λ w x. refl)
-      ∙ sym (map-map (event_number own) use_name (λ w. event_number own (use_name w)) (event_edges own) (λ w x. refl))
+  synced-are : synced_events l k a ≡ map (event_number own) edge_names
+  synced-are = roles-are l k t h m a e edges syncing
 
   places-are : flat_map location_places a.locs ≡ name_places edge_names
-  places-are =
-      ap (λ b. flat_map location_places (locs_in b)) (sym e)
-      ∙ locations-places 0 (locs_of own)
-      ∙ sym (map-map (λ (nm : Name). nm.at) use_name (λ (w : EventEdge). w.event_use.name.at) (event_edges own) (λ w x. refl))
+  places-are = ap (λ b. flat_map location_places (locs_in b)) (sym e) ∙ locations-places 0 (locs_of own)
 
   names-are : asked_names own ≡ edge_names ++ unwrap_or a.monitor []
-  names-are =
-      ap (λ xs. xs ++ rules.monitored_in (body_of own)) (synchronised-all (event_edges own) (way-syncs t h.forms own m))
-      ∙ ap (λ b. edge_names ++ rules.monitored_in b) e
+  names-are = ap (λ b. edge_names ++ rules.monitored_in b) e
 
   edge-name-numbered : (nm : Name) → Member nm edge_names → Numbered t own nm
-  edge-name-numbered nm x = let w = member-map use_name nm (event_edges own) x in subst (Numbered t own) (sym w.2) (edge-numbered t h own m w.0 w.1)
+  edge-name-numbered nm x = role-numbered t h own m syncing nm x
 
   abbrev fails : ℕ → Bool
   fails = is_outside (alphabet_for l k a)
 
-  edge-failing : first_failing fails (used_events l k a) (flat_map location_places a.locs) ≡ first_failing fails (map (event_number own) edge_names) (name_places edge_names)
-  edge-failing = λ i. first_failing fails (used-are i) (places-are i)
+  edge-failing : first_failing fails (synced_events l k a) (flat_map location_places a.locs) ≡ first_failing fails (map (event_number own) edge_names) (name_places edge_names)
+  edge-failing = λ i. first_failing fails (synced-are i) (places-are i)
 
   -- ---- what it monitors
 
@@ -160,7 +173,7 @@ module _ (l : Looking) (k : ℕ) (t : Source) (h : IsSound t) (m : Member (compo
 
   pub automaton-told : (at : ℕ) → automaton_lacks l k a ≡ Some at → LacksAt at own
   automaton-told at g =
-      elim (or-told (first_failing fails (used_events l k a) (flat_map location_places a.locs)) (first_failing fails (monitors_for l k a) (name_places (unwrap_or a.monitor []))) at g) [
+      elim (or-told (first_failing fails (synced_events l k a) (flat_map location_places a.locs)) (first_failing fails (monitors_for l k a) (name_places (unwrap_or a.monitor []))) at g) [
         | inl w ↦
             let x = first-told fails (event_number own) edge_names at (sym edge-failing ∙ w) in
             lacking-there x.0 at (append-left x.0 edge_names (unwrap_or a.monitor []) x.1) (edge-name-numbered x.0 x.1) x.2 x.3
@@ -171,8 +184,8 @@ module _ (l : Looking) (k : ℕ) (t : Source) (h : IsSound t) (m : Member (compo
 
   pub automaton-kept : automaton_lacks l k a ≡ None → (nm : Name) → Member nm (asked_names own) → is_lacking own nm ≡ false
   automaton-kept g nm x =
-      let first = or-first (first_failing fails (used_events l k a) (flat_map location_places a.locs)) (first_failing fails (monitors_for l k a) (name_places (unwrap_or a.monitor []))) g in
-      let second = or-second (first_failing fails (used_events l k a) (flat_map location_places a.locs)) (first_failing fails (monitors_for l k a) (name_places (unwrap_or a.monitor []))) g in
+      let first = or-first (first_failing fails (synced_events l k a) (flat_map location_places a.locs)) (first_failing fails (monitors_for l k a) (name_places (unwrap_or a.monitor []))) g in
+      let second = or-second (first_failing fails (synced_events l k a) (flat_map location_places a.locs)) (first_failing fails (monitors_for l k a) (name_places (unwrap_or a.monitor []))) g in
       elim (member-append nm edge_names (unwrap_or a.monitor []) (subst (Member nm) names-are x)) [
         | inl w ↦ outside nm (edge-name-numbered nm w) ∙ none-fails fails (event_number own) edge_names (sym edge-failing ∙ first) nm w
         | inr w ↦ outside nm (monitor-numbered t h own m a e nm w) ∙ monitor-kept a.monitor (alphabet_for l k a) second nm w

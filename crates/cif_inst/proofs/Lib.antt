@@ -11,6 +11,8 @@ pub mod AlphabetLaws
 pub mod LackLaws
 pub mod AutomatonLaws
 pub mod TellLaws
+pub mod RoleLaws
+pub mod MixedLaws
 pub mod RowAutoLaws
 pub mod DeclarationLaws
 pub mod TypingLaws

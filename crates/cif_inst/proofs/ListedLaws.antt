@@ -5,14 +5,17 @@ use Rattle.std.proofs.lemmas.List.{map-append}
 use Rattle.cif_model.specs.Net.{NetEdge}
 use Rattle.cif_source.specs.Source.{UseTree, EdgeTree, LocationTree, AutomatonTree}
 use Rattle.cif_image.proofs.SystemLaws.{map-map}
+use Rattle.cif_translate.specs.Looking.{component_at}
 use Rattle.cif_translate.specs.declared.looking.Looking.{Looking}
-use Rattle.cif_inst.specs.Edges.{sync_edge, end_place, uses_edges, locations_edges, automaton_edges}
-use Rattle.cif_inst.specs.Alphabets.{use_event, used_events}
-use Rattle.cif_inst.specs.Measures.{edge_weight, use_weight, automaton_weights}
-use Rattle.cif_inst.proofs.EdgeLaws.{event_of}
+use Rattle.cif_sizes.specs.Arguments.{edge_weight, use_weight}
+use Rattle.cif_inst.specs.Edges.{use_edge, end_place, uses_edges, locations_edges, automaton_edges}
+use Rattle.cif_inst.specs.Alphabets.{use_used, automaton_used}
+use Rattle.cif_inst.specs.Measures.{automaton_weights}
+use Rattle.cif_inst.specs.Views.{role_back}
+use Rattle.cif_inst.specs.declared.used.Used.{Used}
 
 -- g tells of a use what f does of its edge, wherever that stands and leads
-module _ {A : Type 0} (l : Looking) (k count : ℕ) (g : EdgeTree → UseTree → A) (f : NetEdge → A) (same : (from to : ℕ) (e : EdgeTree) (u : UseTree) → f (sync_edge l k from to e u) ≡ g e u) where
+module _ {A : Type 0} (l : Looking) (k count : ℕ) (g : EdgeTree → UseTree → A) (f : NetEdge → A) (same : (from to : ℕ) (e : EdgeTree) (u : UseTree) → f (use_edge l k from to e u) ≡ g e u) where
   abbrev of_edge : EdgeTree → List A
   of_edge e = map (g e) e.uses
 
@@ -20,7 +23,7 @@ module _ {A : Type 0} (l : Looking) (k count : ℕ) (g : EdgeTree → UseTree �
   of_location x = flat_map of_edge x.edges
 
   edge-listed : (from : ℕ) (e : EdgeTree) → of_edge e ≡ map f (uses_edges l k from count e)
-  edge-listed from e = sym (map-map f (sync_edge l k from (end_place l k from count e.target) e) (g e) e.uses (λ u m. same from (end_place l k from count e.target) e u))
+  edge-listed from e = sym (map-map f (use_edge l k from (end_place l k from count e.target) e) (g e) e.uses (λ u m. same from (end_place l k from count e.target) e u))
 
   edges-listed : (from : ℕ) (es : List EdgeTree) → flat_map of_edge es ≡ map f (flat_map (uses_edges l k from count) es)
   edges-listed from [] = refl
@@ -36,8 +39,12 @@ module _ {A : Type 0} (l : Looking) (k count : ℕ) (g : EdgeTree → UseTree �
       ∙ ap (λ ys. map f (flat_map (uses_edges l k from count) x.edges) ++ ys) (locations-listed (from + 1) xs)
       ∙ sym (map-append f (flat_map (uses_edges l k from count) x.edges) (locations_edges l k count (from + 1) xs))
 
-pub used-edges : (l : Looking) (k : ℕ) (a : AutomatonTree) → used_events l k a ≡ map event_of (automaton_edges l k a)
-used-edges l k a = locations-listed l k (length a.locs) (λ e. use_event l k) event_of (λ from to e u. refl) 0 a.locs
+-- the use of an edge of the net
+abbrev pub used_by : NetEdge → Used
+used_by x = record { event = x.event; role = role_back x.role }
+
+pub used-edges : (l : Looking) (k : ℕ) (a : AutomatonTree) → automaton_used l k a ≡ map used_by (automaton_edges l k a)
+used-edges l k a = locations-listed l k (length a.locs) (λ e. use_used l k) used_by (λ from to e u. refl) 0 a.locs
 
 pub weights-edges : (l : Looking) (k : ℕ) (a : AutomatonTree) → automaton_weights l k a ≡ map edge_weight (automaton_edges l k a)
-weights-edges l k a = locations-listed l k (length a.locs) (use_weight l k) edge_weight (λ from to e u. refl) 0 a.locs
+weights-edges l k a = locations-listed l k (length a.locs) (use_weight (component_at l k)) edge_weight (λ from to e u. refl) 0 a.locs

@@ -1,18 +1,20 @@
 -- Events are marked exactly where they stand in the alphabet.
-use Rattle.std.proofs.Common.{◌≡◌, ◌≢◌, ℕ, zero, suc, ◌+◌, ◌≤◌, ◌<◌, Bool, true, false, cond, inl, inr, List, [], ◌∷◌, length, get_or, replicate, refl, sym, ◌∙◌, ap, subst, arith}
+use Rattle.std.proofs.Common.{◌≡◌, ◌≢◌, ℕ, zero, suc, ◌+◌, ◌≤◌, ◌<◌, Bool, true, false, cond, inl, inr, List, [], ◌∷◌, ◌++◌, length, drop, get_or, replicate, Option, Some, refl, sym, ◌∙◌, ap, subst, arith}
 use Rattle.std.specs.Prelude.{◌&&◌, ◌||◌, not, nat_eq, nat_le, slice_set}
-use Rattle.std.specs.List.{list_all, position_or_len}
+use Rattle.std.specs.List.{list_all, list_any, position_or_len}
 use Rattle.std.proofs.lemmas.Bool.Decides.{nat_tests}
 use Rattle.std.proofs.lemmas.List.{length-set, get_or-set_same, get_or-set_other}
 use Rattle.std.proofs.lemmas.Option.{unwrap_or-slice_get}
 use Rattle.cif_system.specs.Words.{Member}
+use Rattle.cif_system.specs.System.{sending, receiving}
 use Rattle.cif_system.proofs.Picks.{and-left, and-right}
 use Rattle.cif_model.specs.Facts.{has}
-use Rattle.cif_translate.specs.Looking.{source_for}
-use Rattle.cif_translate.specs.declared.looking.Looking.{Looking}
-use Rattle.cif_inst.specs.Alphabets.{is_outside, first_failing, marked, mark_of, is_unmarked, AreMarks}
-use Rattle.cif_source.specs.Objects.{events}
-use Rattle.std.specs.Prelude.{slice_get}
+use Rattle.cif_inst.specs.Alphabets.{is_outside, first_failing, events_as}
+use Rattle.cif_inst.specs.Marks.{marked, mark_of, is_marked, is_unmarked, AreMarks}
+use Rattle.cif_scope.proofs.Places.{drop-item}
+use Rattle.cif_inst.specs.Roles.{is_mixed, first_mixed, marked_by, is_mixed_by, AreBelow}
+use Rattle.cif_inst.specs.declared.alphabets.Alphabet.{Alphabet}
+use Rattle.std.specs.Prelude.{slice_get, if◌then◌else◌}
 
 -- ---- one mark
 
@@ -114,9 +116,11 @@ or-false true = refl
 or-false false = refl
 
 -- with the next mark those events are marked that stand in the list
+marked-inside : (k : ℕ) (es ms : List ℕ) (e : ℕ) → AreSmall k ms → e < length ms → is_marked (k + 1) (marked (k + 1) es ms) e ≡ has es e
+marked-inside k es ms e small below = marked-has (k + 1) es ms e below ∙ ap (λ b. has es e || b) (other-mark k (mark_of ms e) (mark-small k ms e small)) ∙ or-false (has es e)
+
 pub marked-outside : (k : ℕ) (es ms : List ℕ) (e : ℕ) → AreSmall k ms → e < length ms → is_unmarked (k + 1) (marked (k + 1) es ms) e ≡ is_outside es e
-marked-outside k es ms e small below =
-    ap not (marked-has (k + 1) es ms e below ∙ ap (λ b. has es e || b) (other-mark k (mark_of ms e) (mark-small k ms e small)) ∙ or-false (has es e))
+marked-outside k es ms e small below = ap not (marked-inside k es ms e small below)
 
 same-position : (p q : ℕ → Bool) (xs : List ℕ) → ((x : ℕ) → Member x xs → p x ≡ q x) → position_or_len p xs ≡ position_or_len q xs
 same-position p q [] h = refl
@@ -126,19 +130,19 @@ same-position p q (x ∷ xs) h =
 pub same-failing : (p q : ℕ → Bool) (xs ps : List ℕ) → ((x : ℕ) → Member x xs → p x ≡ q x) → first_failing p xs ps ≡ first_failing q xs ps
 same-failing p q xs ps h = ap (slice_get ps) (same-position p q xs h)
 
-pub next_marks : (l : Looking) (k mark : ℕ) (es ms new : List ℕ) → mark ≡ k + 1 → new ≡ marked mark es ms → AreMarks l k ms → AreMarks l mark new
-next_marks l k mark es ms new next is h =
-    subst (λ x. AreMarks l x new) (sym next)
-    (subst (AreMarks l (k + 1)) (sym (is ∙ ap (λ x. marked x es ms) next)) (record {
+pub next_marks : (count k mark : ℕ) (es ms new : List ℕ) → mark ≡ k + 1 → new ≡ marked mark es ms → AreMarks count k ms → AreMarks count mark new
+next_marks count k mark es ms new next is h =
+    subst (λ x. AreMarks count x new) (sym next)
+    (subst (AreMarks count (k + 1)) (sym (is ∙ ap (λ x. marked x es ms) next)) (record {
       every = marked-length (k + 1) es ms ∙ h.every;
       small = marked-small (k + 1) es ms (more-small k (k + 1) ms (omega arith) h.small);
     }))
 
-pub later_marks : (l : Looking) (k : ℕ) (ms : List ℕ) → AreMarks l k ms → AreMarks l (k + 1) ms
-later_marks l k ms h = record { every = h.every; small = more-small k (k + 1) ms (omega arith) h.small }
+pub later_marks : (count k : ℕ) (ms : List ℕ) → AreMarks count k ms → AreMarks count (k + 1) ms
+later_marks count k ms h = record { every = h.every; small = more-small k (k + 1) ms (omega arith) h.small }
 
-pub first_marks : (l : Looking) (count : ℕ) (ms : List ℕ) → count ≡ length (events (source_for l)) → ms ≡ replicate count 0 → AreMarks l 0 ms
-first_marks l count ms as_many is = subst (AreMarks l 0) (sym is) (record { every = replicated count ∙ as_many; small = zeros-small count })
+pub first_marks : (count as_many : ℕ) (ms : List ℕ) → as_many ≡ count → ms ≡ replicate as_many 0 → AreMarks count 0 ms
+first_marks count as_many ms same is = subst (AreMarks count 0) (sym is) (record { every = replicated as_many ∙ same; small = zeros-small as_many })
   where
     replicated : (c : ℕ) → length {A = ℕ} (replicate c 0) ≡ c
     replicated zero = refl
@@ -147,3 +151,48 @@ first_marks l count ms as_many is = subst (AreMarks l 0) (sym is) (record { ever
     zeros-small : (c : ℕ) → AreSmall 0 (replicate c 0)
     zeros-small zero = refl
     zeros-small (suc c) = both (nat_le 0 0) (list_all (λ m. nat_le m 0) (replicate c 0)) refl (zeros-small c)
+
+-- ---- roles
+
+any-same : (p q : ℕ → Bool) (xs : List ℕ) → ((x : ℕ) → Member x xs → p x ≡ q x) → list_any p xs ≡ list_any q xs
+any-same p q [] h = refl
+any-same p q (x ∷ xs) h = ap (λ b. b || list_any p xs) (h x (inl refl)) ∙ ap (λ b. q x || b) (any-same p q xs (λ y m. h y (inr m)))
+
+marked-twice : (mark : ℕ) (es fs ms : List ℕ) → marked mark fs (marked mark es ms) ≡ marked mark (es ++ fs) ms
+marked-twice mark [] fs ms = refl
+marked-twice mark (e ∷ es) fs ms = marked-twice mark es fs (slice_set ms e mark)
+
+-- with the next mark it is seen whether an event has two roles
+module _ (count k : ℕ) (a : Alphabet) (ms : List ℕ) (below : AreBelow count a) (h : AreMarks count k ms) where
+  abbrev received : List ℕ
+  received = events_as receiving a.used
+
+  abbrev sent : List ℕ
+  sent = events_as sending a.used
+
+  next-mixed : is_mixed_by (k + 1) a ms ≡ is_mixed a
+  next-mixed =
+      ap (λ b. b || list_any (is_marked (k + 1) (marked_by (k + 1) a ms)) sent)
+      (any-same (is_marked (k + 1) (marked (k + 1) a.events ms)) (has a.events) received (λ e m. marked-inside k a.events ms e h.small (omega (arith, below.received e m, h.every))))
+      ∙ ap (λ b. list_any (has a.events) received || b)
+      (ap (λ xs. list_any (is_marked (k + 1) xs) sent) (marked-twice (k + 1) a.events received ms)
+      ∙ any-same (is_marked (k + 1) (marked (k + 1) (a.events ++ received) ms)) (has (a.events ++ received)) sent (λ e m. marked-inside k (a.events ++ received) ms e h.small (omega (arith, below.sent e m, h.every))))
+
+  pub mixed_by : (mark : ℕ) → mark ≡ k + 1 → is_mixed_by mark a ms ≡ is_mixed a
+  mixed_by mark next = ap (λ x. is_mixed_by x a ms) next ∙ next-mixed
+
+pub marks_after : (count k mark : ℕ) (a : Alphabet) (ms new : List ℕ) → mark ≡ k + 1 → new ≡ marked_by mark a ms → AreMarks count k ms → AreMarks count mark new
+marks_after count k mark a ms new next is h =
+    next_marks count k mark (a.events ++ events_as receiving a.used) ms new next (is ∙ marked-twice mark a.events (events_as receiving a.used) ms) h
+
+-- ---- past one of the alphabets
+
+module _ (all : List Alphabet) (i : ℕ) (a : Alphabet) (o : Option ℕ) (below : i < length all) (is : a ≡ get_or all i a) (h : first_mixed (drop i all) ≡ o) where
+  here : first_mixed (a ∷ drop (i + 1) all) ≡ o
+  here = sym (ap first_mixed (drop-item all i a below is)) ∙ h
+
+  pub mixed_passed : is_mixed a ≡ false → first_mixed (drop (i + 1) all) ≡ o
+  mixed_passed single = sym (ap (λ b. if b then Some a.component else first_mixed (drop (i + 1) all)) single) ∙ here
+
+  pub mixed_found : is_mixed a ≡ true → Some a.component ≡ o
+  mixed_found mixed = sym (ap (λ b. if b then Some a.component else first_mixed (drop (i + 1) all)) mixed) ∙ here

@@ -4,14 +4,14 @@ use Rattle.cif_ast.specs.declared.edges.EventUse.{EventUse}
 use Rattle.cif_measure.specs.declared.measures.Measure.{Measure}
 use Rattle.cif_scope.proofs.Places.{drop-item}
 use Rattle.cif_source.specs.Source.{EdgeTree, use_tree}
-use Rattle.cif_translate.specs.declared.looking.Looking.{Looking}
-use Rattle.cif_inst.specs.Measures.{use_weight}
+use Rattle.cif_source.specs.Components.{Component}
+use Rattle.cif_sizes.specs.Arguments.{use_weight}
 
-pub weight_added : (l : Looking) (k : ℕ) (e : EdgeTree) (uses : List EventUse) (i : ℕ) (u : EventUse) (before after all : List Measure) (m : Measure) → i < length uses → u ≡ get_or uses i u → after ≡ before ++ m ∷ [] → m ≡ use_weight l k e (use_tree u)
-    → before ++ map (use_weight l k e) (map use_tree (drop i uses)) ≡ all → after ++ map (use_weight l k e) (map use_tree (drop (i + 1) uses)) ≡ all
-weight_added l k e uses i u before after all m within is pushed same rest =
-    ap (λ (ws : List Measure). ws ++ map (use_weight l k e) (map use_tree (drop (i + 1) uses))) pushed
-    ∙ append_assoc before (m ∷ []) (map (use_weight l k e) (map use_tree (drop (i + 1) uses)))
-    ∙ ap (λ (x : Measure). before ++ x ∷ map (use_weight l k e) (map use_tree (drop (i + 1) uses))) same
-    ∙ ap (λ (us : List EventUse). before ++ map (use_weight l k e) (map use_tree us)) (sym (drop-item uses i u within is))
+pub weight_added : (c : Component) (e : EdgeTree) (uses : List EventUse) (i : ℕ) (u : EventUse) (before after all : List Measure) (m : Measure) → i < length uses → u ≡ get_or uses i u → after ≡ before ++ m ∷ [] → m ≡ use_weight c e (use_tree u)
+    → before ++ map (use_weight c e) (map use_tree (drop i uses)) ≡ all → after ++ map (use_weight c e) (map use_tree (drop (i + 1) uses)) ≡ all
+weight_added c e uses i u before after all m within is pushed same rest =
+    ap (λ (ws : List Measure). ws ++ map (use_weight c e) (map use_tree (drop (i + 1) uses))) pushed
+    ∙ append_assoc before (m ∷ []) (map (use_weight c e) (map use_tree (drop (i + 1) uses)))
+    ∙ ap (λ (x : Measure). before ++ x ∷ map (use_weight c e) (map use_tree (drop (i + 1) uses))) same
+    ∙ ap (λ (us : List EventUse). before ++ map (use_weight c e) (map use_tree us)) (sym (drop-item uses i u within is))
     ∙ rest

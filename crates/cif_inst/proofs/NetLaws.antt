@@ -37,21 +37,23 @@ use Rattle.cif_image.specs.WellFormed.{KeepsBefore, algebraic}
 use Rattle.cif_image.proofs.RuleLaws.{declaration-cases}
 use Rattle.cif_image.proofs.StandingLaws.{flat-nothing}
 use Rattle.cif_fits.specs.Forms.{HasSmallArguments}
-use Rattle.cif_fits.proofs.FormLaws.{HasForms, forms-of, decl-invariant}
+use Rattle.cif_fits.proofs.FormLaws.{forms-of, decl-invariant}
 use Rattle.cif_translate.specs.Looking.{or_whole, source_for, component_at, AreNamesOf}
 use Rattle.cif_translate.specs.declared.looking.Looking.{Looking}
-use Rattle.cif_inst.specs.Names.{AreBuiltNames}
+use Rattle.cif_inst.specs.Names.{AreMatchedNames}
 use Rattle.cif_inst.specs.Rows.{RowTree, prefix_of, row_for, rows_of}
-use Rattle.cif_inst.specs.Events.{rows_events}
+use Rattle.cif_inst.specs.Events.{all_events}
 use Rattle.cif_inst.specs.Algebraic.{rows_algs}
 use Rattle.cif_inst.specs.Variables.{all_stored}
 use Rattle.cif_inst.specs.declared.declarations.Sort.TheVariants as sort
 use Rattle.cif_inst.specs.Autos.{is_initial, without_dot, auto_for, body_autos, rows_autos}
 use Rattle.cif_inst.specs.Net.{due, of_components, of_constants, KeepsInstances}
-use Rattle.cif_inst.specs.Alphabets.{rows_lacks, tells}
+use Rattle.cif_inst.specs.Alphabets.{rows_alphabets, rows_lacks, tells}
+use Rattle.cif_inst.specs.Roles.{first_mixed}
+use Rattle.cif_inst.specs.declared.alphabets.Alphabet.{Alphabet}
 use Rattle.cif_inst.specs.declared.error.InstErr.{InstErr}
-use Rattle.cif_inst.specs.declared.error.InstErr.TheVariants.{AlphabetLacks, TooManyObjects, ConstantRange, TooLarge, Memory}
-use Rattle.cif_inst.proofs.SoundLaws.{names-sound, component-listed, From, from-here, from-next, all-components}
+use Rattle.cif_inst.specs.declared.error.InstErr.TheVariants.{AlphabetLacks, RoleMixed, TooManyObjects, ConstantRange, TooLarge, Memory}
+use Rattle.cif_inst.proofs.SoundLaws.{component-listed, From, from-here, from-next, all-components}
 use Rattle.cif_inst.proofs.RowLaws.{dots-step, dots-dotted}
 use Rattle.cif_inst.proofs.EventLaws.{events-are}
 use Rattle.cif_inst.proofs.AlphabetLaws.{alphabet-is, monitors-are}
@@ -59,7 +61,8 @@ use Rattle.cif_inst.proofs.AutomatonLaws.{sound, edges}
 use Rattle.cif_inst.proofs.TellLaws.{lacks-due, lacks-none}
 use Rattle.cif_inst.proofs.AlgebraicLaws.{algs-are}
 use Rattle.cif_inst.proofs.VariableLaws.{inputs-are, variables-are}
-use Rattle.cif_inst.proofs.RuleLaws.{no-roles, kept_before}
+use Rattle.cif_inst.proofs.MixedLaws.{roles_kept}
+use Rattle.cif_inst.proofs.RuleLaws.{kept_before}
 
 -- ---- paths
 
@@ -81,7 +84,7 @@ own-path (copy o n ps b g i) a = path-dropped (path_of g) i.name.text
 
 -- ---- automata
 
-module _ (l : Looking) (h : AreBuiltNames l) where
+module _ (l : Looking) (h : AreMatchedNames l) where
   auto-made : (k : ℕ) → k < length (components_of (source_for l)) → (a : AutomatonTree) → body_of (component_at l k) ≡ automaton_body a → auto_for l k (prefix_of (component_at l k)) a ≡ net_auto (component_at l k)
   auto-made k below a e =
       let c = component_at l k in
@@ -167,38 +170,36 @@ module _ (t : Source) (built : is_built t ≡ true) where
 
 -- what stands for the source's net
 pub record IsMade (l : Looking) (rows : List RowTree) (autos : List Auto) (all : List Event) (ins : List Input) (vars : List Var) (algs : List Alg) : Type 0 where
-  pub names : AreBuiltNames l
+  pub names : AreMatchedNames l
+  pub built : is_built (source_for l) ≡ true
   pub kinds : KeepsKinds (source_for l)
   pub kept : KeepsInstances (source_for l)
   pub of_source : rows ≡ rows_of (source_for l)
   pub made : map auto_tree autos ≡ rows_autos l 0 rows
-  pub declared : map event_tree all ≡ rows_events rows
+  pub declared : map event_tree all ≡ all_events (source_for l) rows
   pub read : map input_tree ins ≡ all_stored (source_for l) sort.Input rows
   pub stored : map var_tree vars ≡ all_stored (source_for l) sort.Discrete rows
   pub defined : map alg_tree algs ≡ rows_algs (source_for l) 0 rows
 
-pub built_names : (l : Looking) → AreNamesOf l → is_built (source_for l) ≡ true → KeepsKinds (source_for l) → AreBuiltNames l
-built_names l names built kinds = record { names = names; built = built; matched = kinds.mismatch }
+pub matched_names : (l : Looking) → AreNamesOf l → KeepsKinds (source_for l) → AreMatchedNames l
+matched_names l names kinds = record { names = names; matched = kinds.mismatch }
 
-pub kept_rules : (l : Looking) (rows : List RowTree) → AreBuiltNames l → ((count : ℕ) → TooManyObjectsDue (source_for l) count → ⊥) → ((at : ℕ) → ConstantRangeDue (source_for l) at → ⊥)
-    → rows ≡ rows_of (source_for l) → rows_lacks l 0 rows ≡ None → KeepsInstances (source_for l)
-kept_rules l rows names few ranges are inside = record {
+pub kept_rules : (l : Looking) (rows : List RowTree) (all : List Alphabet) → AreMatchedNames l → ((count : ℕ) → TooManyObjectsDue (source_for l) count → ⊥) → ((at : ℕ) → ConstantRangeDue (source_for l) at → ⊥)
+    → rows ≡ rows_of (source_for l) → all ≡ rows_alphabets l 0 rows → rows_lacks l 0 rows ≡ None → first_mixed all ≡ None → KeepsInstances (source_for l)
+kept_rules l rows all names few ranges are found inside single = record {
   alphabets = lacks-none l names rows are inside;
-  roles = no-roles (source_for l) (names-sound l names);
+  roles = roles_kept l names all rows found are single;
   few = few;
   ranges = ranges;
 }
 
 -- a source that keeps its rules has a net
-pub source_fits : (l : Looking) → AreBuiltNames l → KeepsKinds (source_for l) → KeepsInstances (source_for l)
+pub source_fits : (l : Looking) → AreMatchedNames l → is_built (source_for l) ≡ true → KeepsKinds (source_for l) → KeepsInstances (source_for l)
     → ((t : Source) → is_built t ≡ true → KeepsBefore t algebraic → HasSmallParts t → HasSmallArguments t → is_net (net_of_source t) ≡ true) → HasSmallParts (source_for l) → HasSmallArguments (source_for l)
     → is_net (net_of_source (source_for l)) ≡ true
-source_fits l names kinds kept nets small few = nets (source_for l) names.built (kept_before (source_for l) names.names.scopes.rules kinds kept) small few
+source_fits l names built kinds kept nets small few = nets (source_for l) built (kept_before (source_for l) names.names.scopes.rules kinds kept) small few
 
 module _ (l : Looking) (rows : List RowTree) (autos : List Auto) (all : List Event) (ins : List Input) (vars : List Var) (algs : List Alg) (m : IsMade l rows autos all ins vars algs) where
-  its-forms : HasForms (source_for l)
-  its-forms = forms-of (source_for l) m.names.built
-
   its-algs : map alg_tree algs ≡ map net_alg (objects.algs (source_for l))
   its-algs = m.defined ∙ ap (rows_algs (source_for l) 0) m.of_source ∙ algs-are (source_for l) m.names.names.components.few m.kinds.single
 
@@ -206,14 +207,14 @@ module _ (l : Looking) (rows : List RowTree) (autos : List Auto) (all : List Eve
   its-net =
       (λ i. record {
         autos = autos-are l m.names rows autos m.of_source m.made i;
-        events = (m.declared ∙ ap rows_events m.of_source ∙ events-are (source_for l) its-forms) i;
+        events = (m.declared ∙ ap (all_events (source_for l)) m.of_source ∙ events-are (source_for l)) i;
         inputs = (m.read ∙ ap (all_stored (source_for l) sort.Input) m.of_source ∙ inputs-are (source_for l)) i;
         vars = (m.stored ∙ ap (all_stored (source_for l) sort.Discrete) m.of_source ∙ variables-are (source_for l)) i;
         algs = its-algs i;
         exclusions = [];
         invariants = [];
       })
-      ∙ sym (net-parts (source_for l) m.names.built)
+      ∙ sym (net-parts (source_for l) m.built)
 
   its-rules : KeepsBefore (source_for l) algebraic
   its-rules = kept_before (source_for l) m.names.names.scopes.rules m.kinds m.kept
@@ -225,17 +226,18 @@ module _ (l : Looking) (rows : List RowTree) (autos : List Auto) (all : List Eve
 
     pub fits_with : ((t : Source) → is_built t ≡ true → KeepsBefore t algebraic → HasSmallParts t → HasSmallArguments t → is_net (net_of_source t) ≡ true) → HasSmallParts (source_for l) → HasSmallArguments (source_for l)
         → is_net (net_of_parts autos all ins vars algs exclusions invariants) ≡ true
-    fits_with nets small few = ap is_net whole-net ∙ source_fits l m.names m.kinds m.kept nets small few
+    fits_with nets small few = ap is_net whole-net ∙ source_fits l m.names m.built m.kinds m.kept nets small few
 
     pub represents_with : ((t : Source) → is_built t ≡ true → KeepsBefore t algebraic → Represents (net_of_source t) t)
         → Represents (net_of_parts autos all ins vars algs exclusions invariants) (source_for l)
-    represents_with nets = subst (λ x. Represents x (source_for l)) (sym whole-net) (nets (source_for l) m.names.built its-rules)
+    represents_with nets = subst (λ x. Represents x (source_for l)) (sym whole-net) (nets (source_for l) m.built its-rules)
 
 -- ---- refusals
 
 -- what is told of alphabets breaks their rule
-pub told_due : (l : Looking) (rows : List RowTree) (e : InstErr) → AreBuiltNames l → rows ≡ rows_of (source_for l) → tells e (rows_lacks l 0 rows) → due (source_for l) e
+pub told_due : (l : Looking) (rows : List RowTree) (e : InstErr) → AreMatchedNames l → rows ≡ rows_of (source_for l) → tells e (rows_lacks l 0 rows) → due (source_for l) e
 told_due l rows (AlphabetLacks at) h r told = lacks-due l h rows at r told
+told_due l rows (RoleMixed at) h r told = absurd told
 told_due l rows (TooManyObjects count) h r told = absurd told
 told_due l rows (ConstantRange at) h r told = absurd told
 told_due l rows (TooLarge nodes depth) h r told = absurd told

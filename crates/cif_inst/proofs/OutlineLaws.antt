@@ -4,10 +4,7 @@ use Rattle.std.specs.Prelude.{flat_map}
 use Rattle.std.proofs.Math.Seq.{drop-append_seam}
 use Rattle.std.proofs.lemmas.List.{drop-drop, map-append}
 use Rattle.std.proofs.lemmas.List.Sums.{sum_by-cons}
-use Rattle.cif_system.specs.Words.{Member}
-use Rattle.cif_system.specs.System.{syncing}
 use Rattle.cif_system.proofs.Lists.{map-length}
-use Rattle.cif_system.proofs.Distinct.{member-map}
 use Rattle.cif_term.specs.Tree.{NetExpr, net_expr, n_alg}
 use Rattle.cif_model.specs.Net.{NetEdge, NetAuto}
 use Rattle.cif_model.specs.Exprs.{edge_exprs}
@@ -21,27 +18,16 @@ use Rattle.cif_measure.specs.Sizes.{sizes_by, table_counted}
 use Rattle.cif_alg.specs.Tallies.{cut_size}
 use Rattle.cif_alg.specs.Outlines.{CountedAuto, counted_edge, counted_auto}
 use Rattle.cif_source.specs.Source.{Text, AutomatonTree, SourceBody, group_body, automaton_body}
-use Rattle.cif_source.specs.Components.{Component, body_of}
-use Rattle.cif_source.specs.Objects.{components_of, event_edges}
-use Rattle.cif_source.specs.Step.{role_of}
-use Rattle.cif_components.specs.Numbers.{IsNumber}
-use Rattle.cif_system.proofs.Lists.{slice_get-below}
-use Rattle.cif_image.specs.Flat.{net_edge}
-use Rattle.cif_fits.proofs.FormLaws.{way-syncs}
-use Rattle.cif_translate.specs.Looking.{or_whole, source_for, component_at}
 use Rattle.cif_translate.specs.declared.looking.Looking.{Looking}
-use Rattle.cif_sizes.specs.Arguments.{one_each}
-use Rattle.cif_inst.specs.Names.{AreBuiltNames}
-use Rattle.cif_inst.specs.Rows.{RowTree, prefix_of, row_for}
+use Rattle.cif_sizes.specs.Arguments.{one_each, edge_weight}
+use Rattle.cif_inst.specs.Rows.{RowTree}
 use Rattle.cif_inst.specs.Edges.{automaton_edges}
-use Rattle.cif_inst.specs.Alphabets.{used_events, alphabet_for, monitors_for, automaton_alphabet, body_alphabets, rows_alphabets}
+use Rattle.cif_inst.specs.Alphabets.{automaton_used, alphabet_for, monitors_for, automaton_alphabet, body_alphabets, rows_alphabets}
 use Rattle.cif_inst.specs.Autos.{auto_for, body_autos, rows_autos}
-use Rattle.cif_inst.specs.Measures.{edge_weight, automaton_weights, body_weights, rows_weights}
+use Rattle.cif_inst.specs.Measures.{automaton_weights, body_weights, rows_weights}
 use Rattle.cif_inst.specs.Outlines.{outline_edge, outline_edges, outline, outlines, together}
-use Rattle.cif_inst.proofs.SoundLaws.{component-listed, From, from-here, from-next}
-use Rattle.cif_inst.proofs.EdgeLaws.{event_of}
-use Rattle.cif_inst.proofs.ListedLaws.{used-edges, weights-edges}
-use Rattle.cif_inst.proofs.AutomatonLaws.{sound, edges}
+use Rattle.cif_inst.proofs.EdgeLaws.{role-back}
+use Rattle.cif_inst.proofs.ListedLaws.{used_by, used-edges, weights-edges}
 
 -- ---- what is left of a list
 
@@ -61,8 +47,8 @@ all-sizes f [] = refl
 all-sizes f (e ∷ es) = ap (λ s. (measure_by f e).size + s) (all-sizes f es) ∙ sym (sum_by-cons (λ x. (measure_by f x).size) e es)
 
 module _ (ms : List Measure) where
-  edge-as : (j : ℕ) (x : NetEdge) (rest : List Measure) → x.role ≡ syncing → drop j ms ≡ edge_weight x ∷ rest → counted_edge (table_measure ms) (outline_edge j x.event) ≡ counted_edge one_each x
-  edge-as j x rest syncs left = λ i. record { event = x.event; role = sym syncs i; size = same i }
+  edge-as : (j : ℕ) (x : NetEdge) (rest : List Measure) → drop j ms ≡ edge_weight x ∷ rest → counted_edge (table_measure ms) (outline_edge j (used_by x)) ≡ counted_edge one_each x
+  edge-as j x rest left = λ i. record { event = x.event; role = role-back x.role i; size = same i }
     where
       at : table_measure ms j ≡ as_measure (edge_weight x)
       at = ap as_measure (at-begins (record { size = 0; depth = 0 }) ms j (edge_weight x) rest left)
@@ -70,24 +56,18 @@ module _ (ms : List Measure) where
       same : cut_size (table_measure ms) (net_expr (n_alg j) 0 ∷ []) ≡ cut_size one_each (edge_exprs x)
       same = omega (arith, sum_by-cons (λ e. (measure_by (table_measure ms) e).size) (net_expr (n_alg j) 0) [], ap (λ (m : counts.Measure). m.size) at, all-sizes one_each (edge_exprs x))
 
-  edges-as : (xs : List NetEdge) (j : ℕ) (rest : List Measure) → ((x : NetEdge) → Member x xs → x.role ≡ syncing) → drop j ms ≡ map edge_weight xs ++ rest
-      → map (counted_edge (table_measure ms)) (outline_edges j (map event_of xs)) ≡ map (counted_edge one_each) xs
-  edges-as [] j rest syncs left = refl
-  edges-as (x ∷ xs) j rest syncs left =
-      λ i. edge-as j x (map edge_weight xs ++ rest) (syncs x (inl refl)) left i
-      ∷ edges-as xs (j + 1) rest (λ y m. syncs y (inr m)) (left-past ms (edge_weight x ∷ []) (map edge_weight xs ++ rest) j 1 refl left) i
+  edges-as : (xs : List NetEdge) (j : ℕ) (rest : List Measure) → drop j ms ≡ map edge_weight xs ++ rest → map (counted_edge (table_measure ms)) (outline_edges j (map used_by xs)) ≡ map (counted_edge one_each) xs
+  edges-as [] j rest left = refl
+  edges-as (x ∷ xs) j rest left =
+      λ i. edge-as j x (map edge_weight xs ++ rest) left i
+      ∷ edges-as xs (j + 1) rest (left-past ms (edge_weight x ∷ []) (map edge_weight xs ++ rest) j 1 refl left) i
 
 -- ---- automata
 
-module _ (l : Looking) (h : AreBuiltNames l) where
-  all-sync : (k : ℕ) → k < length (components_of (source_for l)) → (a : AutomatonTree) → body_of (component_at l k) ≡ automaton_body a → (x : NetEdge) → Member x (automaton_edges l k a) → x.role ≡ syncing
-  all-sync k below a e x m =
-      let w = member-map (net_edge (component_at l k)) x (event_edges (component_at l k)) (subst (Member x) (edges l h k below a e) m) in
-      ap (λ (y : NetEdge). y.role) w.2 ∙ ap role_of (way-syncs (source_for l) (sound l h).forms (component_at l k) (component-listed (source_for l) k below) w.0 w.1)
-
-  as-many : (k : ℕ) (a : AutomatonTree) → length (used_events l k a) ≡ length (automaton_weights l k a)
+module _ (l : Looking) where
+  as-many : (k : ℕ) (a : AutomatonTree) → length (automaton_used l k a) ≡ length (automaton_weights l k a)
   as-many k a =
-      ap length (used-edges l k a) ∙ map-length event_of (automaton_edges l k a)
+      ap length (used-edges l k a) ∙ map-length used_by (automaton_edges l k a)
       ∙ sym (ap length (weights-edges l k a) ∙ map-length edge_weight (automaton_edges l k a))
 
   module _ (ms : List Measure) where
@@ -97,33 +77,29 @@ module _ (l : Looking) (h : AreBuiltNames l) where
     abbrev counted_there : NetAuto → CountedAuto
     counted_there = counted_auto one_each
 
-    auto-as : (k : ℕ) → k < length (components_of (source_for l)) → (p : Text) (a : AutomatonTree) → body_of (component_at l k) ≡ automaton_body a → (j : ℕ) (rest : List Measure) → drop j ms ≡ automaton_weights l k a ++ rest
+    auto-as : (k : ℕ) (p : Text) (a : AutomatonTree) (j : ℕ) (rest : List Measure) → drop j ms ≡ automaton_weights l k a ++ rest
         → counted_here (outline j (automaton_alphabet l k a)) ≡ counted_there (auto_for l k p a)
-    auto-as k below p a e j rest left =
+    auto-as k p a j rest left =
         λ i. record {
           alphabet = alphabet_for l k a;
           monitors = monitors_for l k a;
           edges =
               (ap (λ es. map (counted_edge (table_measure ms)) (outline_edges j es)) (used-edges l k a)
-              ∙ edges-as ms (automaton_edges l k a) j rest (all-sync k below a e) (left ∙ ap (λ ws. ws ++ rest) (weights-edges l k a))) i;
+              ∙ edges-as ms (automaton_edges l k a) j rest (left ∙ ap (λ ws. ws ++ rest) (weights-edges l k a))) i;
         }
 
-    module _ (k : ℕ) (below : k < length (components_of (source_for l))) (later : List RowTree)
+    module _ (k : ℕ) (later : List RowTree)
         (rest-as : (j : ℕ) → drop j ms ≡ rows_weights l (k + 1) later → map counted_here (outlines j (rows_alphabets l (k + 1) later)) ≡ map counted_there (rows_autos l (k + 1) later)) where
-      body-as : (b : SourceBody) → body_of (component_at l k) ≡ b → (p : Text) (j : ℕ) → drop j ms ≡ body_weights l k b ++ rows_weights l (k + 1) later
+      body-as : (b : SourceBody) (p : Text) (j : ℕ) → drop j ms ≡ body_weights l k b ++ rows_weights l (k + 1) later
           → map counted_here (outlines j (body_alphabets l k b ++ rows_alphabets l (k + 1) later)) ≡ map counted_there (body_autos l k p b ++ rows_autos l (k + 1) later)
-      body-as (group_body is) e p j left = rest-as j left
-      body-as (automaton_body a) e p j left =
-          λ i. auto-as k below p a e j (rows_weights l (k + 1) later) left i
-          ∷ rest-as (j + length (used_events l k a)) (left-past ms (automaton_weights l k a) (rows_weights l (k + 1) later) j (length (used_events l k a)) (as-many k a) left) i
+      body-as (group_body is) p j left = rest-as j left
+      body-as (automaton_body a) p j left =
+          λ i. auto-as k p a j (rows_weights l (k + 1) later) left i
+          ∷ rest-as (j + length (automaton_used l k a)) (left-past ms (automaton_weights l k a) (rows_weights l (k + 1) later) j (length (automaton_used l k a)) (as-many k a) left) i
 
-    pub rows-as : (cs : List Component) (k j : ℕ) → From (source_for l) cs k → drop j ms ≡ rows_weights l k (map row_for cs)
-        → map counted_here (outlines j (rows_alphabets l k (map row_for cs))) ≡ map counted_there (rows_autos l k (map row_for cs))
-    rows-as [] k j from left = refl
-    rows-as (c ∷ cs) k j from left =
-        let here : IsNumber (source_for l) k c = from-here (source_for l) c cs k from in
-        body-as k (slice_get-below (components_of (source_for l)) k c here) (map row_for cs) (λ i g. rows-as cs (k + 1) i (from-next (source_for l) c cs k from) g)
-        (body_of c) (ap (λ o. body_of (or_whole (source_for l) o)) here) (prefix_of c) j left
+    pub rows-as : (rows : List RowTree) (k j : ℕ) → drop j ms ≡ rows_weights l k rows → map counted_here (outlines j (rows_alphabets l k rows)) ≡ map counted_there (rows_autos l k rows)
+    rows-as [] k j left = refl
+    rows-as (r ∷ rows) k j left = body-as k rows (λ i g. rows-as rows (k + 1) i g) r.1 r.0 j left
 
 -- ---- the edges of the net
 

@@ -1,15 +1,8 @@
 -- Why no rule up to those on instances is broken.
-use Rattle.std.proofs.Common.{◌≡◌, ℕ, ◌≤◌, ◌⊎◌, Bool, true, false, inl, inr, List, [], ◌∷◌, length, filter, refl, sym, ◌∙◌, ap, subst, arith}
-use Rattle.std.specs.Prelude.{◌&&◌, ◌||◌}
-use Rattle.std.specs.List.{list_any}
-use Rattle.cif_system.specs.Words.{Member}
-use Rattle.cif_system.specs.System.{Role, syncing, sending, receiving}
-use Rattle.cif_system.specs.Step.{same_role}
+use Rattle.std.proofs.Common.{ℕ, ◌⊎◌, inl, inr, arith}
 use Rattle.cif_source.specs.Source.{Source}
-use Rattle.cif_source.specs.Components.{Component}
-use Rattle.cif_source.specs.Objects.{automata, components_of, event_edges}
-use Rattle.cif_source.specs.Step.{role_of, denotes_event, synchronises, has_role, has_edge}
-use Rattle.cif_rules.specs.InstanceRules.{role_count, RoleMixedDue, ConstantRangeDue, FaultyConstant, LeavesRange, LongBound, EmptyRange}
+use Rattle.cif_source.specs.Objects.{components_of}
+use Rattle.cif_rules.specs.InstanceRules.{ConstantRangeDue, FaultyConstant, LeavesRange, LongBound, EmptyRange}
 use Rattle.cif_constants.specs.Constants.{BoundsDue}
 use Rattle.cif_scope.specs.Scopes.{KeepsScoping}
 use Rattle.cif_types.specs.Kinds.{KeepsKinds}
@@ -17,36 +10,6 @@ use Rattle.cif_image.specs.WellFormed.{unknown, duplicate, wrong_kind, definitio
 use Rattle.cif_image.proofs.StandingLaws.{any-member}
 use Rattle.cif_image.proofs.RuleLaws.{member-any}
 use Rattle.cif_inst.specs.Net.{KeepsInstances}
-use Rattle.cif_fits.proofs.FormLaws.{way-syncs}
-use Rattle.cif_inst.proofs.SoundLaws.{IsSound}
-use Rattle.cif_inst.proofs.UseLaws.{automaton-listed}
-
--- ---- roles
-
-none-passes : {A : Type 0} (p : A → Bool) (xs : List A) → ((x : A) → Member x xs → p x ≡ false) → list_any p xs ≡ false
-none-passes p [] h = refl
-none-passes p (x ∷ xs) h = ap (λ b. b || list_any p xs) (h x (inl refl)) ∙ none-passes p xs (λ y m. h y (inr m))
-
-one-role : (s b c : Bool) → b ≡ false → c ≡ false → length (filter (λ x. x) (s ∷ b ∷ c ∷ [])) ≤ 1
-one-role s b c h g = subst (λ x. length (filter (λ y. y) (s ∷ x ∷ c ∷ [])) ≤ 1) (sym h) (subst (λ x. length (filter (λ y. y) (s ∷ false ∷ x ∷ [])) ≤ 1) (sym g) (alone s))
-  where
-    alone : (s : Bool) → length (filter (λ y. y) (s ∷ false ∷ false ∷ [])) ≤ 1
-    alone true = omega arith
-    alone false = omega arith
-
-module _ (t : Source) (h : IsSound t) where
-  -- no edge has another role
-  no-edge : (p : Role) → same_role p syncing ≡ false → (e : ℕ) (a : Component) → Member a (components_of t) → has_edge p e a ≡ false
-  no-edge p other e a m =
-      none-passes (has_role p e a) (event_edges a) (λ w k. ap (λ r. same_role p (role_of r) && denotes_event e a w.event_use.name) (way-syncs t h.forms a m w k) ∙ ap (λ b. b && denotes_event e a w.event_use.name) other)
-
-  pub no-roles : (at : ℕ) → RoleMixedDue t at → ⊥
-  no-roles at due =
-      let a = any-member _ (automata t) due in
-      let m : Member a.0 (components_of t) = automaton-listed t a.0 a.1 in
-      let e = a.2.1.0 in
-      let few : role_count e a.0 ≤ 1 = one-role (synchronises e a.0) (has_edge sending e a.0) (has_edge receiving e a.0) (no-edge sending refl e a.0 m) (no-edge receiving refl e a.0 m) in
-      absurd (omega (arith, few, a.2.1.1))
 
 -- ---- constants
 

@@ -15,24 +15,24 @@ use Rattle.cif_alg.specs.Tallies.{counted}
 use Rattle.cif_alg.specs.Outlines.{counted_auto, counted_exclusion, AreAsLarge}
 use Rattle.cif_alg.proofs.FreeLaws.{same-edge-measures}
 use Rattle.cif_source.specs.Source.{Source}
+use Rattle.cif_built.specs.Built.{is_built}
 use Rattle.cif_source.specs.Objects.{components_of, algs, Declared}
 use Rattle.cif_image.specs.Flat.{net_alg, net_of_source}
 use Rattle.cif_image.specs.NetRules.{TooLargeDue}
-use Rattle.cif_fits.proofs.FormLaws.{HasForms, forms-of}
 use Rattle.cif_translate.specs.Looking.{source_for}
 use Rattle.cif_translate.specs.declared.looking.Looking.{Looking}
-use Rattle.cif_sizes.specs.Arguments.{one_each}
-use Rattle.cif_inst.specs.Names.{AreBuiltNames}
+use Rattle.cif_sizes.specs.Arguments.{one_each, edge_weight}
+use Rattle.cif_inst.specs.Names.{AreMatchedNames}
 use Rattle.cif_inst.specs.Rows.{RowTree, rows_of}
-use Rattle.cif_inst.specs.Events.{rows_events}
+use Rattle.cif_inst.specs.Events.{all_events}
 use Rattle.cif_inst.specs.Alphabets.{rows_alphabets}
 use Rattle.cif_inst.specs.Autos.{rows_autos}
-use Rattle.cif_inst.specs.Measures.{edge_weight, rows_weights}
+use Rattle.cif_inst.specs.Measures.{rows_weights}
 use Rattle.cif_inst.specs.Outlines.{outlines, together, tells_size}
 use Rattle.cif_inst.specs.Net.{due, KeepsInstances}
 use Rattle.cif_inst.specs.declared.alphabets.Alphabet.{Alphabet}
 use Rattle.cif_inst.specs.declared.error.InstErr.{InstErr}
-use Rattle.cif_inst.specs.declared.error.InstErr.TheVariants.{AlphabetLacks, TooManyObjects, ConstantRange, TooLarge, Memory}
+use Rattle.cif_inst.specs.declared.error.InstErr.TheVariants.{AlphabetLacks, RoleMixed, TooManyObjects, ConstantRange, TooLarge, Memory}
 use Rattle.cif_inst.proofs.SoundLaws.{all-components}
 use Rattle.cif_inst.proofs.EventLaws.{events-are}
 use Rattle.cif_inst.proofs.NetLaws.{rows-made, built_net, net-parts}
@@ -48,10 +48,11 @@ past m v =
 
 -- what the sizes of a source are told by
 pub record IsOutlined (l : Looking) (rows : List RowTree) (all : List Alphabet) (listed : List NetEvent) (ms : List Measure) : Type 0 where
-  pub names : AreBuiltNames l
+  pub names : AreMatchedNames l
+  pub built : is_built (source_for l) ≡ true
   pub of_source : rows ≡ rows_of (source_for l)
   pub found : all ≡ rows_alphabets l 0 rows
-  pub declared : listed ≡ rows_events rows
+  pub declared : listed ≡ all_events (source_for l) rows
   pub weighed : ms ≡ rows_weights l 0 rows
   pub kept : KeepsInstances (source_for l)
   pub none : (net_of_source (source_for l)).algs ≡ []
@@ -72,11 +73,8 @@ module _ (l : Looking) (rows : List RowTree) (all : List Alphabet) (listed : Lis
   abbrev net : Net
   net = net_of_source t
 
-  its-forms : HasForms t
-  its-forms = forms-of t o.names.built
-
   parts : net ≡ built_net t
-  parts = net-parts t o.names.built
+  parts = net-parts t o.built
 
   -- without algebraic variables
   plain-parts : net ≡ record (built_net t) { algs = [] }
@@ -89,7 +87,7 @@ module _ (l : Looking) (rows : List RowTree) (all : List Alphabet) (listed : Lis
   as-large = record {
     autos_as =
         ap (λ (xs : List Alphabet). map (counted_auto (table_measure ms)) (outlines 0 xs)) (o.found ∙ ap (rows_alphabets l 0) o.of_source)
-        ∙ rows-as l o.names ms (components_of t) 0 0 (all-components t) (o.weighed ∙ ap (rows_weights l 0) o.of_source)
+        ∙ rows-as l ms (rows_of t) 0 0 (o.weighed ∙ ap (rows_weights l 0) o.of_source)
         ∙ ap (map (counted_auto one_each)) (rows-made l o.names (components_of t) 0 (all-components t));
     exclusions_as = sym (ap (λ (n : Net). map (counted_exclusion one_each) n.exclusions) parts);
   }
@@ -121,7 +119,7 @@ module _ (l : Looking) (rows : List RowTree) (all : List Alphabet) (listed : Lis
       → counted (table_measure algs) autos exclusions n.events ≡ stopped most_nodes (nodes n)) where
     nodes-told : counted (table_measure ms) (outlines 0 all) [] listed ≡ stopped most_nodes (nodes net)
     nodes-told =
-        ap (counted (table_measure ms) (outlines 0 all) []) (o.declared ∙ ap rows_events o.of_source ∙ events-are t its-forms)
+        ap (counted (table_measure ms) (outlines 0 all) []) (o.declared ∙ ap (all_events t) o.of_source ∙ events-are t)
         ∙ law net ms one_each (outlines 0 all) [] o.none (ap (λ (n : Net). n.invariants) parts) o.fits as-large
 
     over : (k d : ℕ) → k ≡ stopped most_nodes (nodes net) → d ≡ stopped most_depth (depth net) → is_too_large net ≡ (nat_lt most_nodes k || nat_lt most_depth d)
@@ -136,6 +134,7 @@ module _ (l : Looking) (rows : List RowTree) (all : List Alphabet) (listed : Lis
         let large : TooLargeDue t k d = (acyclic net o.none, over k d p q ∙ h.2, p, q) in
         (o.kept, large)
     size_due (AlphabetLacks at) h = absurd h
+    size_due (RoleMixed at) h = absurd h
     size_due (TooManyObjects count) h = absurd h
     size_due (ConstantRange at) h = absurd h
     size_due Memory h = tt

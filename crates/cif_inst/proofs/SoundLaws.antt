@@ -1,5 +1,5 @@
--- What is given of a source of which nets are built, and its components by their numbers.
-use Rattle.std.proofs.Common.{◌≡◌, ℕ, zero, suc, ◌+◌, ◌≤◌, ◌<◌, List, [], ◌∷◌, length, Some, refl, sym, ap, subst, arith}
+-- What is given of a source of which nets are made, and its components by their numbers.
+use Rattle.std.proofs.Common.{◌≡◌, ℕ, zero, suc, ◌+◌, ◌≤◌, ◌<◌, inl, inr, List, [], ◌∷◌, length, get_or, Some, refl, sym, ap, subst, arith}
 use Rattle.std.specs.Prelude.{slice_get}
 use Rattle.cif_system.specs.Words.{Member}
 use Rattle.cif_system.proofs.Picks.{at-member}
@@ -12,13 +12,18 @@ use Rattle.cif_scope.specs.Tables.{IsBody, Beside}
 use Rattle.cif_scope.proofs.Places.{beside-at}
 use Rattle.cif_components.specs.declared.components.Component.{Component as Numbered}
 use Rattle.cif_components.specs.Numbers.{IsNumber, IsComponent}
-use Rattle.cif_fits.proofs.FormLaws.{HasForms, forms-of}
 use Rattle.cif_translate.specs.Looking.{or_whole, component_of, source_for}
 use Rattle.cif_translate.specs.declared.looking.Looking.{Looking}
-use Rattle.cif_inst.specs.Names.{AreBuiltNames}
+use Rattle.cif_inst.specs.Names.{AreMatchedNames}
 use Rattle.cif_inst.specs.Rows.{number_of, body_number}
 
 -- ---- components
+
+-- what is read at a place of a list is one of it
+pub item-listed : {A : Type 0} (xs : List A) (i : ℕ) (x : A) → i < length xs → x ≡ get_or xs i x → Member x xs
+item-listed [] i x below is = absurd (omega (arith, below))
+item-listed (y ∷ ys) zero x below is = inl is
+item-listed (y ∷ ys) (suc i) x below is = inr (item-listed ys i x (omega (arith, below)) is)
 
 at-or : (t : Source) (cs : List Component) (k : ℕ) → k < length cs → slice_get cs k ≡ Some (or_whole t (slice_get cs k))
 at-or t [] k h = absurd (omega (arith, h))
@@ -53,17 +58,15 @@ module _ (t : Source) where
   pub all-components : From (components_of t) 0
   all-components j c g = subst (λ i. IsNumber t i c) (let e : j ≡ 0 + j = omega arith in e) g
 
--- ---- a source of which nets are built
+-- ---- a source of which nets are made
 
 pub record IsSound (t : Source) : Type 0 where
-  pub forms : HasForms t
   pub few : length (components_of t) ≤ most_objects
   pub scoping : KeepsScoping t
   pub matched : (at : ℕ) → MismatchDue t at → ⊥
 
-pub names-sound : (l : Looking) → AreBuiltNames l → IsSound (source_for l)
+pub names-sound : (l : Looking) → AreMatchedNames l → IsSound (source_for l)
 names-sound l h = record {
-  forms = forms-of (source_for l) h.built;
   few = h.names.components.few;
   scoping = h.names.scopes.rules;
   matched = h.matched;

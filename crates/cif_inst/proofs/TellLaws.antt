@@ -13,7 +13,7 @@ use Rattle.cif_image.proofs.RuleLaws.{member-any}
 use Rattle.cif_image.proofs.StandingLaws.{any-member}
 use Rattle.cif_translate.specs.Looking.{or_whole, source_for, component_at}
 use Rattle.cif_translate.specs.declared.looking.Looking.{Looking}
-use Rattle.cif_inst.specs.Names.{AreBuiltNames}
+use Rattle.cif_inst.specs.Names.{AreMatchedNames}
 use Rattle.cif_inst.specs.Rows.{RowTree, row_for, rows_of}
 use Rattle.cif_inst.specs.Alphabets.{body_lacks, rows_lacks}
 use Rattle.cif_inst.proofs.SoundLaws.{component-listed, From, from-here, from-next, all-components}
@@ -21,7 +21,7 @@ use Rattle.cif_inst.proofs.UseLaws.{automaton-listed}
 use Rattle.cif_inst.proofs.LackLaws.{LacksAt, asked_names, or-told, or-first, or-second, automaton-told, automaton-kept}
 use Rattle.cif_inst.proofs.AutomatonLaws.{sound, edges}
 
-module _ (l : Looking) (h : AreBuiltNames l) where
+module _ (l : Looking) (h : AreMatchedNames l) where
   body-told : (k : ℕ) → k < length (components_of (source_for l)) → (b : SourceBody) → body_of (component_at l k) ≡ b → (at : ℕ) → body_lacks l k b ≡ Some at → (is_automaton b ≡ true) × LacksAt at (component_at l k)
   body-told k below (group_body is) e at g = absurd (none-some at g)
   body-told k below (automaton_body a) e at g = (refl, automaton-told l k (source_for l) (sound l h) (component-listed (source_for l) k below) a e (edges l h k below a e) at g)

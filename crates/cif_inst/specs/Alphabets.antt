@@ -1,17 +1,22 @@
 -- The alphabets of automata and what they monitor, by what names are looked up in, and the first event outside an alphabet.
-use Rattle.std.specs.Prelude.{◌≡◌, ℕ, ◌+◌, Bool, true, not, nat_eq, nat_le, List, [], ◌∷◌, ◌++◌, map, flat_map, length, Option, Some, None, slice_get, slice_set, unwrap_or}
-use Rattle.std.specs.List.{list_all, position_or_len}
+use Rattle.std.specs.Prelude.{◌≡◌, ℕ, ◌+◌, Bool, not, List, [], ◌∷◌, ◌++◌, map, flat_map, Option, Some, None, slice_get, unwrap_or, if◌then◌else◌}
+use Rattle.std.specs.List.{position_or_len}
 use Rattle.cif_ast.specs.declared.names.Name.{Name}
+use Rattle.cif_system.specs.System.{Role, syncing}
+use Rattle.cif_system.specs.Step.{same_role}
 use Rattle.cif_model.specs.Facts.{has}
+use Rattle.cif_net.specs.View.{role_of as net_role}
 use Rattle.cif_source.specs.Source.{UseTree, EdgeTree, LocationTree, AutomatonTree, SourceBody, group_body, automaton_body}
-use Rattle.cif_source.specs.Objects.{events}
+use Rattle.cif_source.specs.Step.{role_of}
 use Rattle.cif_image.specs.Flat.{event_number}
-use Rattle.cif_translate.specs.Looking.{component_at, source_for}
+use Rattle.cif_translate.specs.Looking.{component_at}
 use Rattle.cif_translate.specs.declared.looking.Looking.{Looking}
 use Rattle.cif_inst.specs.Rows.{RowTree}
+use Rattle.cif_inst.specs.Views.{role_for}
 use Rattle.cif_inst.specs.declared.alphabets.Alphabet.{Alphabet}
+use Rattle.cif_inst.specs.declared.used.Used.{Used}
 use Rattle.cif_inst.specs.declared.error.InstErr.{InstErr}
-use Rattle.cif_inst.specs.declared.error.InstErr.TheVariants.{AlphabetLacks, TooManyObjects, ConstantRange, TooLarge, Memory}
+use Rattle.cif_inst.specs.declared.error.InstErr.TheVariants.{AlphabetLacks, RoleMixed, TooManyObjects, ConstantRange, TooLarge, Memory}
 
 -- ---- names of events
 
@@ -21,38 +26,48 @@ events_named l k nms = map (event_number (component_at l k)) nms
 abbrev pub name_places : List Name → List ℕ
 name_places nms = map (λ (nm : Name). nm.at) nms
 
--- where the events of edges are named
-abbrev pub use_place : UseTree → ℕ
-use_place u = u.name.at
+-- where the events of edges that synchronise are named
+abbrev pub use_place : UseTree → List ℕ
+use_place u = if same_role syncing (role_of u.role) then u.name.at ∷ [] else []
 
 abbrev pub edge_places : EdgeTree → List ℕ
-edge_places e = map use_place e.uses
+edge_places e = flat_map use_place e.uses
 
 abbrev pub location_places : LocationTree → List ℕ
 location_places l = flat_map edge_places l.edges
 
--- the events of edges
-abbrev pub use_event : Looking → (component : ℕ) → UseTree → ℕ
-use_event l k u = event_number (component_at l k) u.name
+-- the events of edges with their roles
+abbrev pub use_used : Looking → (component : ℕ) → UseTree → Used
+use_used l k u = record { event = event_number (component_at l k) u.name; role = role_for u.role }
 
-abbrev pub edge_events : Looking → (component : ℕ) → EdgeTree → List ℕ
-edge_events l k e = map (use_event l k) e.uses
+abbrev pub edge_used : Looking → (component : ℕ) → EdgeTree → List Used
+edge_used l k e = map (use_used l k) e.uses
 
-abbrev pub location_events : Looking → (component : ℕ) → LocationTree → List ℕ
-location_events l k x = flat_map (edge_events l k) x.edges
+abbrev pub location_used : Looking → (component : ℕ) → LocationTree → List Used
+location_used l k x = flat_map (edge_used l k) x.edges
 
-abbrev pub used_events : Looking → (component : ℕ) → AutomatonTree → List ℕ
-used_events l k a = flat_map (location_events l k) a.locs
+abbrev pub automaton_used : Looking → (component : ℕ) → AutomatonTree → List Used
+automaton_used l k a = flat_map (location_used l k) a.locs
+
+-- the events of those in that role
+abbrev pub event_as : Role → Used → List ℕ
+event_as p u = if same_role p (net_role u.role) then u.event ∷ [] else []
+
+abbrev pub events_as : Role → List Used → List ℕ
+events_as p us = flat_map (event_as p) us
+
+abbrev pub synced_events : Looking → (component : ℕ) → AutomatonTree → List ℕ
+synced_events l k a = events_as syncing (automaton_used l k a)
 
 -- ---- alphabets
 
--- the declared alphabet, or else the events of the edges
-abbrev pub alphabet_by : Looking → (component : ℕ) → Option (List Name) → (used : List ℕ) → List ℕ
-alphabet_by l k None used = used
-alphabet_by l k (Some nms) used = events_named l k nms
+-- the declared alphabet, or else the events of the edges that synchronise
+abbrev pub alphabet_by : Looking → (component : ℕ) → Option (List Name) → (synced : List ℕ) → List ℕ
+alphabet_by l k None synced = synced
+alphabet_by l k (Some nms) synced = events_named l k nms
 
 abbrev pub alphabet_for : Looking → (component : ℕ) → AutomatonTree → List ℕ
-alphabet_for l k a = alphabet_by l k a.alphabet (used_events l k a)
+alphabet_for l k a = alphabet_by l k a.alphabet (synced_events l k a)
 
 -- `monitor;` names no event and means all of the alphabet
 abbrev pub monitors_by : Looking → (component : ℕ) → Option (List Name) → (alphabet : List ℕ) → List ℕ
@@ -64,7 +79,7 @@ abbrev pub monitors_for : Looking → (component : ℕ) → AutomatonTree → Li
 monitors_for l k a = monitors_by l k a.monitor (alphabet_for l k a)
 
 abbrev pub automaton_alphabet : Looking → (component : ℕ) → AutomatonTree → Alphabet
-automaton_alphabet l k a = record { events = alphabet_for l k a; monitors = monitors_for l k a; used = used_events l k a }
+automaton_alphabet l k a = record { component = k; events = alphabet_for l k a; monitors = monitors_for l k a; used = automaton_used l k a }
 
 abbrev pub body_alphabets : Looking → (component : ℕ) → SourceBody → List Alphabet
 body_alphabets l k (group_body is) = []
@@ -88,9 +103,9 @@ abbrev pub or_later : Option ℕ → Option ℕ → Option ℕ
 or_later None o = o
 or_later (Some at) o = Some at
 
--- where an edge of the automaton, or else its `monitor`, first names an event outside the alphabet
+-- where an edge of the automaton that synchronises, or else its `monitor`, first names an event outside the alphabet
 abbrev pub automaton_lacks : Looking → (component : ℕ) → AutomatonTree → Option ℕ
-automaton_lacks l k a = or_later (first_failing (is_outside (alphabet_for l k a)) (used_events l k a) (flat_map location_places a.locs))
+automaton_lacks l k a = or_later (first_failing (is_outside (alphabet_for l k a)) (synced_events l k a) (flat_map location_places a.locs))
     (first_failing (is_outside (alphabet_for l k a)) (monitors_for l k a) (name_places (unwrap_or a.monitor [])))
 
 abbrev pub body_lacks : Looking → (component : ℕ) → SourceBody → Option ℕ
@@ -105,25 +120,8 @@ rows_lacks l k (r ∷ rs) = or_later (body_lacks l k r.1) (rows_lacks l (k + 1) 
 -- the error tells this place, or that memory ran out
 abbrev pub tells : InstErr → Option ℕ → Type 0
 tells (AlphabetLacks at) o = o ≡ Some at
+tells (RoleMixed at) o = ⊥
 tells (TooManyObjects count) o = ⊥
 tells (ConstantRange at) o = ⊥
 tells (TooLarge nodes depth) o = ⊥
 tells Memory o = Unit {0}
-
--- ---- marks
-
--- each event of the list has the mark
-abbrev pub marked : (mark : ℕ) → (events marks : List ℕ) → List ℕ
-marked own [] ms = ms
-marked own (e ∷ es) ms = marked own es (slice_set ms e own)
-
-abbrev pub mark_of : List ℕ → ℕ → ℕ
-mark_of ms e = unwrap_or (slice_get ms e) 0
-
-abbrev pub is_unmarked : (mark : ℕ) → (marks : List ℕ) → ℕ → Bool
-is_unmarked own ms e = not (nat_eq (mark_of ms e) own)
-
--- a mark for each event, and none above k
-pub record AreMarks (l : Looking) (k : ℕ) (marks : List ℕ) : Type 0 where
-  pub every : length marks ≡ length (events (source_for l))
-  pub small : list_all (λ m. nat_le m k) marks ≡ true

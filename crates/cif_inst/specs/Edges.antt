@@ -1,24 +1,24 @@
 -- The edges of an automaton, by what names are looked up in.
-use Rattle.std.specs.Prelude.{ℕ, ◌+◌, List, [], ◌∷◌, ◌++◌, map, flat_map, length, Option, Some, None}
+use Rattle.std.specs.Prelude.{ℕ, ◌+◌, List, [], ◌∷◌, ◌++◌, map, flat_map, length, Option, Some, None, option_map}
 use Rattle.cif_ast.specs.declared.names.Ident.{Ident}
-use Rattle.cif_system.specs.System.{syncing}
 use Rattle.cif_model.specs.Net.{NetEdge}
 use Rattle.cif_source.specs.Source.{UseTree, EdgeTree, LocationTree, AutomatonTree}
-use Rattle.cif_image.specs.Flat.{event_number, net_updates_of, value_places}
-use Rattle.cif_image.specs.Translation.{net_guard}
+use Rattle.cif_source.specs.Step.{role_of}
+use Rattle.cif_image.specs.Flat.{event_number, sent_tree, net_updates_of, value_places}
+use Rattle.cif_image.specs.Translation.{net_of, net_guard}
 use Rattle.cif_translate.specs.Looking.{component_at}
 use Rattle.cif_translate.specs.declared.looking.Looking.{Looking}
 use Rattle.cif_inst.specs.Targets.{target_place}
 
--- an edge that synchronises, for one use of an event
-abbrev pub sync_edge : Looking → (component from to : ℕ) → EdgeTree → UseTree → NetEdge
-sync_edge l k from to e u = record {
+-- an edge for one use of an event
+abbrev pub use_edge : Looking → (component from to : ℕ) → EdgeTree → UseTree → NetEdge
+use_edge l k from to e u = record {
   event = event_number (component_at l k) u.name;
-  role = syncing;
+  role = role_of u.role;
   from = from;
   to = to;
   guard = net_guard (component_at l k) u.name.at e.guards;
-  sent = None;
+  sent = option_map (net_of (component_at l k)) (sent_tree u.role);
   updates = net_updates_of (component_at l k) e.updates;
   places = value_places (record { from = from; event_use = u; edge = e });
 }
@@ -29,7 +29,7 @@ end_place l k from count None = from
 end_place l k from count (Some x) = target_place l k x count
 
 abbrev pub uses_edges : Looking → (component from count : ℕ) → EdgeTree → List NetEdge
-uses_edges l k from count e = map (sync_edge l k from (end_place l k from count e.target) e) e.uses
+uses_edges l k from count e = map (use_edge l k from (end_place l k from count e.target) e) e.uses
 
 -- the edges of the locations from the one at a place on
 abbrev pub locations_edges : Looking → (component count from : ℕ) → List LocationTree → List NetEdge

@@ -9,7 +9,10 @@ pub mod Variables
 pub mod Equations
 pub mod Algebraic
 pub mod Edges
+pub mod Marks
 pub mod Alphabets
+pub mod BodyNames
+pub mod Roles
 pub mod Measures
 pub mod Outlines
 pub mod Autos

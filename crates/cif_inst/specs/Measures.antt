@@ -1,26 +1,15 @@
 -- What the edges of automata weigh in the net, by what names are looked up in.
 use Rattle.std.specs.Prelude.{ℕ, ◌+◌, List, [], ◌∷◌, ◌++◌, map, flat_map}
-use Rattle.cif_model.specs.Net.{NetEdge}
-use Rattle.cif_model.specs.Counts.{measure_by, all_beside}
-use Rattle.cif_model.specs.Exprs.{edge_exprs}
-use Rattle.cif_measure.specs.Meanings.{stopped_measure}
 use Rattle.cif_measure.specs.declared.measures.Measure.{Measure}
-use Rattle.cif_source.specs.Source.{UseTree, EdgeTree, LocationTree, AutomatonTree, SourceBody, group_body, automaton_body}
+use Rattle.cif_source.specs.Source.{EdgeTree, LocationTree, AutomatonTree, SourceBody, group_body, automaton_body}
+use Rattle.cif_translate.specs.Looking.{component_at}
 use Rattle.cif_translate.specs.declared.looking.Looking.{Looking}
-use Rattle.cif_sizes.specs.Arguments.{one_each}
+use Rattle.cif_sizes.specs.Arguments.{use_weight}
 use Rattle.cif_inst.specs.Rows.{RowTree}
-use Rattle.cif_inst.specs.Edges.{sync_edge}
 
--- all expressions of an edge together, where the name of an algebraic variable is one form; each count stops one past its limit
-abbrev pub edge_weight : NetEdge → Measure
-edge_weight x = stopped_measure (all_beside (map (measure_by one_each) (edge_exprs x)))
-
--- for one use of an event: where the edge stands and leads is not asked
-abbrev pub use_weight : Looking → (component : ℕ) → EdgeTree → UseTree → Measure
-use_weight l k e u = edge_weight (sync_edge l k 0 0 e u)
-
+-- an edge for each use of an event
 abbrev pub edge_weights : Looking → (component : ℕ) → EdgeTree → List Measure
-edge_weights l k e = map (use_weight l k e) e.uses
+edge_weights l k e = map (use_weight (component_at l k) e) e.uses
 
 abbrev pub location_weights : Looking → (component : ℕ) → LocationTree → List Measure
 location_weights l k x = flat_map (edge_weights l k) x.edges

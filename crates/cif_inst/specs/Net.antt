@@ -8,7 +8,7 @@ use Rattle.cif_components.specs.declared.error.ComponentsErr.TheVariants as comp
 use Rattle.cif_constants.specs.declared.error.ConstErr.{ConstErr}
 use Rattle.cif_constants.specs.declared.error.ConstErr.TheVariants as constant
 use Rattle.cif_inst.specs.declared.error.InstErr.{InstErr}
-use Rattle.cif_inst.specs.declared.error.InstErr.TheVariants.{AlphabetLacks, TooManyObjects, ConstantRange, TooLarge, Memory}
+use Rattle.cif_inst.specs.declared.error.InstErr.TheVariants.{AlphabetLacks, RoleMixed, TooManyObjects, ConstantRange, TooLarge, Memory}
 
 -- none of the rules on instances is broken
 pub record KeepsInstances (t : Source) : Type 0 where
@@ -20,6 +20,7 @@ pub record KeepsInstances (t : Source) : Type 0 where
 -- the rule of the refusal is broken, with its fields; sizes are told only where no rule on instances is broken
 abbrev pub due : Source → InstErr → Type 0
 due t (AlphabetLacks at) = AlphabetLacksDue t at
+due t (RoleMixed at) = RoleMixedDue t at
 due t (TooManyObjects count) = TooManyObjectsDue t count
 due t (ConstantRange at) = ConstantRangeDue t at
 due t (TooLarge nodes depth) = KeepsInstances t × TooLargeDue t nodes depth

@@ -1,14 +1,20 @@
 -- What the types of `src/` stand for.
-use Rattle.cif_source.specs.Source.{type_tree}
+use Rattle.cif_system.specs.System.{Role, syncing, sending, receiving}
+use Rattle.cif_source.specs.Source.{RoleTree, type_tree, channel_tree}
+use Rattle.cif_source.specs.Step.{role_of}
 use Rattle.cif_scope.specs.Written.{inside_of}
 use Rattle.cif_values.specs.Types.{given_tree}
 use Rattle.cif_ast.specs.declared.declarations.Class.{Class as SourceClass}
 use Rattle.cif_ast.specs.declared.declarations.Class.TheVariants as source_class
 use Rattle.cif_net.specs.declared.events.Class.{Class}
 use Rattle.cif_net.specs.declared.events.Class.TheVariants as class
+use Rattle.cif_net.specs.declared.automata.NetRole.{NetRole}
+use Rattle.cif_net.specs.declared.automata.NetRole.TheVariants as role
 use Rattle.cif_inst.specs.Declarations.{DatumTree}
+use Rattle.cif_inst.specs.Events.{EventTree}
 use Rattle.cif_inst.specs.Rows.{RowTree}
 use Rattle.cif_inst.specs.declared.declarations.Datum.{Datum}
+use Rattle.cif_inst.specs.declared.events.EventDatum.{EventDatum}
 use Rattle.cif_inst.specs.declared.rows.Row.{Row}
 
 abbrev pub row_tree : Row → RowTree
@@ -17,7 +23,18 @@ row_tree r = (r.prefix, inside_of r.inside)
 abbrev pub datum_tree : Datum → DatumTree
 datum_tree d = record { component = d.component; prefix = d.prefix.now; name = d.name.now; type_of = type_tree d.ty.now; value = given_tree d.value }
 
+abbrev pub event_datum : EventDatum → EventTree
+event_datum e = record { component = e.component; prefix = e.prefix.now; class = e.class; chan = channel_tree e.chan.now; name = e.name.now }
+
 abbrev pub class_for : SourceClass → Class
 class_for source_class.Plain = class.Plain
 class_for source_class.Con = class.Con
 class_for source_class.Unc = class.Unc
+
+abbrev pub role_back : Role → NetRole
+role_back syncing = role.Sync
+role_back sending = role.Send
+role_back receiving = role.Recv
+
+abbrev pub role_for : RoleTree → NetRole
+role_for r = role_back (role_of r)

@@ -2,32 +2,35 @@
 
 ghost use Rattle.std.specs.Prelude.{◌≡◌, ◌+◌, ◌<◌, ◌++◌, [], None, map, flat_map, length, unwrap_or, IfOk, OnOk};
 ghost use Rattle.std.specs.Result.{IfErr};
-ghost use Rattle.std.specs.List.{position_or_len};
 ghost use Rattle.cif_source.specs.Objects.{components_of, events as events_of};
 ghost use Rattle.cif_source.specs.Components.{body_of};
 ghost use Rattle.cif_source.specs.Source as source;
 ghost use Rattle.cif_translate.specs.Looking.{AreNamesOf, source_for, component_at};
 ghost use Rattle.cif_inst.specs.Alphabets as alphabets;
-ghost use Rattle.cif_inst.specs.Names.{AreBuiltNames};
+ghost use Rattle.cif_inst.specs.Marks as marked;
+ghost use Rattle.cif_inst.specs.Names.{AreMatchedNames};
 ghost use Rattle.cif_inst.specs.Rows.{rows_of};
 ghost use Rattle.cif_inst.specs.Views.{row_tree};
 
 use crate::error::InstErr;
+use crate::marks::{first_unmarked, give_mark};
 use crate::rows::Row;
-use crate::used::used_events;
-use cif_ast::{AutoBody, Edge, EventUse, Loc, Name};
+use crate::used::{Used, all_used, events_as};
+use cif_ast::{AutoBody, Edge, EventUse, Loc, Name, Role};
 use cif_base::{Items, Memory};
+use cif_net::NetRole;
 use cif_scope::{Inside, number};
 use cif_translate::Looking;
 use std::alloc::Global;
 
-/// The events of an alphabet, those of them that are monitored, and those of the edges, in the order of the text and with
-/// repetitions.
+/// The events of the alphabet of a component, those of them that are monitored, and what its edges use, in the order of the text and
+/// with repetitions.
 #[derive(Drop)]
 pub struct Alphabet {
+    pub component: u32,
     pub events: Items<u32>,
     pub monitors: Items<u32>,
-    pub used: Items<u32>,
+    pub used: Items<Used>,
 }
 
 /// The events that names of a component denote.
@@ -60,11 +63,20 @@ fn name_places(alloc: Global, names: &[Name]) -> Result<Items<u32>, Memory>
     Ok(all)
 }
 
+fn add_use_place(event_use: &EventUse, places: &mut Items<u32>) -> Result<(), Memory>
+    ensures { OnOk result (places.new ≡ places.old ++ alphabets.use_place (source.use_tree event_use.now)) }
+{
+    match &event_use.role {
+        Role::Sync => places.push(event_use.name.at),
+        Role::Send(_) | Role::Recv => Ok(()),
+    }
+}
+
 fn add_use_places(uses: &[EventUse], places: &mut Items<u32>) -> Result<(), Memory>
-    ensures { OnOk result (places.new ≡ places.old ++ map alphabets.use_place (map source.use_tree uses.now)) }
+    ensures { OnOk result (places.new ≡ places.old ++ flat_map alphabets.use_place (map source.use_tree uses.now)) }
 {
     for event_use in uses {
-        places.push(event_use.name.at)?;
+        add_use_place(event_use, places)?;
     }
     Ok(())
 }
@@ -78,7 +90,7 @@ fn add_edge_places(edges: &[Edge], places: &mut Items<u32>) -> Result<(), Memory
     Ok(())
 }
 
-/// Where the events of edges are named.
+/// Where the events of edges that synchronise are named.
 fn use_places(alloc: Global, locs: &[Loc]) -> Result<Items<u32>, Memory>
     ensures { IfOk result (λ all. all ≡ flat_map alphabets.location_places (map source.location_tree locs.now)) }
 {
@@ -89,21 +101,21 @@ fn use_places(alloc: Global, locs: &[Loc]) -> Result<Items<u32>, Memory>
     Ok(places)
 }
 
-/// The declared alphabet, or else the events of the edges.
+/// The declared alphabet, or else the events of the edges that synchronise.
 fn alphabet_by(
     alloc: Global,
     looking: &Looking<'_, '_>,
     component: u32,
     automaton: &AutoBody,
-    used: &Items<u32>,
+    synced: &Items<u32>,
 ) -> Result<Items<u32>, Memory>
     requires names { AreNamesOf looking.now }
     requires component { component < length (components_of (source_for looking.now)) }
-    ensures { IfOk result (λ all. all ≡ alphabets.alphabet_by looking.now component automaton.now.alphabet used.now) }
+    ensures { IfOk result (λ all. all ≡ alphabets.alphabet_by looking.now component automaton.now.alphabet synced.now) }
 {
     match &automaton.alphabet {
         Some(names) => events_named(alloc, looking, component, names.as_slice()),
-        None => used.copy(alloc),
+        None => synced.copy(alloc),
     }
 }
 
@@ -136,45 +148,10 @@ fn monitor_places(alloc: Global, automaton: &AutoBody) -> Result<Items<u32>, Mem
     }
 }
 
-/// Gives each of these events a mark.
-#[tactic(auto, using(crate::proofs::MarkLaws::past_set))]
-fn give_mark(marks: &mut Items<u32>, mark: u32, events: &[u32])
-    ensures { marks.new ≡ alphabets.marked mark events.now marks.old }
-{
-    for event in events {
-        let at = *event as usize;
-        if at < marks.len() {
-            marks.set(at, mark);
-        }
-    }
-}
-
-/// The mark of an event, and 0 past the end.
-fn mark_of(marks: &Items<u32>, event: u32) -> u32
-    ensures { result ≡ alphabets.mark_of marks.now event }
-{
-    match marks.get(event as usize) {
-        Some(mark) => *mark,
-        None => 0,
-    }
-}
-
-/// The place of the first of these events that has another mark, and their number where there is none.
-fn first_unmarked(marks: &Items<u32>, mark: u32, events: &[u32]) -> usize
-    ensures { result ≡ position_or_len (alphabets.is_unmarked mark marks.now) events.now }
-{
-    for (place, event) in events.iter().enumerate() {
-        if mark_of(marks, *event) != mark {
-            return place;
-        }
-    }
-    events.len()
-}
-
 /// Tells where the first of these events that has another mark is named.
 fn check_marks(marks: &Items<u32>, mark: u32, events: &[u32], places: &[u32]) -> Result<(), InstErr>
-    ensures within { OnOk result (alphabets.first_failing (alphabets.is_unmarked mark marks.now) events.now places.now ≡ None) }
-    ensures told { IfErr result (λ e. alphabets.tells e (alphabets.first_failing (alphabets.is_unmarked mark marks.now) events.now places.now)) }
+    ensures within { OnOk result (alphabets.first_failing (marked.is_unmarked mark marks.now) events.now places.now ≡ None) }
+    ensures told { IfErr result (λ e. alphabets.tells e (alphabets.first_failing (marked.is_unmarked mark marks.now) events.now places.now)) }
 {
     match places.get(first_unmarked(marks, mark, events)) {
         Some(at) => Err(InstErr::AlphabetLacks { at: *at }),
@@ -183,35 +160,37 @@ fn check_marks(marks: &Items<u32>, mark: u32, events: &[u32], places: &[u32]) ->
 }
 
 /// The alphabet of an automaton and what it monitors, or where an event outside the alphabet is named first. `own` is the
-/// number of the automaton's component, and its mark, which no automaton before it has; `used` are the events of its edges.
+/// number of the automaton's component, and its mark, which no automaton before it has; `used` is what its edges use.
 fn alphabet_of(
     alloc: Global,
     looking: &Looking<'_, '_>,
     own: (u32, u32),
     automaton: &AutoBody,
-    used: Items<u32>,
+    used: Items<Used>,
     marks: &mut Items<u32>,
 ) -> Result<Alphabet, InstErr>
-    requires names { AreBuiltNames looking.now }
+    requires names { AreMatchedNames looking.now }
     requires component { own.0 < length (components_of (source_for looking.now)) }
     requires written { body_of (component_at looking.now own.0) ≡ source.automaton_body (source.automaton_tree automaton.now) }
     requires mark { own.1 ≡ own.0 + 1 }
-    requires used { used ≡ alphabets.used_events looking.now own.0 (source.automaton_tree automaton.now) }
-    requires before { alphabets.AreMarks looking.now own.0 marks.old }
+    requires used { used ≡ alphabets.automaton_used looking.now own.0 (source.automaton_tree automaton.now) }
+    requires before { marked.AreMarks (length (events_of (source_for looking.now))) own.0 marks.old }
     ensures found { IfOk result (λ a. a ≡ alphabets.automaton_alphabet looking.now own.0 (source.automaton_tree automaton.now)) }
     ensures within { IfOk result (λ a. alphabets.automaton_lacks looking.now own.0 (source.automaton_tree automaton.now) ≡ None) }
     ensures told { IfErr result (λ e. alphabets.tells e (alphabets.automaton_lacks looking.now own.0 (source.automaton_tree automaton.now))) }
-    ensures after { OnOk result (alphabets.AreMarks looking.now own.1 marks.new) }
+    ensures after { OnOk result (marked.AreMarks (length (events_of (source_for looking.now))) own.1 marks.new) }
 {
     let (component, mark) = own;
-    let events = alphabet_by(alloc, looking, component, automaton, &used)?;
+    let synced = events_as(alloc, NetRole::Sync, used.as_slice())?;
+    let events = alphabet_by(alloc, looking, component, automaton, &synced)?;
     give_mark(marks, mark, events.as_slice());
     let places = use_places(alloc, automaton.locs.as_slice())?;
-    check_marks(marks, mark, used.as_slice(), places.as_slice())?;
+    check_marks(marks, mark, synced.as_slice(), places.as_slice())?;
     let monitors = monitors_by(alloc, looking, component, automaton, &events)?;
     let places = monitor_places(alloc, automaton)?;
     check_marks(marks, mark, monitors.as_slice(), places.as_slice())?;
     Ok(Alphabet {
+        component,
         events,
         monitors,
         used,
@@ -226,7 +205,7 @@ pub fn all_alphabets(
     rows: &[Row],
     events: usize,
 ) -> Result<Items<Alphabet>, InstErr>
-    requires names { AreBuiltNames looking.now }
+    requires names { AreMatchedNames looking.now }
     requires rows { map row_tree rows.now ≡ rows_of (source_for looking.now) }
     requires events { events ≡ length (events_of (source_for looking.now)) }
     ensures found { IfOk result (λ all. all ≡ alphabets.rows_alphabets looking.now 0 (map row_tree rows.now)) }
@@ -238,7 +217,7 @@ pub fn all_alphabets(
     for (place, row) in rows.iter().enumerate() {
         if let Inside::Automaton(body) = row.inside {
             let own = (number(place)?, number(place + 1)?);
-            let used = used_events(alloc, looking, own.0, body.locs.as_slice())?;
+            let used = all_used(alloc, looking, own.0, body.locs.as_slice())?;
             all.push(alphabet_of(alloc, looking, own, body, used, &mut marks)?)?;
         }
     }

@@ -1,19 +1,40 @@
-//! The edges of an automaton.
+//! The edges of an automaton, with their roles and the values that they send (CIF 3 language reference, "Edges", "Channels").
 
-ghost use Rattle.std.specs.Prelude.{◌≡◌, ◌<◌, ◌∷◌, ◌++◌, [], map, flat_map, length, OnOk, IfOk};
+ghost use Rattle.std.specs.Prelude.{◌≡◌, ◌<◌, ◌∷◌, ◌++◌, [], map, flat_map, length, option_map, OnOk, IfOk};
 ghost use Rattle.cif_source.specs.Objects.{components_of};
 ghost use Rattle.cif_source.specs.Source as source;
 ghost use Rattle.cif_net.specs.View.{edge_tree};
-ghost use Rattle.cif_translate.specs.Looking.{AreNamesOf, source_for};
+ghost use Rattle.cif_term.specs.View.{view};
+ghost use Rattle.cif_image.specs.Flat.{sent_tree};
+ghost use Rattle.cif_image.specs.Translation.{net_of};
+ghost use Rattle.cif_translate.specs.Looking.{AreNamesOf, source_for, component_at};
 ghost use Rattle.cif_inst.specs.Edges as edges;
 
 use crate::targets::place;
-use cif_ast::{Edge, EventUse, Loc};
+use crate::used::net_role;
+use cif_ast::{Edge, EventUse, Loc, Role};
 use cif_base::{Items, Memory};
-use cif_net::{NetEdge, NetRole};
+use cif_net::{NetEdge, NetExpr};
 use cif_scope::number;
-use cif_translate::{Looking, guard, updates, value_places};
+use cif_translate::{Looking, guard, sent, updates, value_places};
 use std::alloc::Global;
+
+/// The value that an edge sends in that role, if it sends one.
+fn sent_value(
+    alloc: Global,
+    looking: &Looking<'_, '_>,
+    component: u32,
+    role: &Role,
+) -> Result<Option<NetExpr>, Memory>
+    requires names { AreNamesOf looking.now }
+    requires component { component < length (components_of (source_for looking.now)) }
+    ensures { IfOk result (λ x. option_map view x ≡ option_map (net_of (component_at looking.now component)) (sent_tree (source.role_tree role.now))) }
+{
+    match sent(alloc, looking, component, role)? {
+        Some(value) => Ok(Some(value.into_inner())),
+        None => Ok(None),
+    }
+}
 
 /// Adds the edge for one use of an event.
 fn add_use(
@@ -28,7 +49,7 @@ fn add_use(
     requires names { AreNamesOf looking.now }
     requires component { component < length (components_of (source_for looking.now)) }
     ensures { OnOk result (map edge_tree all.new
-        ≡ map edge_tree all.old ++ edges.sync_edge looking.now component ends.0 ends.1 (source.edge_tree edge.now) (source.use_tree event_use.now) ∷ []) }
+        ≡ map edge_tree all.old ++ edges.use_edge looking.now component ends.0 ends.1 (source.edge_tree edge.now) (source.use_tree event_use.now) ∷ []) }
 {
     let guard = guard(
         alloc,
@@ -37,15 +58,16 @@ fn add_use(
         event_use.name.at,
         edge.guards.as_slice(),
     )?;
+    let sent = sent_value(alloc, looking, component, &event_use.role)?;
     let updates = updates(alloc, looking, component, edge.updates.as_slice())?;
     let places = value_places(alloc, event_use, edge)?;
     all.push(NetEdge {
         event: looking.event(component, &event_use.name),
-        role: NetRole::Sync,
+        role: net_role(&event_use.role),
         from: ends.0,
         to: ends.1,
         guard: guard.into_inner(),
-        sent: None,
+        sent,
         updates,
         places,
     })?;
@@ -64,7 +86,7 @@ fn add_uses(
     requires names { AreNamesOf looking.now }
     requires component { component < length (components_of (source_for looking.now)) }
     ensures { OnOk result (map edge_tree all.new
-        ≡ map edge_tree all.old ++ map (edges.sync_edge looking.now component ends.0 ends.1 (source.edge_tree edge.now)) (map source.use_tree edge.now.uses)) }
+        ≡ map edge_tree all.old ++ map (edges.use_edge looking.now component ends.0 ends.1 (source.edge_tree edge.now)) (map source.use_tree edge.now.uses)) }
 {
     let uses = edge.uses.as_slice();
     for event_use in uses {

@@ -13,6 +13,8 @@ use cif_constants::ConstErr;
 pub enum InstErr {
     /// An edge that synchronises, or `monitor`, names there an event outside the alphabet.
     AlphabetLacks { at: u32 },
+    /// An event has two roles in the automaton that is named there: it is in the alphabet, sent or received.
+    RoleMixed { at: u32 },
     /// Components, declarations, locations and edges are too many. The count stops one past the limit.
     TooManyObjects { count: u32 },
     /// In the constant expression there, the value of a constant, a first value or a bound of a type, every operand evaluated, a

@@ -14,9 +14,10 @@ ghost use Rattle.cif_built.specs.Built.{is_built};
 ghost use Rattle.cif_image.specs.Represents.{Represents};
 ghost use Rattle.cif_translate.specs.Looking.{AreNamesOf, source_for};
 ghost use Rattle.cif_inst.specs.Alphabets.{rows_alphabets};
-ghost use Rattle.cif_inst.specs.Events.{rows_events};
+ghost use Rattle.cif_inst.specs.Events as events_by;
 ghost use Rattle.cif_inst.specs.Net.{due, KeepsInstances};
 ghost use Rattle.cif_inst.specs.Rows.{rows_of};
+ghost use Rattle.cif_inst.specs.Typing.{AreTypesOf, typed_source};
 ghost use Rattle.cif_inst.specs.Views.{row_tree};
 
 use crate::alphabets::{Alphabet, all_alphabets};
@@ -26,13 +27,15 @@ use crate::error::InstErr;
 use crate::events::all_events;
 use crate::measures::all_measures;
 use crate::objects::objects_of;
+use crate::roles::check_roles;
 use crate::rows::{Row, all_rows};
 use crate::sizes::{check_made, check_sizes};
+use crate::typing::Typing;
 use cif_alg::outlines_have_the_nodes_of_their_net;
 use cif_ast::Spec;
 use cif_base::Items;
 use cif_components::number_components;
-use cif_constants::{Constants, check_constants};
+use cif_constants::{Constants, Types, check_constants, declarations, turns};
 use cif_net::{Event, Net};
 use cif_nets::{nets_of_sources_are_nets, nets_represent_their_sources};
 use cif_numbers::number_objects;
@@ -45,8 +48,8 @@ use cif_types::Kinds;
 use cif_values::values_of;
 use std::alloc::Global;
 
-/// The alphabets of a source whose net is small enough to be made, or where an event outside one is named, or how large the net is.
-/// The rule on alphabets is asked first. Where the source has algebraic variables, sizes are told of the net that is made.
+/// The alphabets of a source whose net is small enough to be made, or where an event outside one is named, or which automaton has an
+/// event in two roles, or how large the net is. The rules are asked in this order. Where the source has algebraic variables, sizes are told of the net that is made.
 fn alphabets_of(
     alloc: Global,
     looking: &Looking<'_, '_>,
@@ -61,13 +64,14 @@ fn alphabets_of(
     requires few { (count : ℕ) → TooManyObjectsDue (source_for looking.now) count → ⊥ }
     requires ranges { (at : ℕ) → ConstantRangeDue (source_for looking.now) at → ⊥ }
     requires rows { map row_tree rows.now ≡ rows_of (source_for looking.now) }
-    requires events { map event_tree events.now ≡ rows_events (map row_tree rows.now) }
+    requires events { map event_tree events.now ≡ events_by.all_events (source_for looking.now) (map row_tree rows.now) }
     ensures found { IfOk result (λ all. all ≡ rows_alphabets looking.now 0 (map row_tree rows.now)) }
     ensures none { IfOk result (λ all. KeepsInstances (source_for looking.now)) }
     ensures refused { IfErr result (λ e. due (source_for looking.now) e) }
 {
     let total = looking.numbers.total();
     let alphabets = all_alphabets(alloc, looking, rows, total.events as usize)?;
+    check_roles(alloc, looking, alphabets.as_slice(), total.events as usize)?;
     let arguments = argument_measures(alloc, looking)?;
     let measures = all_measures(alloc, looking, arguments.as_slice(), rows)?;
     if total.algs > 0 {
@@ -83,26 +87,26 @@ fn alphabets_of(
     Ok(alphabets)
 }
 
-/// The net of a source whose constants have these values, or where an event outside an alphabet is named, or how large the net is.
-fn net_of(alloc: Global, looking: &Looking<'_, '_>, constants: &Constants) -> Result<Net, InstErr>
-    requires names { AreNamesOf looking.now }
-    requires kinds { KeepsKinds (source_for looking.now) }
-    requires forms { is_built (source_for looking.now) ≡ true }
-    requires countable { IsCountable looking.now.spec.now }
-    requires small { HasSmallNumbers looking.now.spec.now }
-    requires few { (count : ℕ) → TooManyObjectsDue (source_for looking.now) count → ⊥ }
-    requires values { HasValues (source_for looking.now) looking.now.scopes.now constants.now.numbers constants.now.values }
-    requires ranges { (at : ℕ) → ConstantRangeDue (source_for looking.now) at → ⊥ }
-    ensures represents { IfOk result (λ n. Represents (net_tree n) (source_for looking.now)) }
-    ensures none { IfOk result (λ n. KeepsInstances (source_for looking.now)) }
-    ensures refused { IfErr result (λ e. due (source_for looking.now) e) }
+/// The net of a source with these types, or the rule on alphabets, roles or sizes that it breaks.
+fn made_net(alloc: Global, typing: &Typing) -> Result<Net, InstErr>
+    requires types { AreTypesOf typing.now }
+    requires kinds { KeepsKinds (typed_source typing.now) }
+    requires forms { is_built (typed_source typing.now) ≡ true }
+    requires countable { IsCountable typing.now.looking.now.spec.now }
+    requires small { HasSmallNumbers typing.now.looking.now.spec.now }
+    requires few { (count : ℕ) → TooManyObjectsDue (typed_source typing.now) count → ⊥ }
+    requires ranges { (at : ℕ) → ConstantRangeDue (typed_source typing.now) at → ⊥ }
+    ensures represents { IfOk result (λ n. Represents (net_tree n) (typed_source typing.now)) }
+    ensures none { IfOk result (λ n. KeepsInstances (typed_source typing.now)) }
+    ensures refused { IfErr result (λ e. due (typed_source typing.now) e) }
 {
+    let looking = typing.looking;
     let components = all_rows(alloc, looking.spec, looking.scopes, looking.components)?;
     let rows = components.as_slice();
-    let events = all_events(alloc, rows)?;
+    let events = all_events(alloc, typing, rows)?;
     let alphabets = alphabets_of(alloc, looking, rows, events.as_slice())?;
     let autos = all_autos(alloc, looking, rows, alphabets.as_slice())?;
-    let objects = objects_of(alloc, looking, rows, constants)?;
+    let objects = objects_of(alloc, typing, rows)?;
     counted_trees_have_small_parts();
     trees_have_small_arguments();
     nets_of_sources_are_nets();
@@ -116,6 +120,34 @@ fn net_of(alloc: Global, looking: &Looking<'_, '_>, constants: &Constants) -> Re
         exclusions: Items::new(alloc),
         invariants: Items::new(alloc),
     })
+}
+
+/// The net of a source whose constants have these values, or the rule on alphabets, roles or sizes that it breaks.
+fn net_of(alloc: Global, looking: &Looking<'_, '_>, constants: &Constants) -> Result<Net, InstErr>
+    requires names { AreNamesOf looking.now }
+    requires kinds { KeepsKinds (source_for looking.now) }
+    requires forms { is_built (source_for looking.now) ≡ true }
+    requires countable { IsCountable looking.now.spec.now }
+    requires small { HasSmallNumbers looking.now.spec.now }
+    requires few { (count : ℕ) → TooManyObjectsDue (source_for looking.now) count → ⊥ }
+    requires values { HasValues (source_for looking.now) looking.now.scopes.now constants.now.numbers constants.now.values }
+    requires ranges { (at : ℕ) → ConstantRangeDue (source_for looking.now) at → ⊥ }
+    ensures represents { IfOk result (λ n. Represents (net_tree n) (source_for looking.now)) }
+    ensures none { IfOk result (λ n. KeepsInstances (source_for looking.now)) }
+    ensures refused { IfErr result (λ e. due (source_for looking.now) e) }
+{
+    let declared = declarations(alloc, looking.spec)?;
+    let types = Types {
+        scopes: looking.scopes,
+        constants,
+        rows: declared.as_slice(),
+    };
+    let typing = Typing {
+        looking,
+        types: &types,
+        turns: turns(alloc, looking.spec, looking.components)?,
+    };
+    made_net(alloc, &typing)
 }
 
 /// The net of a source of the forms that are built so far, or the rule on instances that it breaks.

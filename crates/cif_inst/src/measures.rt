@@ -15,11 +15,11 @@ use cif_ast::{Edge, Loc};
 use cif_base::{Items, Memory};
 use cif_measure::Measure;
 use cif_scope::{Inside, number};
-use cif_sizes::edge_measure;
+use cif_sizes::{edge_measure, use_measure};
 use cif_translate::Looking;
 use std::alloc::Global;
 
-/// Adds the measure of an edge, once for each use of an event.
+/// Adds the measures of an edge, one for each use of an event.
 fn add_edge(
     looking: &Looking<'_, '_>,
     arguments: &[Items<Measure>],
@@ -32,9 +32,10 @@ fn add_edge(
     requires arguments { AreArgumentMeasures looking.now arguments.now }
     ensures { OnOk result (all.new ≡ all.old ++ measures.edge_weights looking.now component (source.edge_tree edge.now)) }
 {
-    let measure = edge_measure(looking, arguments, component, edge);
+    let shared = edge_measure(looking, arguments, component, edge);
     let uses = edge.uses.as_slice();
-    for _event_use in uses {
+    for event_use in uses {
+        let measure = use_measure(looking, arguments, component, shared, event_use);
         all.push(measure)?;
     }
     Ok(())

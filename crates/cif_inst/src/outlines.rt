@@ -6,19 +6,20 @@ ghost use Rattle.cif_net.specs.View.{edge_tree, auto_tree};
 ghost use Rattle.cif_inst.specs.Outlines as outlines;
 
 use crate::alphabets::Alphabet;
+use crate::used::Used;
 use cif_base::{Items, Memory, Text};
-use cif_net::{Auto, NetEdge, NetRole};
+use cif_net::{Auto, NetEdge};
 use cif_scope::number;
 use cif_term::{NetExpr, NetForm};
 use std::alloc::Global;
 
-/// An edge for an event, whose guard counts as the measure with that number.
-fn outline_edge(alloc: Global, count: u32, event: u32) -> NetEdge
-    ensures { edge_tree result ≡ outlines.outline_edge count event }
+/// An edge for a use of an event, whose guard counts as the measure with that number.
+fn outline_edge(alloc: Global, count: u32, one: Used) -> NetEdge
+    ensures { edge_tree result ≡ outlines.outline_edge count one }
 {
     NetEdge {
-        event,
-        role: NetRole::Sync,
+        event: one.event,
+        role: one.role,
         from: 0,
         to: 0,
         guard: NetExpr {
@@ -31,15 +32,15 @@ fn outline_edge(alloc: Global, count: u32, event: u32) -> NetEdge
     }
 }
 
-/// An edge for each of these events, with the numbers of measures from `first` on; and the number after them.
-fn outline_edges(alloc: Global, first: u32, events: &[u32]) -> Result<(Items<NetEdge>, u32), Memory>
-    ensures edges { IfOk result (λ r. map edge_tree r.0 ≡ outlines.outline_edges first events.now) }
-    ensures next { IfOk result (λ r. r.1 ≡ first + length events.now) }
+/// An edge for each of these uses, with the numbers of measures from `first` on; and the number after them.
+fn outline_edges(alloc: Global, first: u32, used: &[Used]) -> Result<(Items<NetEdge>, u32), Memory>
+    ensures edges { IfOk result (λ r. map edge_tree r.0 ≡ outlines.outline_edges first used.now) }
+    ensures next { IfOk result (λ r. r.1 ≡ first + length used.now) }
 {
     let mut edges = Items::new(alloc);
     let mut next = first;
-    for event in events {
-        edges.push(outline_edge(alloc, next, *event))?;
+    for one in used {
+        edges.push(outline_edge(alloc, next, *one))?;
         next = number(next as usize + 1)?;
     }
     Ok((edges, next))

@@ -19,10 +19,10 @@ abbrev mutual
   branches_depth no_net_update_branches = 0
   branches_depth (net_update_branches c us bs) = max (updates_depth us) (branches_depth bs)
 
--- The statements of updates stand in the loop of a class and in at most two conditions of the event, and an `if` in a value is one
--- IF more inside them: with these four they have the 400 levels that Structured Text may have.
+-- The statements of updates stand in the loop of a class and in at most three conditions of the event, and an `if` in a value is
+-- one IF more inside them: with these five they have the 400 levels that Structured Text may have.
 abbrev pub most_nesting : ℕ
-most_nesting = 396
+most_nesting = 395
 
 -- no edge has updates that nest deeper
 abbrev pub is_shallow : Net → Bool

@@ -1,44 +1,41 @@
 -- The algebraic variables of the net of a source stand: each has a type, and a definition of its kind, or one for each location of its
 -- automaton.
-use Rattle.std.proofs.Common.{◌≡◌, ◌≢◌, ℕ, Bool, true, false, inl, inr, List, [], ◌∷◌, ◌++◌, length, map, Option, Some, None, refl, sym, ◌∙◌, ap, subst, arith}
+use Rattle.std.proofs.Common.{◌≡◌, Bool, true, false, inl, inr, List, [], ◌∷◌, length, map, Option, Some, None, refl, sym, ◌∙◌, ap, subst, arith}
 use Rattle.std.specs.Prelude.{◌&&◌, nat_eq, nat_lt, slice_get, filter_map, if◌then◌else◌}
-use Rattle.std.specs.List.{Any, Contains, cons_option, list_all}
+use Rattle.std.specs.List.{cons_option, list_all}
 use Rattle.std.specs.Option.{option_to_list}
 use Rattle.std.specs.Cmp.Lexicographic as words
-use Rattle.std.proofs.lemmas.Bool.Decides.{nat_tests}
 use Rattle.cif_ast.specs.Tree.{Tree}
 use Rattle.cif_ast.specs.Throughout.{HoldsInTree}
 use Rattle.cif_ast.specs.SmallNumbers.{small_parts}
 use Rattle.cif_ast.specs.declared.names.Ident.{Ident}
 use Rattle.cif_system.specs.Words.{Member}
-use Rattle.cif_system.proofs.Lists.{false-true, some-same, none-some, map-length, slice_get-below}
-use Rattle.cif_system.proofs.Picks.{map-member}
+use Rattle.cif_system.proofs.Lists.{some-same, none-some, map-length, slice_get-below}
 use Rattle.cif_system.proofs.Distinct.{member-append, member-map}
 use Rattle.cif_term.specs.Tree.{NetExpr}
 use Rattle.cif_model.specs.Net.{AlgValue, one_value, by_loc}
 use Rattle.cif_model.specs.Kinds as net
 use Rattle.cif_model.specs.Kinds.{places_of, fits}
 use Rattle.cif_model.specs.Facts.{is_type, literals_fit, alg_stands}
-use Rattle.cif_source.specs.Source.{Text, TypeTree, EquationTree, LocationTree, DeclTree, type_decl, enum_decl, event_decl, const_decl, alg_decl, input_decl, disc_decl, equation_decl, invariant_decl, marked_decl, SourceBody, group_body, automaton_body, Source}
-use Rattle.cif_source.specs.Components.{Component, whole, part, blank, copy, as_written, specification_of, body_of, same_text}
+use Rattle.cif_source.specs.Source.{Text, TypeTree, EquationTree, LocationTree, DeclTree, type_decl, enum_decl, event_decl, const_decl, alg_decl, input_decl, disc_decl, equation_decl, invariant_decl, marked_decl, Source}
+use Rattle.cif_source.specs.Components.{Component, as_written, specification_of, same_text}
 use Rattle.cif_source.specs.Lookup.{at_entry, in_scope}
-use Rattle.cif_source.specs.Objects.{components_of, bodies, decls_in, decls_of, locs_in, locs_of, is_automaton, automaton_number}
+use Rattle.cif_source.specs.Objects.{components_of, decls_in, decls_of, locs_in, locs_of, automaton_number}
 use Rattle.cif_source.specs.Value.{equation_for, decl_equation_for, own_definitions, location_definitions}
 use Rattle.cif_rules.specs.Kinds.{no_kind, type_kind, kind_at, kind_of, demand}
 use Rattle.cif_rules.specs.Demands.{asked_for, equation_demands}
-use Rattle.cif_rules.specs.BodyRules.{alg_of, algs_of, definition_counts}
 use Rattle.cif_image.specs.Flat.{net_of_source, net_auto, net_alg, net_alg_value, net_definition, location_name}
 use Rattle.cif_image.specs.Translation.{net_of}
 use Rattle.cif_image.specs.Types.{net_type}
 use Rattle.cif_image.specs.Small.{HasSmallParts}
-use Rattle.cif_image.proofs.RuleLaws.{member-any, all-from}
+use Rattle.cif_image.proofs.RuleLaws.{all-from}
 use Rattle.cif_image.proofs.OwnLaws.{alg-found}
 use Rattle.cif_written.proofs.Alike.{body-written}
 use Rattle.cif_fits.specs.Kinds.{AreMet}
 use Rattle.cif_fits.proofs.SoundLaws as fits
 use Rattle.cif_fits.proofs.ExprLaws.{is_valued, kind-told}
 use Rattle.cif_fits.proofs.TypeLaws.{written}
-use Rattle.cif_fits.proofs.NameLaws.{mapped-member, automaton-at}
+use Rattle.cif_fits.proofs.NameLaws.{automaton-at}
 use Rattle.cif_nets.proofs.Sound.{IsSound, as-body, scopes, defined}
 use Rattle.cif_nets.proofs.Tests.{both, lt-true, eq-true}
 use Rattle.cif_nets.proofs.Defined.{located-once, some-automaton}

@@ -6,10 +6,10 @@ use Rattle.cif_ast.specs.declared.names.Name.{Name}
 use Rattle.cif_system.specs.Words.{Member}
 use Rattle.cif_system.specs.System.{syncing}
 use Rattle.cif_system.specs.Step.{same_role}
-use Rattle.cif_system.proofs.Picks.{append-left, append-right, map-member}
-use Rattle.cif_system.proofs.Distinct.{member-map}
+use Rattle.cif_system.proofs.Picks.{append-left, append-right, flat_map-member}
+use Rattle.cif_system.proofs.Distinct.{member-map, member-flat_map}
 use Rattle.cif_model.specs.Facts.{has}
-use Rattle.cif_source.specs.Source.{syncs, AutomatonTree, automaton_body, Source}
+use Rattle.cif_source.specs.Source.{RoleTree, syncs, sends, receives, AutomatonTree, automaton_body, Source}
 use Rattle.cif_source.specs.Components.{Component, body_of}
 use Rattle.cif_source.specs.Lookup.{denotes}
 use Rattle.cif_source.specs.Objects.{components_of, automata, EventEdge, event_edges, events}
@@ -21,7 +21,6 @@ use Rattle.cif_image.specs.Flat.{event_number, named_events, alphabet_in, alphab
 use Rattle.cif_image.proofs.SystemLaws.{alphabet-same}
 use Rattle.cif_image.proofs.KeptLaws.{member-passes}
 use Rattle.cif_image.proofs.RuleLaws.{member-any, all-from}
-use Rattle.cif_fits.proofs.FormLaws.{way-syncs}
 use Rattle.cif_nets.proofs.Sound.{IsSound, alphabets}
 use Rattle.cif_nets.proofs.Forms.{automaton-home, edge-of, use-of}
 use Rattle.cif_nets.proofs.Finding.{event-use, Numbered, numbered}
@@ -36,11 +35,22 @@ named-are c (nm ∷ nms) h = ap (λ o. cons_option o (named_events c nms)) (h nm
 abbrev use_name : EventEdge → Name
 use_name w = w.event_use.name
 
-synchronised-all : (ws : List EventEdge) → ((w : EventEdge) → Member w ws → w.event_use.role ≡ syncs) → flat_map synchronised_name ws ≡ map use_name ws
-synchronised-all [] all = refl
-synchronised-all (w ∷ ws) all =
-    ap (λ r. (if same_role syncing (role_of r) then w.event_use.name ∷ [] else []) ++ flat_map synchronised_name ws) (all w (inl refl))
-    ∙ ap (λ xs. w.event_use.name ∷ xs) (synchronised-all ws (λ v m. all v (inr m)))
+abbrev asked_by : RoleTree → Name → List Name
+asked_by r nm = if same_role syncing (role_of r) then nm ∷ [] else []
+
+-- an edge that synchronises names its event
+synchronised-in : (w : EventEdge) (ws : List EventEdge) → Member w ws → w.event_use.role ≡ syncs → Member w.event_use.name (flat_map synchronised_name ws)
+synchronised-in w ws m is = flat_map-member synchronised_name w ws w.event_use.name m (subst (λ r. Member w.event_use.name (asked_by r w.event_use.name)) (sym is) (inl refl))
+
+only-asked : (r : RoleTree) (nm x : Name) → Member x (asked_by r nm) → x ≡ nm
+only-asked syncs nm x m = elim m [ inl w ↦ w | inr w ↦ absurd w ]
+only-asked (sends e) nm x m = absurd m
+only-asked receives nm x m = absurd m
+
+synchronised-from : (ws : List EventEdge) (x : Name) → Member x (flat_map synchronised_name ws) → (w : EventEdge) × Member w ws × (x ≡ use_name w)
+synchronised-from ws x m =
+    let w = member-flat_map synchronised_name x ws m in
+    (w.0, w.1, only-asked w.0.event_use.role w.0.event_use.name x w.2)
 
 -- the names there that are to be in the alphabet
 abbrev asked_names : Component → List Name
@@ -61,14 +71,12 @@ module _ (t : Source) (h : IsSound t) where
       alphabets t h nm.at (member-any (λ d. Any (λ (x : Name). (x.at ≡ nm.at) × IsTrue (is_lacking d x)) (asked_names d)) c (automata t) m (member-any (λ (x : Name). (x.at ≡ nm.at) × IsTrue (is_lacking c x)) nm (asked_names c) k
       (refl, ap (λ o. elim o [ None ↦ false | Some x ↦ not (synchronises x c) ]) number ∙ ap not g))))
 
-  -- the event of an edge stands in the alphabet
-  pub edge-inside : (c : Component) → Member c (automata t) → (w : EventEdge) → Member w (event_edges c) → has (alphabet_of c) (event_number c w.event_use.name) ≡ true
-  edge-inside c a w k =
-      let m = automaton-home t c a in
+  -- the event of an edge that synchronises stands in the alphabet
+  pub edge-inside : (c : Component) → Member c (automata t) → (w : EventEdge) → Member w (event_edges c) → w.event_use.role ≡ syncs → has (alphabet_of c) (event_number c w.event_use.name) ≡ true
+  edge-inside c a w k is =
       inside-alphabet c a w.event_use.name
-      (append-left w.event_use.name (flat_map synchronised_name (event_edges c)) (rules.monitored_in (body_of c))
-      (subst (Member w.event_use.name) (sym (synchronised-all (event_edges c) (way-syncs t h.forms c m))) (map-member use_name w (event_edges c) k)))
-      (edge-numbered c m w k).number
+      (append-left w.event_use.name (flat_map synchronised_name (event_edges c)) (rules.monitored_in (body_of c)) (synchronised-in w (event_edges c) k is))
+      (edge-numbered c (automaton-home t c a) w k).number
 
   module _ (c : Component) (m : Member c (automata t)) (a : AutomatonTree) (e : body_of c ≡ automaton_body a) where
     home : Member c (components_of t)
@@ -89,7 +97,7 @@ module _ (t : Source) (h : IsSound t) where
 
     synchronised-numbered : (nm : Name) → Member nm (flat_map synchronised_name (event_edges c)) → Numbered t h c nm
     synchronised-numbered nm k =
-        let w = member-map use_name nm (event_edges c) (subst (Member nm) (synchronised-all (event_edges c) (way-syncs t h.forms c home)) k) in
+        let w = synchronised-from (event_edges c) nm k in
         subst (Numbered t h c) (sym w.2) (edge-numbered c home w.0 w.1)
 
     pub alphabet-below : (x : ℕ) → Member x (alphabet_of c) → x < length (events t)

@@ -1,5 +1,5 @@
 -- An algebraic variable has one definition: one of its own, or else it is a variable of an automaton and has one in each location.
-use Rattle.std.proofs.Common.{◌≡◌, ◌≢◌, ℕ, Bool, true, false, inl, List, [], ◌∷◌, ◌++◌, length, map, Option, refl, sym, ◌∙◌, ap, subst, arith}
+use Rattle.std.proofs.Common.{◌≡◌, ◌≢◌, ℕ, true, false, inl, List, [], ◌∷◌, ◌++◌, length, map, Option, refl, sym, ◌∙◌, ap, subst, arith}
 use Rattle.std.specs.Prelude.{nat_eq}
 use Rattle.std.specs.List.{Any, Contains}
 use Rattle.std.proofs.lemmas.Bool.Decides.{nat_tests}
@@ -8,7 +8,7 @@ use Rattle.cif_ast.specs.declared.names.Ident.{Ident}
 use Rattle.cif_system.specs.Words.{Member}
 use Rattle.cif_system.proofs.Lists.{false-true}
 use Rattle.cif_system.proofs.Picks.{map-member}
-use Rattle.cif_source.specs.Source.{Text, TypeTree, LocationTree, DeclTree, alg_decl, SourceBody, group_body, automaton_body, Source}
+use Rattle.cif_source.specs.Source.{Text, TypeTree, LocationTree, alg_decl, SourceBody, group_body, automaton_body, Source}
 use Rattle.cif_source.specs.Components.{Component, whole, part, blank, copy, as_written, body_of}
 use Rattle.cif_source.specs.Objects.{components_of, bodies, decls_in, decls_of, locs_in, locs_of, is_automaton}
 use Rattle.cif_source.specs.Value.{own_definitions, location_definitions}

@@ -1,22 +1,21 @@
--- Each expression of a component has the kind that its position asks for: those of declarations, equations, and the guards and the
--- updates of an edge, where nothing is received.
-use Rattle.std.proofs.Common.{◌≡◌, inl, List, [], ◌∷◌, ◌++◌, refl, ◌∙◌, ap, subst}
+-- Each expression of a component has the kind that its position asks for: those of declarations, equations, and the guards, the
+-- updates and the sent values of an edge.
+use Rattle.std.proofs.Common.{List, ◌++◌}
 use Rattle.std.specs.Prelude.{flat_map}
 use Rattle.cif_ast.specs.Tree.{Tree}
 use Rattle.cif_system.specs.Words.{Member}
 use Rattle.cif_system.proofs.Picks.{append-left, append-right, flat_map-member}
 use Rattle.cif_system.proofs.Distinct.{member-flat_map}
-use Rattle.cif_source.specs.Source.{syncs, sends, receives, UseTree, EdgeTree, EquationTree, LocationTree, DeclTree, Source}
+use Rattle.cif_source.specs.Source.{UseTree, EdgeTree, EquationTree, LocationTree, DeclTree, Source}
 use Rattle.cif_source.specs.Components.{Component}
 use Rattle.cif_source.specs.Objects.{components_of, decls_of, locs_of}
-use Rattle.cif_rules.specs.Kinds.{Kind, bool_kind, int_kind, no_kind, enum_kind, Demand}
+use Rattle.cif_rules.specs.Kinds.{bool_kind, int_kind, Demand}
 use Rattle.cif_rules.specs.Constants.{bound_values}
-use Rattle.cif_rules.specs.Demands.{asked_for, use_demands, edge_received, received_by, carried_kind, event_channel, one_kind, updates_demands, edge_demands, equation_demands, location_demands, decl_demands, argument_demands, arguments_in, demands}
+use Rattle.cif_rules.specs.Demands.{asked_for, use_demands, edge_received, updates_demands, edge_demands, equation_demands, location_demands, decl_demands, argument_demands, arguments_in, demands}
 use Rattle.cif_rules.specs.BodyRules.{edges_of}
 use Rattle.cif_written.proofs.DemandLaws.{demands-met}
 use Rattle.cif_fits.specs.Kinds.{AreMet}
 use Rattle.cif_nets.proofs.Sound.{IsSound, matched, as-body}
-use Rattle.cif_nets.proofs.Forms.{edge-syncs}
 
 -- ---- parts of what is met
 
@@ -28,22 +27,6 @@ met-right c xs ys h d m = h d (append-right d xs ys m)
 
 pub met-each : {A : Type 0} (c : Component) (f : A → List Demand) (xs : List A) → AreMet c (flat_map f xs) → (x : A) → Member x xs → AreMet c (f x)
 met-each c f xs h x m d k = h d (flat_map-member f x xs d m k)
-
--- ---- nothing is received
-
-received-nothing : (c : Component) (u : UseTree) → u.role ≡ syncs → received_by c u ≡ no_kind
-received-nothing c u e = ap (λ r. elim r [ syncs ↦ no_kind | sends e ↦ no_kind | receives ↦ carried_kind (event_channel c u.name) ]) e
-
-none-one : (k : Kind) → one_kind no_kind k ≡ no_kind
-none-one bool_kind = refl
-none-one int_kind = refl
-none-one no_kind = refl
-none-one (enum_kind ls) = refl
-
-all-nothing : (c : Component) (us : List UseTree) → ((u : UseTree) → Member u us → u.role ≡ syncs) → edge_received c us ≡ no_kind
-all-nothing c [] h = refl
-all-nothing c (u ∷ []) h = received-nothing c u (h u (inl refl))
-all-nothing c (u ∷ v ∷ us) h = ap (λ k. one_kind k (edge_received c (v ∷ us))) (received-nothing c u (h u (inl refl))) ∙ none-one (edge_received c (v ∷ us))
 
 module _ (t : Source) (h : IsSound t) (c : Component) (m : Member c (components_of t)) where
   all-met : AreMet c (demands c)
@@ -79,7 +62,11 @@ module _ (t : Source) (h : IsSound t) (c : Component) (m : Member c (components_
       (met-right c (flat_map (use_demands c) e.uses) (flat_map (asked_for c bool_kind) e.guards)
       (met-left c (flat_map (use_demands c) e.uses ++ flat_map (asked_for c bool_kind) e.guards) (updates_demands c (edge_received c e.uses) e.updates) (edge-met e k))) g i
 
-  pub updates-met : (e : EdgeTree) → Member e (edges_of c) → AreMet c (updates_demands c no_kind e.updates)
-  updates-met e k =
-      subst (λ r. AreMet c (updates_demands c r e.updates)) (all-nothing c e.uses (edge-syncs t h c m e k))
-      (met-right c (flat_map (use_demands c) e.uses ++ flat_map (asked_for c bool_kind) e.guards) (updates_demands c (edge_received c e.uses) e.updates) (edge-met e k))
+  pub uses-met : (e : EdgeTree) → Member e (edges_of c) → (u : UseTree) → Member u e.uses → AreMet c (use_demands c u)
+  uses-met e k u i =
+      met-each c (use_demands c) e.uses
+      (met-left c (flat_map (use_demands c) e.uses) (flat_map (asked_for c bool_kind) e.guards)
+      (met-left c (flat_map (use_demands c) e.uses ++ flat_map (asked_for c bool_kind) e.guards) (updates_demands c (edge_received c e.uses) e.updates) (edge-met e k))) u i
+
+  pub updates-met : (e : EdgeTree) → Member e (edges_of c) → AreMet c (updates_demands c (edge_received c e.uses) e.updates)
+  updates-met e k = met-right c (flat_map (use_demands c) e.uses ++ flat_map (asked_for c bool_kind) e.guards) (updates_demands c (edge_received c e.uses) e.updates) (edge-met e k)

@@ -11,9 +11,12 @@ pub mod Alphabets
 pub mod Demanded
 pub mod Assigning
 pub mod Updates
+pub mod Channels
+pub mod Roles
 pub mod Defined
 pub mod Algebra
 pub mod Distinct
 pub mod Apart
 pub mod Net
 pub mod Rows
+pub mod ChannelRows

@@ -8,8 +8,8 @@ use Rattle.cif_source.specs.Objects.{components_of, most_objects, bodies, locs_i
 use Rattle.cif_source.specs.Scoping.{UnknownDue, DuplicateDue, WrongKindDue}
 use Rattle.cif_source.proofs.ReachLaws.{frames-listed}
 use Rattle.cif_rules.specs.BodyRules.{edges_of, MismatchDue, InitialsDue, NotOwnDue, AssignedTwiceDue, EquationsDue}
-use Rattle.cif_rules.specs.InstanceRules.{AlphabetLacksDue, TooManyObjectsDue, ConstantRangeDue}
-use Rattle.cif_image.specs.WellFormed.{unknown, duplicate, wrong_kind, mismatch, initials, not_own, assigned_twice, equations, alphabet_lacks, too_many_objects, constant_range, algebraic, KeepsBefore}
+use Rattle.cif_rules.specs.InstanceRules.{AlphabetLacksDue, RoleMixedDue, TooManyObjectsDue, ConstantRangeDue}
+use Rattle.cif_image.specs.WellFormed.{unknown, duplicate, wrong_kind, mismatch, initials, not_own, assigned_twice, equations, alphabet_lacks, role_mixed, too_many_objects, constant_range, algebraic, KeepsBefore}
 use Rattle.cif_image.proofs.RuleLaws.{few-kept}
 use Rattle.cif_image.proofs.DistinctLaws.{ScopesAreSingle}
 use Rattle.cif_image.proofs.SingleLaws.{scopes-single}
@@ -54,6 +54,9 @@ module _ (t : Source) (h : IsSound t) where
 
   pub alphabets : (at : ℕ) → AlphabetLacksDue t at → ⊥
   alphabets at = h.keeps (alphabet_lacks at) (omega arith)
+
+  pub unmixed : (at : ℕ) → RoleMixedDue t at → ⊥
+  unmixed at = h.keeps (role_mixed at) (omega arith)
 
   pub sizes : (count : ℕ) → TooManyObjectsDue t count → ⊥
   sizes count = h.keeps (too_many_objects count) (omega arith)

@@ -53,6 +53,14 @@ one-any p (x ∷ xs) e =
       | false ↦ λ g. one-any p xs g
     ]) e
 
+pub any-member : {A : Type 0} (p : A → Bool) (xs : List A) → list_any p xs ≡ true → (x : A) × Member x xs × (p x ≡ true)
+any-member p [] h = absurd (false-true refl h)
+any-member p (x ∷ xs) h =
+    elim (or-cases (p x) (list_any p xs) h) [
+      | inl w ↦ (x, inl refl, w)
+      | inr w ↦ let rest = any-member p xs w in (rest.0, inr rest.1, rest.2)
+    ]
+
 pub contained : {A : Type 0} (xs : List A) (x : A) → Member x xs → Contains xs x
 contained [] x m = absurd m
 contained (y ∷ ys) x m =

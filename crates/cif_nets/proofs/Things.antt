@@ -1,24 +1,22 @@
--- The net of a source has automata, events, inputs, variables and algebraic variables alone, no more than there may be, and no channels.
+-- The net of a source has automata, events, inputs, variables and algebraic variables alone, and no more than there may be.
 use Rattle.std.proofs.Common.{◌≡◌, ℕ, suc, ◌+◌, ◌≤◌, Bool, true, false, cond, inl, inr, List, [], ◌∷◌, length, map, refl, sym, ◌∙◌, ap, subst, arith}
 use Rattle.std.specs.Prelude.{flat_map, filter, sum}
-use Rattle.std.specs.List.{list_all}
 use Rattle.std.proofs.lemmas.List.{length-append}
 use Rattle.std.proofs.lemmas.List.Sums.{sum_by-cons, sum-map}
 use Rattle.cif_system.specs.Words.{Member}
-use Rattle.cif_system.proofs.Lists.{false-true, filter-within, map-length}
-use Rattle.cif_system.proofs.Distinct.{member-map}
+use Rattle.cif_system.proofs.Lists.{false-true, map-length}
 use Rattle.cif_model.specs.Net.{NetAuto, Net}
-use Rattle.cif_model.specs.Facts.{things, event_stands}
-use Rattle.cif_source.specs.Source.{no_type, void_type, value_type, DeclTree, type_decl, enum_decl, event_decl, const_decl, alg_decl, input_decl, disc_decl, equation_decl, invariant_decl, marked_decl, Source}
+use Rattle.cif_model.specs.Facts.{things}
+use Rattle.cif_source.specs.Source.{DeclTree, type_decl, enum_decl, event_decl, const_decl, alg_decl, input_decl, disc_decl, equation_decl, invariant_decl, marked_decl, Source}
 use Rattle.cif_source.specs.Components.{Component, body_of}
 use Rattle.cif_source.specs.Objects.{components_of, most_objects, automata, is_automaton, locs_of, event_edges, events, inputs, variables, algs, is_event, is_input, is_variable, is_alg, Declared, declarations, decls_of}
 use Rattle.cif_rules.specs.InstanceRules.{decl_objects, component_objects, object_count}
-use Rattle.cif_built.specs.Built.{is_no_channel, is_no_invariant}
+use Rattle.cif_built.specs.Built.{is_no_invariant}
 use Rattle.cif_image.specs.Flat.{net_of_source, net_auto, net_edge, net_event, net_stored, net_alg, net_exclusions, net_invariants, location_name}
-use Rattle.cif_image.proofs.RuleLaws.{declaration-cases, within-or-past, all-from}
+use Rattle.cif_image.proofs.RuleLaws.{declaration-cases, within-or-past}
 use Rattle.cif_image.proofs.NumberLaws.{append-kept}
 use Rattle.cif_image.proofs.StandingLaws.{flat-nothing}
-use Rattle.cif_fits.proofs.FormLaws.{decl-channel, decl-invariant}
+use Rattle.cif_fits.proofs.FormLaws.{decl-invariant}
 use Rattle.cif_nets.proofs.Sound.{IsSound, sizes}
 
 -- ---- other forms
@@ -46,20 +44,6 @@ no-invariant c (event_decl k x n) g = refl
 no-invariant c (const_decl ty n e) g = refl
 no-invariant c (disc_decl ty n e) g = refl
 no-invariant c (marked_decl e) g = refl
-
-no-channel : (c : Component) (d : DeclTree) → is_no_channel d ≡ true → event_stands (net_event (c, d)) ≡ true
-no-channel c (event_decl k no_type n) g = refl
-no-channel c (event_decl k void_type n) g = refl
-no-channel c (event_decl k (value_type ty) n) g = absurd (false-true refl g)
-no-channel c (invariant_decl i) g = refl
-no-channel c (alg_decl ty n e) g = refl
-no-channel c (input_decl ty n) g = refl
-no-channel c (equation_decl q) g = refl
-no-channel c (type_decl n ty) g = refl
-no-channel c (enum_decl n ls) g = refl
-no-channel c (const_decl ty n e) g = refl
-no-channel c (disc_decl ty n e) g = refl
-no-channel c (marked_decl e) g = refl
 
 -- ---- counts
 
@@ -224,10 +208,3 @@ module _ (t : Source) (h : IsSound t) where
 
   pub things-few : things (net_of_source t) ≤ 100000
   things-few = subst (λ n. things n ≤ 100000) (sym net-is) (few-in (components_of t) refl)
-
-  pub events-stand : list_all event_stands (map net_event (events t)) ≡ true
-  events-stand =
-      all-from event_stands (map net_event (events t)) (λ x m.
-      let d = member-map net_event x (events t) m in
-      let k = declared-home d.0 (filter-within (λ (d : Declared). is_event d.1) (declarations t) d.0 d.1) in
-      ap event_stands d.2 ∙ no-channel d.0.0 d.0.1 (decl-channel t h.forms d.0.0 k.0 d.0.1 k.1))

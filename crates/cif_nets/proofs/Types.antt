@@ -1,4 +1,4 @@
--- The types that a source's types become are types of a net, and hold the first values of variables and inputs.
+-- The types that a source's types become are types of a net, those of channels too, and hold the first values of variables and inputs.
 use Rattle.std.proofs.Common.{◌≡◌, ℕ, zero, suc, ◌⊎◌, ℤ, pos, true, false, inl, inr, List, [], ◌∷◌, length, map, Option, Some, None, refl, sym, ◌∙◌, ap, arith}
 use Rattle.std.specs.Prelude.{◌&&◌, ◌-ℤ◌, int_le, int_lt, nat_lt, if◌then◌else◌}
 use Rattle.std.proofs.lemmas.Bool.Decides.{nat_tests}
@@ -7,14 +7,15 @@ use Rattle.cif_base.specs.declared.types.Ty.{Ty}
 use Rattle.cif_base.specs.declared.types.Ty.TheVariants as ty
 use Rattle.cif_ast.specs.Tree.{Tree}
 use Rattle.cif_ast.specs.declared.names.Ident.{Ident}
+use Rattle.cif_ast.specs.declared.declarations.Class.{Class}
 use Rattle.cif_system.specs.Words.{Member}
 use Rattle.cif_system.specs.System.{in_range}
 use Rattle.cif_system.proofs.Lists.{map-length}
 use Rattle.cif_system.proofs.Picks.{and-right, flat_map-member}
 use Rattle.cif_model.specs.Kinds.{in_32_bits}
 use Rattle.cif_model.specs.Meaning.{type_range}
-use Rattle.cif_model.specs.Facts.{is_type, literals_fit, stored_stands}
-use Rattle.cif_source.specs.Source.{TypeTree, bool_type, int_type, range_type, named_type, DeclTree, type_decl, enum_decl, event_decl, const_decl, alg_decl, input_decl, disc_decl, equation_decl, invariant_decl, marked_decl, Source, tree_at}
+use Rattle.cif_model.specs.Facts.{is_type, literals_fit, event_stands, stored_stands}
+use Rattle.cif_source.specs.Source.{TypeTree, bool_type, int_type, range_type, named_type, ChannelTree, no_type, void_type, value_type, DeclTree, type_decl, enum_decl, event_decl, const_decl, alg_decl, input_decl, disc_decl, equation_decl, invariant_decl, marked_decl, Source, tree_at}
 use Rattle.cif_source.specs.Components.{Component, specification_of, declared, literal, location, inner, definition, instance, parameter}
 use Rattle.cif_source.specs.Lookup.{Reached, reached, missing, blocked, found}
 use Rattle.cif_source.specs.Objects.{components_of, declarations, decls_of}
@@ -23,7 +24,7 @@ use Rattle.cif_source.specs.Types.{range_of, nearest_zero, first_of_type}
 use Rattle.cif_rules.specs.Constants.{decl_types, types_of, Bounds, bounds_in, bounds_of, decl_constants, typed_constants}
 use Rattle.cif_rules.specs.InstanceRules.{FaultyConstant, LeavesRange, LongBound, EmptyRange}
 use Rattle.cif_image.specs.Types.{NetType, type_at, type_by, type_within, net_type}
-use Rattle.cif_image.specs.Flat.{net_of_source, stored_by, net_stored}
+use Rattle.cif_image.specs.Flat.{net_of_source, net_event, stored_by, net_stored}
 use Rattle.cif_image.proofs.RuleLaws.{member-any}
 use Rattle.cif_image.proofs.TypeLaws.{range-same}
 use Rattle.cif_fits.proofs.SoundLaws.{IsSound, found-is}
@@ -159,3 +160,11 @@ module _ (t : Source) (s : IsSound t) where
   input-stands c m x n k =
       let fits = type-stands c m (input_decl x n) k x (inl refl) in
       by-stands c x n None fits (nearest-inside c x fits.0)
+
+  -- ---- channels
+
+  -- the values of a channel have a type
+  pub event-stands : (c : Component) → Member c (components_of t) → (k : Class) (x : ChannelTree) (n : Ident) → Member (event_decl k x n) (decls_of c) → event_stands (net_event (c, event_decl k x n)) ≡ true
+  event-stands c m k no_type n i = refl
+  event-stands c m k void_type n i = refl
+  event-stands c m k (value_type ty) n i = (type-stands c m (event_decl k (value_type ty) n) i ty (inl refl)).0

@@ -10,7 +10,10 @@ ghost use Rattle.cif_image.specs.Small.{HasSmallParts};
 ghost use Rattle.cif_image.specs.WellFormed.{KeepsBefore, algebraic};
 ghost use Rattle.cif_fits.specs.Forms.{HasSmallArguments};
 
-use cif_fits::{conditions_keep_their_kind, expressions_keep_their_kinds, guards_keep_their_kind};
+use cif_fits::{
+    conditions_of_updates_keep_their_kind, expressions_keep_their_kinds, guards_keep_their_kind,
+    sent_values_keep_their_kinds, values_of_updates_keep_their_kinds,
+};
 
 /// Where a source of the forms built so far keeps its rules, and its numbers are small, what its net names is
 /// there, each expression has its kind, and so on.
@@ -19,8 +22,10 @@ pub fn nets_of_sources_are_nets()
         is_net (net_of_source t) ≡ true }
 {
     expressions_keep_their_kinds();
-    conditions_keep_their_kind();
     guards_keep_their_kind();
+    values_of_updates_keep_their_kinds();
+    conditions_of_updates_keep_their_kind();
+    sent_values_keep_their_kinds();
 }
 
 /// Where it keeps its rules, its net has its choices, its steps and its outputs.

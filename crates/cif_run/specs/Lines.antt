@@ -54,6 +54,7 @@ refusal_text path (why.NotOwn at) = with_number (codes "12 NotOwn at ") at
 refusal_text path (why.AssignedTwice at) = with_number (codes "13 AssignedTwice at ") at
 refusal_text path (why.Equations at count) = with_numbers (codes "16 Equations at ") at (codes " count ") count
 refusal_text path (why.AlphabetLacks at) = with_number (codes "14 AlphabetLacks at ") at
+refusal_text path (why.RoleMixed at) = with_number (codes "15 RoleMixed at ") at
 refusal_text path (why.TooManyObjects count) = with_number (codes "17 TooManyObjects count ") count
 refusal_text path (why.ConstantRange at) = with_number (codes "18 ConstantRange at ") at
 refusal_text path (why.AlgCycle alg) = joined (codes "19 AlgCycle alg " ∷ path ∷ [])

@@ -45,6 +45,8 @@ pub enum Refusal {
     Equations { at: u32, count: u32 },
     /// The name that begins there is that of an event outside the alphabet of its automaton.
     AlphabetLacks { at: u32 },
+    /// In an automaton with the name that begins there an event has two roles.
+    RoleMixed { at: u32 },
     /// Components, declarations, locations and edges are too many. The count stops one past the limit.
     TooManyObjects { count: u32 },
     /// In the constant expression that begins there a value leaves 64 bits or a divisor is 0; or its value leaves its declared range;

@@ -96,6 +96,7 @@ fn refusal_text(alloc: Global, path: &[u8], why: Refusal) -> Result<Text, Memory
             with_numbers(alloc, b"16 Equations at ", at, b" count ", count)
         }
         Refusal::AlphabetLacks { at } => with_number(alloc, b"14 AlphabetLacks at ", at),
+        Refusal::RoleMixed { at } => with_number(alloc, b"15 RoleMixed at ", at),
         Refusal::TooManyObjects { count } => {
             with_number(alloc, b"17 TooManyObjects count ", count)
         }

@@ -1,6 +1,6 @@
 -- An expression of a source is counted as the expression of the net that it becomes.
-use Rattle.std.proofs.Common.{◌≡◌, ℕ, ◌≤◌, arith, length, List, [], ◌∷◌, map, refl, sym, ◌∙◌, ap}
-use Rattle.std.specs.Prelude.{option_map}
+use Rattle.std.proofs.Common.{◌≡◌, ℕ, ◌+◌, ◌≤◌, max, arith, length, List, [], ◌∷◌, ◌++◌, map, Option, Some, None, refl, sym, ◌∙◌, ap}
+use Rattle.std.specs.Prelude.{option_map, option_to_list}
 use Rattle.cif_ast.specs.Tree.{Tree, node, Shape, truth, number, named, received, paren, negative, positive, negation, absolute, least, greatest, sum, product, comparison, all_of, any_of, implication, equivalence, choice, Trees, no_trees, trees, Terms, no_terms, terms, Factors, no_factors, factors, Branches, no_branches, branches, UpdateTree, assignment, selection, UpdateTrees, no_updates, updates, UpdateBranches, no_update_branches, update_branches}
 use Rattle.cif_ast.specs.declared.names.Name.{Name}
 use Rattle.cif_ast.specs.declared.edges.Edge.{Edge}
@@ -8,7 +8,7 @@ use Rattle.cif_ast.specs.declared.expressions.Expr.{Expr}
 use Rattle.cif_ast.specs.View.{view, trees_of, view_exprs, view_updates}
 use Rattle.cif_term.specs.Tree.{NetExpr, net_expr, NetExprs, net_exprs}
 use Rattle.cif_model.specs.Net.{NetEdge}
-use Rattle.cif_model.specs.Exprs.{placed, edge_exprs}
+use Rattle.cif_model.specs.Exprs.{placed, updates_exprs, edge_exprs}
 use Rattle.cif_model.specs.Counts.{no_form, beside, all_beside, measure_by}
 use Rattle.cif_model.specs.Counts as counts
 use Rattle.cif_model.proofs.ValueLaws.{ap-two}
@@ -19,12 +19,12 @@ use Rattle.cif_measure.specs.Counted as measured
 use Rattle.cif_measure.specs.Sizes as sized
 use Rattle.cif_measure.proofs.CountedLaws.{beside-stopped, beside-none, none-beside, beside-assoc, counted-is}
 use Rattle.cif_measure.proofs.SizeLaws.{edge-is}
-use Rattle.cif_source.specs.Source.{list_of_trees, UseTree, edge_tree, syncs}
+use Rattle.cif_source.specs.Source.{list_of_trees, UseTree, EdgeTree, edge_tree, syncs}
 use Rattle.cif_source.specs.Components.{Component}
 use Rattle.cif_image.specs.Translation.{conjunction, net_with, net_form, net_exprs_of, net_terms_of, net_factors_of, net_branches_of, net_name, net_of, net_list, net_guard}
 use Rattle.cif_image.specs.Flat.{net_updates_of, net_update_of, net_update_branches_of, sent_tree, net_edge}
 use Rattle.cif_sizes.specs.Counted.{one, none, tree_counted, shape_counted, trees_counted, terms_counted, factors_counted, branches_counted, conditions_counted, updates_counted, update_counted, update_branches_counted}
-use Rattle.cif_sizes.specs.Arguments.{one_each}
+use Rattle.cif_sizes.specs.Arguments.{one_each, expression_measure, use_weight}
 
 placed-counted : (alg : ℕ → Measure) (at : ℕ) (e : NetExpr) → counted alg (placed at e) ≡ counted alg e
 placed-counted alg at (net_expr f k) = refl
@@ -161,17 +161,36 @@ AreNameMeasures c name = (nm : Name) (at : ℕ) → name nm ≡ counted alg (net
 pub expression-is : (c : Component) (name : Name → Measure) → AreNameMeasures c name → (e : Tree) → tree_counted name e ≡ stopped_measure (whole_measure (net_of c e))
 expression-is c name same e = tree-is alg (net_name c) name same e ∙ counted-is one_each (net_of c e)
 
-pub edge-measured : (c : Component) (name : Name → Measure) → AreNameMeasures c name → (edge : Edge) (from : ℕ) (u : UseTree) → u.role ≡ syncs
-    → updates_counted name (conditions_counted name (view_exprs edge.guards)) (view_updates edge.updates)
-    ≡ stopped_measure (all_beside (map whole_measure (edge_exprs (net_edge c (record { from = from; event_use = u; edge = edge_tree edge })))))
-edge-measured c name same edge from u role =
-    let x : NetEdge = net_edge c (record { from = from; event_use = u; edge = edge_tree edge }) in
+-- for a use that sends no value
+pub edge-measured : (c : Component) (name : Name → Measure) → AreNameMeasures c name → (edge : Edge) (u : UseTree) → sent_tree u.role ≡ None
+    → updates_counted name (conditions_counted name (view_exprs edge.guards)) (view_updates edge.updates) ≡ use_weight c (edge_tree edge) u
+edge-measured c name same edge u nothing =
+    let x : NetEdge = net_edge c (record { from = 0; event_use = u; edge = edge_tree edge }) in
     ap (λ a. updates_counted name a (view_updates edge.updates)) (guard-is alg c name same u.name.at (map view edge.guards))
     ∙ updates-are alg c name same (view_updates edge.updates) (counted alg x.guard)
     ∙ ap (λ a. sized.updates_counted alg a x.updates)
-    (sym (none-first x.guard) ∙ sym (ap (λ r. sized.sent_counted alg (beside_stopped none (counted alg x.guard)) (option_map (net_of c) (sent_tree r))) role))
+    (sym (none-first x.guard) ∙ sym (ap (λ o. sized.sent_counted alg (beside_stopped none (counted alg x.guard)) (option_map (net_of c) o)) nothing))
     ∙ edge-is alg none x
     ∙ all-stop (edge_exprs x)
+
+-- one more stands behind the first
+beside-second : (a b d : counts.Measure) → beside (beside a d) b ≡ beside a (beside b d)
+beside-second a b d = let size : a.size + d.size + b.size ≡ a.size + (b.size + d.size) = omega arith in
+    let depth : max (max a.depth d.depth) b.depth ≡ max a.depth (max b.depth d.depth) = omega arith in
+    λ i. record { size = size i; depth = depth i }
+
+-- and for a use by what is measured where no value is sent
+pub use-measured : (c : Component) (e : EdgeTree) (u : UseTree) (shared : Measure) → ((v : UseTree) → sent_tree v.role ≡ None → shared ≡ use_weight c e v) → (o : Option Tree) → sent_tree u.role ≡ o
+    → (elim o [ None ↦ shared | Some v ↦ beside_stopped shared (expression_measure c v) ]) ≡ use_weight c e u
+use-measured c e u shared without None is = without u is
+use-measured c e u shared without (Some v) is =
+    let plain : UseTree = record { name = u.name; role = syncs } in
+    let guard : NetExpr = (net_edge c (record { from = 0; event_use = u; edge = e })).guard in
+    let written : List NetExpr = updates_exprs (net_updates_of c e.updates) in
+    ap (λ m. beside_stopped m (expression_measure c v)) (without plain refl)
+    ∙ beside-stopped (all_beside (map whole_measure (guard ∷ written))) (whole_measure (net_of c v))
+    ∙ ap stopped_measure (beside-second (whole_measure guard) (whole_measure (net_of c v)) (all_beside (map whole_measure written)))
+    ∙ sym (ap (λ o. stopped_measure (all_beside (map whole_measure (guard ∷ (option_to_list (option_map (net_of c) o) ++ written))))) is)
 
 pub several-counted : (name : Name → Measure) (es : List Expr) → 2 ≤ length es → above_stopped (trees_counted name none (view_exprs es)) ≡ conditions_counted name (view_exprs es)
 several-counted name [] h = absurd (omega (arith, h))

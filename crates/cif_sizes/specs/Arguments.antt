@@ -3,14 +3,18 @@ use Rattle.std.specs.Prelude.{◌≡◌, ℕ, List, [], map, Option, Some, None,
 use Rattle.cif_ast.specs.Tree.{Tree}
 use Rattle.cif_ast.specs.declared.names.Name.{Name}
 use Rattle.cif_model.specs.Counts as counts
-use Rattle.cif_model.specs.Counts.{one_form, measure_by}
+use Rattle.cif_model.specs.Counts.{one_form, measure_by, all_beside}
+use Rattle.cif_model.specs.Exprs.{edge_exprs}
+use Rattle.cif_model.specs.Net.{NetEdge}
 use Rattle.cif_measure.specs.declared.measures.Measure.{Measure}
 use Rattle.cif_measure.specs.Meanings.{stopped_measure}
+use Rattle.cif_source.specs.Source.{UseTree, EdgeTree}
 use Rattle.cif_source.specs.Components.{Component, whole, part, blank, copy, parameter}
 use Rattle.cif_source.specs.Lookup.{Reached, reached, missing, blocked, found}
 use Rattle.cif_source.specs.Objects.{components_of}
 use Rattle.cif_components.specs.declared.components.Place.{Place}
 use Rattle.cif_image.specs.Translation.{net_of}
+use Rattle.cif_image.specs.Flat.{net_edge}
 use Rattle.cif_parameters.specs.Passing.{and_then}
 use Rattle.cif_translate.specs.declared.looking.Looking.{Looking}
 use Rattle.cif_translate.specs.Looking.{source_for}
@@ -23,6 +27,14 @@ one_each k = one_form
 -- the measure that an expression of a component has in the net
 abbrev pub expression_measure : Component → Tree → Measure
 expression_measure c e = stopped_measure (measure_by one_each (net_of c e))
+
+-- all expressions of an edge of the net together
+abbrev pub edge_weight : NetEdge → Measure
+edge_weight x = stopped_measure (all_beside (map (measure_by one_each) (edge_exprs x)))
+
+-- those of an edge of a component for a use of an event: where it stands is not asked
+abbrev pub use_weight : Component → EdgeTree → UseTree → Measure
+use_weight c e u = edge_weight (net_edge c (record { from = 0; event_use = u; edge = e }))
 
 -- those of a component's arguments, which the component gave in which the instance stands
 abbrev pub measures_of : Component → List Measure

@@ -1,20 +1,17 @@
 //! What the expressions of an edge weigh together, and what one expression weighs.
 
-ghost use Rattle.std.specs.Prelude.{◌≡◌, ◌<◌, ℕ, map, length};
+ghost use Rattle.std.specs.Prelude.{◌≡◌, ◌<◌, None, length};
 ghost use Rattle.cif_ast.specs.View.{view, view_update, view_updates, view_update_branches};
 ghost use Rattle.cif_source.specs.Objects.{components_of};
-ghost use Rattle.cif_source.specs.Source.{UseTree, edge_tree, syncs};
-ghost use Rattle.cif_model.specs.Counts.{measure_by, all_beside};
-ghost use Rattle.cif_model.specs.Exprs.{edge_exprs};
-ghost use Rattle.cif_measure.specs.Meanings.{stopped_measure};
-ghost use Rattle.cif_image.specs.Flat.{net_edge};
+ghost use Rattle.cif_source.specs.Source.{EdgeTree, UseTree, edge_tree, use_tree};
+ghost use Rattle.cif_image.specs.Flat.{sent_tree};
 ghost use Rattle.cif_translate.specs.Looking.{AreNamesOf, source_for, component_at};
-ghost use Rattle.cif_sizes.specs.Arguments.{AreArgumentMeasures, expression_measure, one_each};
+ghost use Rattle.cif_sizes.specs.Arguments.{AreArgumentMeasures, expression_measure, use_weight};
 ghost use Rattle.cif_sizes.specs.Counted as counted;
 ghost use Rattle.cif_sizes.specs.Reading.{Knows, names_by};
 
 use crate::measuring::Measurer;
-use cif_ast::{Edge, Expr, Update, UpdateBranch};
+use cif_ast::{Edge, EventUse, Expr, Role, Update, UpdateBranch};
 use cif_base::Items;
 use cif_measure::Measure;
 use cif_translate::Looking;
@@ -60,8 +57,8 @@ impl<'a, 'b, 'c> Measurer<'a, 'b, 'c> {
     }
 }
 
-/// The measure of all expressions that an edge of a component has in the net where it synchronises: its guard and those of its
-/// updates. Counts stop one past their limits. The time is linear in the edge, whatever arguments stand for its names.
+/// The measure of all expressions that an edge of a component has in the net for a use of an event that sends no value: its guard and
+/// those of its updates. Counts stop one past their limits. The time is linear in the edge, whatever arguments stand for its names.
 pub fn edge_measure(
     looking: &Looking<'_, '_>,
     arguments: &[Items<Measure>],
@@ -71,9 +68,7 @@ pub fn edge_measure(
     requires names { AreNamesOf looking.now }
     requires component { component < length (components_of (source_for looking.now)) }
     requires arguments { AreArgumentMeasures looking.now arguments.now }
-    ensures { (from : ℕ) (u : UseTree) → u.role ≡ syncs → result ≡ stopped_measure (all_beside (map (measure_by one_each)
-        (edge_exprs (net_edge (component_at looking.now component)
-        (record { from = from; event_use = u; edge = edge_tree edge.now }))))) }
+    ensures { (u : UseTree) → sent_tree u.role ≡ None → result ≡ use_weight (component_at looking.now component) (edge_tree edge.now) u }
 {
     let measurer = Measurer {
         looking,
@@ -103,4 +98,27 @@ pub fn value_measure(
         component,
     };
     measurer.expr(value)
+}
+
+/// The measure of all expressions that an edge of a component has in the net for a use of an event, where `shared` is that for uses
+/// which send no value. Counts stop one past their limits. The time is linear in the use.
+pub fn use_measure(
+    looking: &Looking<'_, '_>,
+    arguments: &[Items<Measure>],
+    component: u32,
+    shared: Measure,
+    event_use: &EventUse,
+) -> Measure
+    requires names { AreNamesOf looking.now }
+    requires component { component < length (components_of (source_for looking.now)) }
+    requires arguments { AreArgumentMeasures looking.now arguments.now }
+    ensures { (e : EdgeTree) → ((u : UseTree) → sent_tree u.role ≡ None → shared ≡ use_weight (component_at looking.now component) e u)
+        → result ≡ use_weight (component_at looking.now component) e (use_tree event_use.now) }
+{
+    match &event_use.role {
+        Role::Send(Some(value)) => {
+            shared.beside(value_measure(looking, arguments, component, value))
+        }
+        Role::Send(None) | Role::Sync | Role::Recv => shared,
+    }
 }

@@ -9,4 +9,4 @@ mod expressions;
 mod measuring;
 
 pub use arguments::argument_measures;
-pub use edges::{edge_measure, value_measure};
+pub use edges::{edge_measure, use_measure, value_measure};

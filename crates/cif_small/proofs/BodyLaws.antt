@@ -1,12 +1,12 @@
--- What holds in the body of a component holds in its declarations, its equations, its edges and the arguments of its instances, and
--- bounds what its edges assign.
-use Rattle.std.proofs.Common.{◌≡◌, ℕ, ◌<◌, inl, inr, List, [], ◌∷◌, map, length, Some, None, refl, sym, subst, arith}
+-- What holds in the body of a component holds in its declarations, its equations, its edges with the values that they send, and the
+-- arguments of its instances, and bounds what its edges assign.
+use Rattle.std.proofs.Common.{◌≡◌, ℕ, ◌<◌, inl, inr, List, [], ◌∷◌, map, length, Some, None, refl, sym, ◌∙◌, ap, subst, arith}
 use Rattle.std.specs.Prelude.{flat_map, filter_map}
 use Rattle.std.specs.List.{AllByRecursion, sum_by}
 use Rattle.std.proofs.lemmas.List.Sums.{sum_by-cons}
 use Rattle.cif_ast.specs.Tree.{Tree, declaration, component, definition, instance, ItemTrees, no_items, items, BodyTree, group, automaton}
 use Rattle.cif_ast.specs.View.{view}
-use Rattle.cif_ast.specs.Throughout.{HoldsInTree, HoldsInUpdateTrees, HoldsInExpr, HoldsInDecl, HoldsInEdge, HoldsInLocEquation, HoldsInLoc, HoldsInItemTrees, HoldsInBodyTree}
+use Rattle.cif_ast.specs.Throughout.{HoldsInTree, HoldsInUpdateTrees, HoldsInExpr, HoldsInDecl, HoldsInRole, HoldsInEventUse, HoldsInEdge, HoldsInLocEquation, HoldsInLoc, HoldsInItemTrees, HoldsInBodyTree}
 use Rattle.cif_ast.specs.Countable.{count_of_edge, count_of_loc, count_of_body_tree}
 use Rattle.cif_ast.specs.SmallNumbers.{AreFewLiterals, small_parts}
 use Rattle.cif_ast.specs.declared.names.Ident.{Ident}
@@ -14,14 +14,19 @@ use Rattle.cif_ast.specs.declared.expressions.Expr.{Expr}
 use Rattle.cif_ast.specs.declared.declarations.Decl.{Decl}
 use Rattle.cif_ast.specs.declared.declarations.Decl.TheVariants as decl
 use Rattle.cif_ast.specs.declared.edges.Edge.{Edge}
+use Rattle.cif_ast.specs.declared.edges.EventUse.{EventUse}
 use Rattle.cif_ast.specs.declared.edges.Loc.{Loc}
 use Rattle.cif_ast.specs.declared.edges.LocEquation.{LocEquation}
+use Rattle.cif_ast.specs.declared.edges.Role.{Role}
+use Rattle.cif_ast.specs.declared.edges.Role.TheVariants as role
 use Rattle.cif_system.specs.Words.{Member}
+use Rattle.cif_system.proofs.Lists.{some-same, none-some}
 use Rattle.cif_system.proofs.Distinct.{member-append}
-use Rattle.cif_source.specs.Source.{TypeTree, EdgeTree, edge_tree, EquationTree, equation_tree, LocationTree, location_tree, InstanceTree, DeclTree, enum_decl, alg_decl, equation_decl, decl_tree, source_items, source_body, list_of_items}
+use Rattle.cif_source.specs.Source.{TypeTree, role_tree, UseTree, use_tree, EdgeTree, edge_tree, EquationTree, equation_tree, LocationTree, location_tree, InstanceTree, DeclTree, enum_decl, alg_decl, equation_decl, decl_tree, source_items, source_body, list_of_items}
 use Rattle.cif_source.specs.Objects.{item_decls, items_in, decls_in, locs_in}
 use Rattle.cif_source.specs.Scoping.{as_instance}
 use Rattle.cif_rules.specs.BodyRules.{targets_of_all}
+use Rattle.cif_image.specs.Flat.{sent_tree}
 use Rattle.cif_small.proofs.UpdateLaws.{holds-view_updates, assigned-counted}
 
 -- ---- declarations
@@ -166,7 +171,24 @@ exprs-hold : (es : List Expr) → AllByRecursion (HoldsInExpr small_parts) es �
 exprs-hold [] h e m = absurd m
 exprs-hold (x ∷ es) h e m = elim m [ inl same ↦ subst (HoldsInTree small_parts) (sym same) h.0.0 | inr r ↦ exprs-hold es h.1 e r ]
 
+role-sent : (r : Role) → HoldsInRole small_parts r → (e : Tree) → sent_tree (role_tree r) ≡ Some e → HoldsInTree small_parts e
+role-sent (role.Send (Some value)) h e is = subst (HoldsInTree small_parts) (some-same (view value) e is) h.0
+role-sent (role.Send None) h e is = absurd (none-some e is)
+role-sent role.Sync h e is = absurd (none-some e is)
+role-sent role.Recv h e is = absurd (none-some e is)
+
+uses-sent : (us : List EventUse) → AllByRecursion (HoldsInEventUse small_parts) us → (u : UseTree) → Member u (map use_tree us) → (e : Tree) → sent_tree u.role ≡ Some e → HoldsInTree small_parts e
+uses-sent [] h u m e is = absurd m
+uses-sent (x ∷ us) h u m e is =
+    elim m [
+      | inl same ↦ role-sent x.role h.0.1 e (ap (λ (y : UseTree). sent_tree y.role) (sym same) ∙ is)
+      | inr r ↦ uses-sent us h.1 u r e is
+    ]
+
 module _ (limit : ℕ) (x : EdgeTree) (small : IsSmallEdge limit x) where
+  pub edge-sent : (u : UseTree) → Member u x.uses → (e : Tree) → sent_tree u.role ≡ Some e → HoldsInTree small_parts e
+  edge-sent u m = uses-sent small.written.uses small.holds.0 u (subst (λ (y : EdgeTree). Member u y.uses) small.is m)
+
   pub edge-guards : (e : Tree) → Member e x.guards → HoldsInTree small_parts e
   edge-guards e m = exprs-hold small.written.guards small.holds.1 e (subst (λ (y : EdgeTree). Member e y.guards) small.is m)
 

@@ -17,7 +17,7 @@ use Rattle.cif_source.specs.Scoping.{as_instance}
 use Rattle.cif_rules.specs.BodyRules.{edges_of}
 use Rattle.cif_image.specs.Small.{HasSmallParts}
 use Rattle.cif_fits.specs.Forms.{HasSmallArguments}
-use Rattle.cif_small.proofs.BodyLaws.{body-literals, body-values, body-equations, body-located, body-edges, edge-guards, edge-updates, edge-few, body-arguments}
+use Rattle.cif_small.proofs.BodyLaws.{body-literals, body-values, body-equations, body-located, body-edges, edge-sent, edge-guards, edge-updates, edge-few, body-arguments}
 
 -- a body that is written, in which small parts stand, and that is counted below the limit
 pub record IsSmallBody (limit : ℕ) (b : SourceBody) : Type 0 where
@@ -82,6 +82,10 @@ small-parts spec counted small =
     }
 
 pub small-arguments : (spec : Spec) → HasSmallNumbers spec → HasSmallArguments (source_of spec)
-small-arguments spec small c m i k =
-    let body = in-source (suc (count_of_item_trees (view_items spec.items))) (view_items spec.items) small (omega arith) c m in
-    body-arguments body.written body.holds i (subst (λ b. Member i (filter_map as_instance (items_in b))) body.is k)
+small-arguments spec small =
+    let limit = suc (count_of_item_trees (view_items spec.items)) in
+    let all = λ (c : Component) (m : Member c (bodies (source_of spec))). in-source limit (view_items spec.items) small (omega arith) c m in
+    record {
+      given = λ c m i k. body-arguments (all c m).written (all c m).holds i (subst (λ b. Member i (filter_map as_instance (items_in b))) (all c m).is k);
+      sent = λ c m x k. edge-sent limit x (body-edges limit (all c m).written (all c m).holds (all c m).few x (subst (λ b. Member x (flat_map (λ (l : LocationTree). l.edges) (locs_in b))) (all c m).is k));
+    }

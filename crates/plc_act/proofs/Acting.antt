@@ -1,22 +1,24 @@
--- What a choice with data does whose test holds: where all new values are in range it leads to the state after its step, and
--- where one is not it leaves the state as it is.
-use Rattle.std.proofs.Common.{◌≡◌, ℕ, suc, ◌+◌, ◌^◌, ◌<◌, ◌≤◌, ℤ, pos, Bool, true, false, not, ◌&&◌, List, [], ◌∷◌, ◌++◌, map, find, length, Option, Some, None, nat_eq, cond, refl, sym, ap, subst, ◌∙◌, arith, eqb-true, unwrap_or, if◌then◌else◌}
+-- What a choice with data does whose test holds, and whose sent value is in the range of the channel: where all new values are
+-- in range it leads to the state after its step, and where one is not it leaves the state as it is.
+use Rattle.std.proofs.Common.{◌≡◌, ℕ, zero, suc, ◌+◌, ◌^◌, ◌<◌, ◌≤◌, ℤ, pos, Bool, true, false, not, ◌&&◌, List, [], ◌∷◌, ◌++◌, map, find, length, Option, Some, None, nat_eq, cond, refl, sym, ap, subst, ◌∙◌, arith, eqb-true, unwrap_or, if◌then◌else◌}
 use Rattle.std.specs.Prelude.{slice_get, slice_set, option_map, option_to_list}
 use Rattle.std.specs.List.{AllZip, list_all, enumerate_from, range_with_len}
 use Rattle.std.proofs.lemmas.List.{get_or-set_same}
 use Rattle.std.proofs.lemmas.Map.Views.{any-filter_same}
 use Rattle.grammar.specs.Pieces.{Text}
-use Rattle.cif_system.specs.System.{State, in_range}
-use Rattle.cif_system.specs.Step.{after, assigned, assigned_fits, fits_channel, makes_step, meets_invariants, new_value, new_values, sent, sent_fits}
+use Rattle.cif_base.specs.declared.types.Ty.{Ty}
+use Rattle.cif_system.specs.System.{State, in_range, value_channel}
+use Rattle.cif_system.specs.Step.{after, assigned, assigned_fits, fits_channel, makes_step, meets_invariants, new_value, new_values, sent_fits}
 use Rattle.cif_system.proofs.Lists.{map-length}
 use Rattle.cif_system.proofs.StateLaws.{step-state}
 use Rattle.cif_term.specs.Tree.{NetExpr}
-use Rattle.cif_model.specs.Net.{NetAuto, NetInvariant, NetStored, Net}
+use Rattle.cif_model.specs.Net.{NetChan, no_net_chan, void_net_chan, net_chan_of, NetAuto, NetEvent, NetInvariant, NetStored, Net}
 use Rattle.cif_model.specs.Exprs.{targets}
-use Rattle.cif_model.specs.Facts.{has, stored_stands}
+use Rattle.cif_model.specs.Facts.{has, is_type, stored_stands}
 use Rattle.cif_model.specs.Listing.{NetChoice, edge_in}
-use Rattle.cif_model.specs.Meaning.{invariant_in, net_assigned_all, system_of_net, true_in, type_range, value_in}
-use Rattle.cif_model.specs.Table.{MovesParties, SendsAndAssigns, agrees_in, permitted_in}
+use Rattle.cif_model.specs.Meaning.{channel_in, event_in, invariant_in, net_assigned_all, system_of_net, true_in, type_range}
+use Rattle.cif_model.specs.Shown.{channel_type}
+use Rattle.cif_model.specs.Table.{MovesParties, SendsAndAssigns, agrees_in, carried_type, permitted_in}
 use Rattle.st_ast.specs.Tree.{Program, Stms, append, assign, branches, choice, named, no_branches, no_other, no_stms, stms, stms_of, truth}
 use Rattle.st_ast.specs.Names.{place_of}
 use Rattle.st_ast.specs.Values.{Memory, is_true, of_bool}
@@ -40,7 +42,8 @@ use Rattle.plc_expr.specs.Safe.{IsTruth, value_at}
 use Rattle.plc_expr.specs.Held.{held_at}
 use Rattle.plc_act.specs.Writes.{NewNames, any_tested, chosen, updates_temps, writes}
 use Rattle.plc_act.specs.Acts.{act, assigned_vars, computed, copy, may_stay, stored, store, surely_set}
-use Rattle.plc_act.specs.Asked.{setting_of, AllUpdates, CanTake, IsSafeSet, IsSafeCondition, Promises}
+use Rattle.plc_act.specs.Asked.{setting_of, AllUpdates, CanTake, IsSafeSet, IsSafeCondition, Promises, Receives}
+use Rattle.plc_act.specs.Sends.{carries, received_in, sends_fit, sent_in}
 use Rattle.plc_act.specs.Declared.{OwnStand}
 use Rattle.plc_act.specs.Own.{variable_name}
 use Rattle.plc_act.proofs.Pairs.{all_fit, fits_pair, fit-one}
@@ -91,51 +94,77 @@ hold-new p m end pairs i (d ∷ ds) (z ∷ zs) hold new = (
 
 -- ---- choices
 
--- What is known of a choice in the table that sends nothing.
+-- What is known of a choice in the table.
 pub record IsData (n : Net) (c : NetChoice) : Type 0 where
   pub parties : MovesParties n c
   pub tests : (s : State) → true_in n s c.test ≡ (agrees_in n s c && permitted_in n s c)
   pub values : (s : State) → SendsAndAssigns n s c
-  pub sends_none : c.sent ≡ None
+  pub carried : (t : Ty) → carried_type n c ≡ Some t → is_type t ≡ true
 
 abbrev pub pairs_of : Net → NetChoice → State → List (ℕ × ℤ)
-pairs_of n c s = net_assigned_all n s (pos 0) c.writes
+pairs_of n c s = net_assigned_all n s (received_in n s c) c.writes
 
-five : (a sf af q mi : Bool) → sf ≡ true → mi ≡ true → (a && sf && af && q && mi) ≡ ((a && q) && af)
-five a sf af q mi x y = rw (x, y) (cut a af q)
+five : (a sf af q mi : Bool) → mi ≡ true → (a && sf && af && q && mi) ≡ ((a && q) && (sf && af))
+five a sf af q mi y = rw y (cut a sf af q)
   where
-    cut : (a af q : Bool) → (a && true && af && q && true) ≡ ((a && q) && af)
-    cut true true true = refl
-    cut true true false = refl
-    cut true false true = refl
-    cut true false false = refl
-    cut false true true = refl
-    cut false true false = refl
-    cut false false true = refl
-    cut false false false = refl
+    cut : (a sf af q : Bool) → (a && sf && af && q && true) ≡ ((a && q) && (sf && af))
+    cut true true true true = refl
+    cut true true true false = refl
+    cut true true false true = refl
+    cut true true false false = refl
+    cut true false true true = refl
+    cut true false true false = refl
+    cut true false false true = refl
+    cut true false false false = refl
+    cut false true true true = refl
+    cut false true true false = refl
+    cut false true false true = refl
+    cut false true false false = refl
+    cut false false true true = refl
+    cut false false true false = refl
+    cut false false false true = refl
+    cut false false false false = refl
+
+-- what is sent is in the range of the channel, by the system and by the net
+sent-fits : (events : List NetEvent) (e : ℕ) (o : Option ℤ)
+    → list_all (fits_channel (slice_get (map event_in events) e)) (option_to_list o) ≡ carries (channel_type (elim (slice_get events e) [ None ↦ no_net_chan | Some x ↦ x.chan ])) o
+sent-fits [] e None = refl
+sent-fits [] e (Some z) = refl
+sent-fits (x ∷ events) (suc e) o = sent-fits events e o
+sent-fits (x ∷ events) zero o = go x.chan o
+  where
+    go : (k : NetChan) (o : Option ℤ) → list_all (λ z. elim (channel_in k) [ value_channel r ↦ in_range r z | _ ↦ true ]) (option_to_list o) ≡ carries (channel_type k) o
+    go no_net_chan None = refl
+    go no_net_chan (Some z) = refl
+    go void_net_chan None = refl
+    go void_net_chan (Some z) = refl
+    go (net_chan_of t) None = refl
+    go (net_chan_of t) (Some z) = one (in_range (type_range t) z)
+      where
+        one : (b : Bool) → (b && true) ≡ b
+        one true = refl
+        one false = refl
 
 module _ (n : Net) (c : NetChoice) (s : State) (h : IsData n c) where
   pub pairs-are : pairs_of n c s ≡ assigned (system_of_net n) s (choice_in n c)
-  pairs-are =
-      ap (λ (o : Option NetExpr). net_assigned_all n s (elim (option_map (value_in n s (pos 0)) o) [ None ↦ pos 0 | Some z ↦ z ]) c.writes) (sym h.sends_none)
-      ∙ (h.values s).1
+  pairs-are = (h.values s).1
 
-  sent-none : sent (system_of_net n) s (choice_in n c) ≡ []
-  sent-none = sym (h.values s).0 ∙ ap (λ (o : Option NetExpr). option_to_list (option_map (value_in n s (pos 0)) o)) h.sends_none
+  sent-is : sent_fits (system_of_net n) s c.event (choice_in n c) ≡ sends_fit n s c
+  sent-is = ap (list_all (fits_channel (slice_get (system_of_net n).events c.event))) (sym (h.values s).0) ∙ sent-fits n.events c.event (sent_in n s c)
 
-  -- it makes a step where its test holds and its new values are in range
-  pub makes-is : n.invariants ≡ [] → makes_step (system_of_net n) s c.event (choice_in n c) ≡ (true_in n s c.test && all_fit n (pairs_of n c s))
+  -- it makes a step where its test holds, what it sends is in the channel's range, and its new values are in their ranges
+  pub makes-is : n.invariants ≡ [] → makes_step (system_of_net n) s c.event (choice_in n c) ≡ (true_in n s c.test && (sends_fit n s c && all_fit n (pairs_of n c s)))
   makes-is none =
       five (agrees_in n s c) (sent_fits (system_of_net n) s c.event (choice_in n c)) (assigned_fits (system_of_net n) s (choice_in n c)) (permitted_in n s c)
       (meets_invariants (system_of_net n) (after (system_of_net n) s (choice_in n c)))
-      (ap (λ zs. list_all (fits_channel (slice_get (system_of_net n).events c.event)) zs) sent-none)
       (ap (λ (is : List NetInvariant). list_all (λ (f : State → Bool). f (after (system_of_net n) s (choice_in n c))) (map (invariant_in n) is)) none)
-      ∙ ap (λ b. b && assigned_fits (system_of_net n) s (choice_in n c)) (sym (h.tests s))
-      ∙ ap (λ ws. true_in n s c.test && all_fit n ws) (sym pairs-are)
+      ∙ ap (λ b. b && (sent_fits (system_of_net n) s c.event (choice_in n c) && assigned_fits (system_of_net n) s (choice_in n c))) (sym (h.tests s))
+      ∙ ap (λ b. true_in n s c.test && (b && assigned_fits (system_of_net n) s (choice_in n c))) sent-is
+      ∙ ap (λ ws. true_in n s c.test && (sends_fit n s c && all_fit n ws)) (sym pairs-are)
 
 -- ---- the stores and the moves
 
-module _ (n : Net) (p : Program) (own : List Text) (w : Naming) (y : NewNames) (base low count : ℕ) (c : NetChoice) (o : OwnStand n p own w y base low count c.writes)
+module _ (n : Net) (p : Program) (own : List Text) (w : Naming) (y : NewNames) (base low count : ℕ) (c : NetChoice) (o : OwnStand n p own w y base low count (carried_type n c) c.writes)
     (named_so : (v : ℕ) → w.variable v ≡ variable_name n v) (stored_stand : list_all stored_stands n.vars ≡ true) (few : length n.vars < 2 ^ 32) (h : IsData n c) (ready : Ready n p)
     (s : State) (m0 : Memory) (st : Stands (face_of_net n) (system_of_net n) p m0 s) where
   abbrev pub IsAfter : Memory → Type 0
@@ -165,13 +194,13 @@ module _ (n : Net) (p : Program) (own : List Text) (w : Naming) (y : NewNames) (
       (among-left x (names_of letter.L (places_of (face_of_net n))) (names_of letter.V (face_of_net n).variables) a))
 
   -- What is known of the memory after the updates, where all new values are in range.
-  module _ (fit : all_fit n (pairs_of n c s) ≡ true) (turns : ℕ) (a : Memory) (later : IsAfter a) (new : HaveNew n p own w y base low count c.writes o named_so few s m0 st.state new_of (new-in fit) a) (ss : Stms) where
+  module _ (fit : all_fit n (pairs_of n c s) ≡ true) (turns : ℕ) (a : Memory) (later : IsAfter a) (new : HaveNew n p own w y base low count c.writes (carried_type n c) o named_so few s m0 st.state new_of (new-in fit) a) (ss : Stms) where
     state-a : StateOf (face_of_net n) (system_of_net n) p a s
-    state-a = later-state n p own w y base low count c.writes o m0 a s later st.state
+    state-a = later-state n p own w y base low count c.writes (carried_type n c) o m0 a s later st.state
 
-    pub storage : Storage n p own w y base low count c.writes o named_so few s m0 st.state new_of (new-in fit) (assigned_vars c.writes) turns a
+    pub storage : Storage n p own w y base low count c.writes (carried_type n c) o named_so few s m0 st.state new_of (new-in fit) (assigned_vars c.writes) turns a
     storage =
-        stores-run n p own w y base low count c.writes o named_so few s m0 st.state new_of (new-in fit) (assigned_vars c.writes)
+        stores-run n p own w y base low count c.writes (carried_type n c) o named_so few s m0 st.state new_of (new-in fit) (assigned_vars c.writes)
         (λ v e. sym (assigned-has c.writes v) ∙ e) turns a later.typed new
 
     -- variables of other letters than those that are stored
@@ -199,7 +228,7 @@ module _ (n : Net) (p : Program) (own : List Text) (w : Naming) (y : NewNames) (
           go true is = refl
           go false is =
               (variable-at n p s a v d at state-a).holds
-              ∙ ap Some (sym (others-stay n s (pos 0) v c.writes (sym (assigned-has c.writes v) ∙ is) (old n p s v)))
+              ∙ ap Some (sym (others-stay n s (received_in n s c) v c.writes (sym (assigned-has c.writes v) ∙ is) (old n p s v)))
 
       new-held : (j : ℕ) (d : NetStored) (z : ℤ) → slice_get n.vars j ≡ Some d → slice_get s.vals j ≡ Some z
           → slice_get closed.after (place_of p.vars (name_for letter.V (0 + j) d.path)) ≡ Some (new_value (pairs_of n c s) (0 + j) z)
@@ -218,7 +247,7 @@ module _ (n : Net) (p : Program) (own : List Text) (w : Naming) (y : NewNames) (
         values = subst (λ ws. AllZip (HoldsAt p closed.after letter.V) (enumerate_from 0 (face_of_net n).variables) (new_values ws 0 s.vals)) (pairs-are n c s h)
             (hold-new p m0 closed.after (pairs_of n c s) 0 n.vars s.vals st.state.values new-held);
         inputs = hold-kept p m0 closed.after letter.H
-            (λ i path t is. kept-c letter.H (λ e. cc) (λ e. cc) i path t is ∙ kept-b letter.H (λ e. cc) i path t is ∙ later-kept n p own w y base low count c.writes o m0 a later letter.H (λ e. cc) i path t is)
+            (λ i path t is. kept-c letter.H (λ e. cc) (λ e. cc) i path t is ∙ kept-b letter.H (λ e. cc) i path t is ∙ later-kept n p own w y base low count c.writes (carried_type n c) o m0 a later letter.H (λ e. cc) i path t is)
             0 _ _ st.state.inputs;
         is_state = step-state (system_of_net n) ready.inside s c.event next_state st.state.is_state record { choice = choice_in n c; makes = makes; is_after = refl };
       }
@@ -229,7 +258,7 @@ module _ (n : Net) (p : Program) (own : List Text) (w : Naming) (y : NewNames) (
         after = closed.after;
         ends = append_runs p.vars (stms_of (map (store w y) (assigned_vars c.writes))) (moves_text n c.moves ss) turns turns a storage.after storage.ends
             ∙ ap (λ ms. exec p.vars (moves_text n ms ss) turns storage.after) h.parties ∙ moved.ends ∙ closed.ends;
-        writes = writes-then (writable (face_of_net n) own) p.vars m0 a closed.after (writes-own n p own w y base low count c.writes o m0 a later)
+        writes = writes-then (writable (face_of_net n) own) p.vars m0 a closed.after (writes-own n p own w y base low count c.writes (carried_type n c) o m0 a later)
             (writes-then (writable (face_of_net n) own) p.vars a storage.after closed.after storage.writes
             (writes-then (writable (face_of_net n) own) p.vars storage.after moved.after closed.after moved.writes closed.writes));
         typed = closed.typed;
@@ -263,11 +292,11 @@ module _ (n : Net) (p : Program) (own : List Text) (w : Naming) (y : NewNames) (
     does = record {
       after = a;
       ends = refl;
-      writes = writes-own n p own w y base low count c.writes o m0 a later;
+      writes = writes-own n p own w y base low count c.writes (carried_type n c) o m0 a later;
       typed = later.typed;
       follows = (
-        later-state n p own w y base low count c.writes o m0 a s later st.state,
-        same-at a m0 (place_of p.vars fired) (pos 0) (later.others (place_of p.vars fired) (fired-other n p own w y base low count c.writes o ready.mark)),
+        later-state n p own w y base low count c.writes (carried_type n c) o m0 a s later st.state,
+        same-at a m0 (place_of p.vars fired) (pos 0) (later.others (place_of p.vars fired) (fired-other n p own w y base low count c.writes (carried_type n c) o ready.mark)),
       );
     };
     leaves = later;
@@ -278,19 +307,19 @@ module _ (n : Net) (p : Program) (own : List Text) (w : Naming) (y : NewNames) (
       any-filter_same (nat_eq v) (λ u. not (has (surely_set c.writes) u)) (not (has (surely_set c.writes) v))
       (λ k e. ap (λ u. not (has (surely_set c.writes) u)) (sym (eqb-true v k e))) (assigned_vars c.writes)
 
-  module _ (promised : Promises p.vars w (setting_of n s (pos 0)) base low count) where
+  module _ (got : Receives p.vars w (carried_type n c) (received_in n s c) m0) (promised : Promises p.vars w (setting_of n s (received_in n s c)) base low count) where
     -- the premises of an assignment and of a condition
     abbrev pub Ready_at : ℕ → NetExpr → Type 0
-    Ready_at k e = IsReady n p own w y base low count c.writes o s (pos 0) m0 st.state stored_stand promised k e
+    Ready_at k e = IsReady n p own w y base low count c.writes (carried_type n c) o s (carried_type n c) (received_in n s c) m0 st.state got (λ t e. e) stored_stand promised k e
 
     abbrev pub ReadySet : ℕ → ℕ → NetExpr → Type 0
-    ReadySet k v e = Ready_at k e × CanTake (slice_get n.vars v) (value_at (setting_of n s (pos 0)) e)
+    ReadySet k v e = Ready_at k e × CanTake (slice_get n.vars v) (value_at (setting_of n s (received_in n s c)) e)
 
     abbrev pub ReadyCondition : ℕ → NetExpr → Type 0
-    ReadyCondition k e = Ready_at k e × IsTruth (value_at (setting_of n s (pos 0)) e)
+    ReadyCondition k e = Ready_at k e × IsTruth (value_at (setting_of n s (received_in n s c)) e)
 
-    abbrev g : Grounds n s (pos 0) p.vars w y base low count IsAfter Ready_at (Assigned n p own w y base low count c.writes) (Tested n p own w y base low count c.writes)
-    g = grounds n p own w y base low count c.writes o s (pos 0) m0 st.state stored_stand promised
+    abbrev g : Grounds n s (received_in n s c) p.vars w y base low count IsAfter Ready_at (Assigned n p own w y base low count c.writes) (Tested n p own w y base low count c.writes)
+    g = grounds n p own w y base low count c.writes (carried_type n c) o s (carried_type n c) (received_in n s c) m0 st.state got (λ t e. e) stored_stand promised
 
     module _ (k turns : ℕ) (all : AllUpdates ReadySet ReadyCondition k c.writes) (room : (low ≤ k) × (k + updates_temps c.writes ≤ count)) where
       record Computed (m1 : Memory) : Type 0 where
@@ -302,9 +331,9 @@ module _ (n : Net) (p : Program) (own : List Text) (w : Naming) (y : NewNames) (
 
       computed-run : (m1 : Memory) → IsAfter m1 → Computed m1
       computed-run m1 later =
-          let copies = copies-run n p own w y base low count c.writes o named_so stored_stand s m0 st.state (pos 0) promised (may_stay c.writes) may-stay-in turns m1 later in
-          let wrote = updates-wrote n s (pos 0) p.vars w y base low count IsAfter Ready_at (Assigned n p own w y base low count c.writes) (Tested n p own w y base low count c.writes) g c.writes k turns copies.after
-          (all-updates ReadySet (λ i v e. (has (targets c.writes) v ≡ true) × Ready_at i e × CanTake (slice_get n.vars v) (value_at (setting_of n s (pos 0)) e)) ReadyCondition ReadyCondition
+          let copies = copies-run n p own w y base low count c.writes (carried_type n c) o named_so stored_stand s m0 st.state (received_in n s c) got promised (may_stay c.writes) may-stay-in turns m1 later in
+          let wrote = updates-wrote n s (received_in n s c) p.vars w y base low count IsAfter Ready_at (Assigned n p own w y base low count c.writes) (Tested n p own w y base low count c.writes) g c.writes k turns copies.after
+          (all-updates ReadySet (λ i v e. (has (targets c.writes) v ≡ true) × Ready_at i e × CanTake (slice_get n.vars v) (value_at (setting_of n s (received_in n s c)) e)) ReadyCondition ReadyCondition
           (λ v. has (targets c.writes) v ≡ true) (λ i v e in_it q. (in_it, q.0, q.1)) (λ i e q. q) c.writes k (λ v e. e) all) room copies.later in
           record {
             after = wrote.after;
@@ -321,10 +350,10 @@ module _ (n : Net) (p : Program) (own : List Text) (w : Naming) (y : NewNames) (
               second true b h = h
               second false b h = absurd cc
 
-          told : (v : ℕ) → has (targets c.writes) v ≡ true → (q : Copied n p own w y base low count c.writes o named_so stored_stand s m0 st.state (may_stay c.writes) turns m1)
+          told : (v : ℕ) → has (targets c.writes) v ≡ true → (q : Copied n p own w y base low count c.writes (carried_type n c) o named_so stored_stand s m0 st.state (may_stay c.writes) turns m1)
               → (b : Bool) → has (may_stay c.writes) v ≡ b → new_value (pairs_of n c s) v (held_at p.vars q.after (y.next v)) ≡ new_of v
           told v i q true e = ap (new_value (pairs_of n c s) v) (q.copied v i e)
-          told v i q false e = decides n s (pos 0) v c.writes (sure (has (surely_set c.writes) v) (has (assigned_vars c.writes) v) (sym (may-stay-has v) ∙ e) (assigned-has c.writes v ∙ i)) _ _
+          told v i q false e = decides n s (received_in n s c) v c.writes (sure (has (surely_set c.writes) v) (has (assigned_vars c.writes) v) (sym (may-stay-has v) ∙ e) (assigned-has c.writes v ∙ i)) _ _
             where
               sure : (a b : Bool) → (not a && b) ≡ false → b ≡ true → a ≡ true
               sure true b h e = refl
@@ -357,15 +386,15 @@ module _ (n : Net) (p : Program) (own : List Text) (w : Naming) (y : NewNames) (
             (quiet Q turns a later)
 
         -- The choice makes its step where all new values are in range, and else nothing that is seen has changed.
-        pub act-does : true_in n s c.test ≡ true
+        pub act-does : true_in n s c.test ≡ true → sends_fit n s c ≡ true
             → Acts Q (if makes_step (system_of_net n) s c.event (choice_in n c) then Some next_state else None) (exec p.vars (act n w y k c.writes (moves_text n c.moves ss)) turns m0) turns
-        act-does test = go (any_tested n c.writes) refl
+        act-does test sent = go (any_tested n c.writes) refl
           where
             start : IsAfter m0
             start = record { typed = st.typed; others = λ j apart. refl }
 
             makes-fit : makes_step (system_of_net n) s c.event (choice_in n c) ≡ all_fit n (pairs_of n c s)
-            makes-fit = makes-is n c s h ready.none ∙ ap (λ b. b && all_fit n (pairs_of n c s)) test
+            makes-fit = makes-is n c s h ready.none ∙ ap (λ b. b && (sends_fit n s c && all_fit n (pairs_of n c s))) test ∙ ap (λ b. b && all_fit n (pairs_of n c s)) sent
 
             go : (b : Bool) → any_tested n c.writes ≡ b
                 → Acts Q (if makes_step (system_of_net n) s c.event (choice_in n c) then Some next_state else None)
@@ -387,8 +416,8 @@ module _ (n : Net) (p : Program) (own : List Text) (w : Naming) (y : NewNames) (
                 (λ fit. taking q.after q.later q.new fit (makes-fit ∙ fit))))
             go false t =
                 let q = computed-run m0 start in
-                let fit : all_fit n (pairs_of n c s) ≡ true = untested-fit n s (pos 0) c.writes k t
-                (all-updates ReadySet (λ i v e. IsSafeSet n (setting_of n s (pos 0)) v e) ReadyCondition (λ i e. IsSafeCondition (setting_of n s (pos 0)) e)
+                let fit : all_fit n (pairs_of n c s) ≡ true = untested-fit n s (received_in n s c) c.writes k t
+                (all-updates ReadySet (λ i v e. IsSafeSet n (setting_of n s (received_in n s c)) v e) ReadyCondition (λ i e. IsSafeCondition (setting_of n s (received_in n s c)) e)
                 (λ v. has (targets c.writes) v ≡ true) (λ i v e in_it r. (r.0.0, r.1)) (λ i e r. (r.0.0, r.1)) c.writes k (λ v e. e) all) in
                 same-act Q (if makes_step (system_of_net n) s c.event (choice_in n c) then Some next_state else None) (exec p.vars (append (computed n w y k c.writes) rest) turns m0) (exec p.vars rest turns q.after) turns
                 (append_runs p.vars (computed n w y k c.writes) rest turns turns m0 q.after q.ends)

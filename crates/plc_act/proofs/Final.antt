@@ -1,8 +1,8 @@
 -- The part of an event whose choices have safe expressions tries the event.
-use Rattle.std.proofs.Common.{◌≡◌, ℕ, ◌+◌, ◌<◌, pos, true, List, [], flat_map, length, None, sym, ◌∙◌}
+use Rattle.std.proofs.Common.{◌≡◌, ℕ, ◌+◌, ◌<◌, ℤ, true, List, [], flat_map, length, Option, sym, ◌∙◌}
 use Rattle.std.specs.Prelude.{nat_eq}
 use Rattle.std.specs.List.{AllByRecursion}
-use Rattle.grammar.specs.Pieces.{Text}
+use Rattle.cif_base.specs.declared.types.Ty.{Ty}
 use Rattle.cif_system.specs.System.{State}
 use Rattle.cif_term.specs.Tree.{NetExpr}
 use Rattle.cif_model.specs.Net.{Net}
@@ -12,7 +12,7 @@ use Rattle.cif_model.specs.Kinds.{Kind, fits, is_bool}
 use Rattle.cif_model.specs.Listing.{NetChoice}
 use Rattle.cif_model.specs.Meaning.{system_of_net}
 use Rattle.cif_model.specs.Reads.{names_in, names_no_alg}
-use Rattle.cif_model.specs.Table.{IsGuarded, carried_type, choice_stands}
+use Rattle.cif_model.specs.Table.{IsGuarded, choice_stands}
 use Rattle.st_ast.specs.Tree.{Program}
 use Rattle.st_ast.specs.declared.tree.StTy.TheVariants as ty
 use Rattle.plc_face.specs.Face.{IsDeclared}
@@ -22,32 +22,32 @@ use Rattle.plc_gen.specs.Faces.{face_of_net}
 use Rattle.plc_gen.specs.Small.{are_small}
 use Rattle.plc_gen.proofs.Choosing.{all-filter, all-of}
 use Rattle.plc_gen.proofs.Facts.{standing}
+use Rattle.plc_expr.specs.Held.{IsThere}
 use Rattle.plc_expr.specs.Texts.{temps}
 use Rattle.plc_expr.specs.Sorts.{is_boolean, own_types}
 use Rattle.plc_act.specs.Asked.{Promises, setting_of}
-use Rattle.plc_act.specs.Own.{data_naming, event_vars}
-use Rattle.plc_act.specs.Parts.{AreDeclared, all_temps, data_part, event_faces, ifs_from}
-use Rattle.plc_act.specs.Ready.{IsNamed, IsSafeChoice}
+use Rattle.plc_act.specs.Own.{event_vars, sent_name}
+use Rattle.plc_act.specs.Parts.{AreDeclared, all_temps, data_first, data_part, event_faces, event_naming, ifs_from}
+use Rattle.plc_act.specs.Ready.{IsSafeChoice}
 use Rattle.plc_act.proofs.Targets.{once-all}
 use Rattle.plc_act.proofs.Laying.{declares-ifs}
 use Rattle.plc_act.proofs.Parts.{parts-tried, types-length, vars-there}
 use Rattle.plc_act.proofs.Readying.{all-ready}
 
-module _ (n : Net) (cs : List NetChoice) (p : Program) (received : Text) (base j e : ℕ) where
+module _ (n : Net) (cs : List NetChoice) (p : Program) (base j e : ℕ) where
   abbrev here : List NetChoice
   here = choices_of cs e
 
   pub safe-parts-tried : is_net n ≡ true → IsGuarded n cs → n.invariants ≡ [] → are_small n.vars ≡ true → are_small n.inputs ≡ true → e < length n.events
-      → AllByRecursion (λ (c : NetChoice). c.sent ≡ None) (choices_of cs e) → AllByRecursion (λ (c : NetChoice). carried_type n c ≡ None) (choices_of cs e)
       → AllByRecursion (IsSafeChoice n) (choices_of cs e) → IsDeclared p.vars fired ty.Bool → AreDeclared p base j (event_faces n (choices_of cs e))
-      → ((x : NetExpr) → length (own_types n None x) ≡ temps x)
-      → ((k : Kind) (x : NetExpr) → fits n None k x ≡ true → names_no_alg x ≡ true → is_boolean n None x ≡ is_bool k)
-      → ((k : Kind) (x : NetExpr) → fits n None k x ≡ true → names_no_alg x ≡ true → AllByRecursion (IsNamed n) (names_in x))
-      → ((s : State) → Promises p.vars (data_naming n received) (setting_of n s (pos 0)) base (ifs_from n (choices_of cs e) j) (ifs_from n (choices_of cs e) j + all_temps (choices_of cs e)))
-      → TriesEvent (face_of_net n) (system_of_net n) p (data_part n received j (choices_of cs e)) e
-  safe-parts-tried is guarded none small_vars small_inputs within sends carried safe mark declared own_length told named promised =
+      → ((r : Option Ty) (x : NetExpr) → length (own_types n r x) ≡ temps x)
+      → ((r : Option Ty) (k : Kind) (x : NetExpr) → fits n r k x ≡ true → names_no_alg x ≡ true → is_boolean n r x ≡ is_bool k)
+      → ((r : Option Ty) (k : Kind) (x : NetExpr) → fits n r k x ≡ true → names_no_alg x ≡ true → AllByRecursion (IsThere n r) (names_in x))
+      → ((s : State) (r : ℤ) → Promises p.vars (event_naming n (choices_of cs e) j) (setting_of n s r) base (ifs_from n (choices_of cs e) j) (ifs_from n (choices_of cs e) j + all_temps (choices_of cs e)))
+      → TriesEvent (face_of_net n) (system_of_net n) p (data_part n j (choices_of cs e)) e
+  safe-parts-tried is guarded none small_vars small_inputs within safe mark declared own_length told named promised =
       let stands = all-filter (λ (c : NetChoice). choice_stands n c ≡ true) (λ (c : NetChoice). nat_eq c.event e) cs (all-of (λ (c : NetChoice). choice_stands n c ≡ true) cs guarded.stands) in
       let there = λ (v : ℕ) (h : has (event_vars here) v ≡ true). vars-there n v here stands (sym (once-all (flat_map (λ (c : NetChoice). targets c.writes) here) v) ∙ h) in
-      parts-tried n cs p received base j e is guarded none within sends mark declared own_length promised
-      (all-ready n (standing n is) small_vars small_inputs p received base own_length told named here (ifs_from n here j) stands carried sends safe
-      (declares-ifs n p received base j here declared (types-length n own_length here) there))
+      parts-tried n cs p base j e is guarded none within mark declared own_length promised
+      (all-ready n (standing n is) small_vars small_inputs p (sent_name n here (data_first n here j)) base own_length told named here (ifs_from n here j) stands safe
+      (declares-ifs n p base j here declared (types-length n own_length here) there))

@@ -91,7 +91,7 @@ module _ (x : Setting) (var_bits : (k : ℕ) → HasBits (slice_index_or x.state
 
 -- ---- own variables
 
-some-kind : {A : Type 0} (f : A → Bool) (xs : List A) → list_any f xs ≡ true → (a : A) × (f a ≡ true)
+pub some-kind : {A : Type 0} (f : A → Bool) (xs : List A) → list_any f xs ≡ true → (a : A) × (f a ≡ true)
 some-kind f [] h = never h
 some-kind f (a ∷ xs) h = go (f a) refl h (λ q. some-kind f xs q)
   where

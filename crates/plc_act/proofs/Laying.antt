@@ -5,6 +5,7 @@ use Rattle.std.specs.List.{enumerate_from}
 use Rattle.std.proofs.lemmas.List.{length-append}
 use Rattle.std.proofs.lemmas.Option.{slice_get-map}
 use Rattle.grammar.specs.Pieces.{Text}
+use Rattle.cif_base.specs.declared.types.Ty.{Ty}
 use Rattle.cif_system.specs.Words.{Member}
 use Rattle.cif_system.proofs.Lists.{map-length, none-some, some-same}
 use Rattle.cif_term.specs.Tree.{NetUpdates}
@@ -24,10 +25,11 @@ use Rattle.plc_face.proofs.FaceLaws.{below}
 use Rattle.plc_gen.specs.Events.{own_name}
 use Rattle.plc_expr.specs.Texts.{Naming}
 use Rattle.plc_act.specs.Writes.{NewNames, any_tested}
-use Rattle.plc_act.specs.Own.{choice_types, data_faces, data_naming, event_vars, if_face, new_face, new_face_of, new_names, place_in, range_face, range_faces, tests_range}
+use Rattle.plc_act.specs.Sends.{event_type}
+use Rattle.plc_act.specs.Own.{choice_types, data_faces, event_vars, faces_sent, if_face, new_face, new_face_of, new_names, place_in, range_face, range_faces, sent_face, sent_faces, sent_number, tests_range}
 use Rattle.plc_act.specs.Declared.{IsTemp, IsNew, OwnStand}
 use Rattle.plc_act.proofs.Kept.{Declares}
-use Rattle.plc_act.specs.Parts.{AreDeclared, all_temps, data_first, done_faces, event_faces, ifs_from}
+use Rattle.plc_act.specs.Parts.{AreDeclared, all_temps, data_first, done_faces, event_faces, event_naming, ifs_from}
 
 -- ---- lists
 
@@ -66,13 +68,13 @@ member-at j (z ∷ xs) (suc i) x e = inr (subst (λ k. Member (name_for letter.T
 
 -- ---- the variables of an event
 
-module _ (n : Net) (p : Program) (received : Text) (base j : ℕ) (cs : List NetChoice) (d : AreDeclared p base j (event_faces n cs)) (count_is : length (flat_map (choice_types n None) cs) ≡ all_temps cs)
+module _ (n : Net) (p : Program) (base j : ℕ) (cs : List NetChoice) (d : AreDeclared p base j (event_faces n cs)) (count_is : length (flat_map (choice_types n) cs) ≡ all_temps cs)
     (vars_there : (v : ℕ) → has (event_vars cs) v ≡ true → (q : NetStored) × (slice_get n.vars v ≡ Some q)) where
   abbrev pub own_names : List Text
   own_names = map own_name (enumerate_from j (event_faces n cs))
 
   abbrev pub naming : Naming
-  naming = data_naming n received
+  naming = event_naming n cs j
 
   abbrev pub new : NewNames
   new = new_names n cs (data_first n cs j)
@@ -108,30 +110,49 @@ module _ (n : Net) (p : Program) (received : Text) (base j : ℕ) (cs : List Net
   abbrev news : ℕ
   news = length (event_vars cs)
 
+  abbrev sents : ℕ
+  sents = length (sent_faces n cs)
+
+  -- the values of the `if`s
+  abbrev ifs : List VariableFace
+  ifs = map if_face (flat_map (choice_types n) cs)
+
   news-length : length (map (new_face n) (event_vars cs)) ≡ news
   news-length = map-length (new_face n) (event_vars cs)
 
   -- the mark that new values are in range
   range-at : tests_range n cs ≡ true → slice_get (event_faces n cs) (dones + 0) ≡ Some range_face
   range-at t =
-      get-right (done_faces n cs) (data_faces n None cs) 0
-      ∙ get-left (range_faces n cs) (map (new_face n) (event_vars cs) ++ map if_face (flat_map (choice_types n None) cs)) 0 range_face
+      get-right (done_faces n cs) (data_faces n cs) 0
+      ∙ get-left (range_faces n cs) (map (new_face n) (event_vars cs) ++ (sent_faces n cs ++ ifs)) 0 range_face
       (ap (λ b. slice_get (if b then range_face ∷ [] else []) 0) t)
 
   new-at : (v : ℕ) → has (event_vars cs) v ≡ true → slice_get (event_faces n cs) (dones + (ranges + place_in (event_vars cs) v)) ≡ Some (new_face n v)
   new-at v h =
-      get-right (done_faces n cs) (data_faces n None cs) (ranges + place_in (event_vars cs) v)
-      ∙ get-right (range_faces n cs) (map (new_face n) (event_vars cs) ++ map if_face (flat_map (choice_types n None) cs)) (place_in (event_vars cs) v)
-      ∙ get-left (map (new_face n) (event_vars cs)) (map if_face (flat_map (choice_types n None) cs)) (place_in (event_vars cs) v) (new_face n v)
+      get-right (done_faces n cs) (data_faces n cs) (ranges + place_in (event_vars cs) v)
+      ∙ get-right (range_faces n cs) (map (new_face n) (event_vars cs) ++ (sent_faces n cs ++ ifs)) (place_in (event_vars cs) v)
+      ∙ get-left (map (new_face n) (event_vars cs)) (sent_faces n cs ++ ifs) (place_in (event_vars cs) v) (new_face n v)
       (slice_get-map (new_face n) (event_vars cs) (place_in (event_vars cs) v) ∙ ap (option_map (new_face n)) (position-at (event_vars cs) v h))
 
-  if-at : (i : ℕ) (t : StTy) → slice_get (flat_map (choice_types n None) cs) i ≡ Some t → slice_get (event_faces n cs) (dones + (ranges + (news + i))) ≡ Some (if_face t)
+  -- past the new values
+  behind-news : (i : ℕ) → slice_get (event_faces n cs) (dones + (ranges + (news + i))) ≡ slice_get (sent_faces n cs ++ ifs) i
+  behind-news i =
+      get-right (done_faces n cs) (data_faces n cs) (ranges + (news + i))
+      ∙ get-right (range_faces n cs) (map (new_face n) (event_vars cs) ++ (sent_faces n cs ++ ifs)) (news + i)
+      ∙ ap (λ q. slice_get (map (new_face n) (event_vars cs) ++ (sent_faces n cs ++ ifs)) (q + i)) (sym news-length)
+      ∙ get-right (map (new_face n) (event_vars cs)) (sent_faces n cs ++ ifs) i
+
+  -- what is sent
+  sent-at : (t : Ty) → event_type n cs ≡ Some t → slice_get (event_faces n cs) (dones + (ranges + (news + 0))) ≡ Some (sent_face t)
+  sent-at t is = behind-news 0 ∙ ap (λ u. slice_get (faces_sent u ++ ifs) 0) is
+
+  one-sent : (t : Ty) → event_type n cs ≡ Some t → sents ≡ 1
+  one-sent t is = ap (λ u. length (faces_sent u)) is
+
+  if-at : (i : ℕ) (t : StTy) → slice_get (flat_map (choice_types n) cs) i ≡ Some t → slice_get (event_faces n cs) (dones + (ranges + (news + (sents + i)))) ≡ Some (if_face t)
   if-at i t at =
-      get-right (done_faces n cs) (data_faces n None cs) (ranges + (news + i))
-      ∙ get-right (range_faces n cs) (map (new_face n) (event_vars cs) ++ map if_face (flat_map (choice_types n None) cs)) (news + i)
-      ∙ ap (λ q. slice_get (map (new_face n) (event_vars cs) ++ map if_face (flat_map (choice_types n None) cs)) (q + i)) (sym news-length)
-      ∙ get-right (map (new_face n) (event_vars cs)) (map if_face (flat_map (choice_types n None) cs)) i
-      ∙ slice_get-map if_face (flat_map (choice_types n None) cs) i ∙ ap (option_map if_face) at
+      behind-news (sents + i) ∙ get-right (sent_faces n cs) ifs i
+      ∙ slice_get-map if_face (flat_map (choice_types n) cs) i ∙ ap (option_map if_face) at
 
   -- ---- names
 
@@ -147,19 +168,17 @@ module _ (n : Net) (p : Program) (received : Text) (base j : ℕ) (cs : List Net
       let in_k = below (event_faces n cs) k z at_k in
       names-differ letter.T letter.T a b x.path z.path (omega (arith, small, in_i, e)) (omega (arith, small, in_k, q)) (inr (λ h. other (omega (arith, h, e, q))))
 
-  types-below : (k : ℕ) → first_own ≤ k → k < end_own → (t : StTy) × (slice_get (flat_map (choice_types n None) cs) (k - first_own) ≡ Some t)
-  types-below k from below_k = get-below (flat_map (choice_types n None) cs) (k - first_own) (omega (arith, count_is, from, below_k))
+  types-below : (k : ℕ) → first_own ≤ k → k < end_own → (t : StTy) × (slice_get (flat_map (choice_types n) cs) (k - first_own) ≡ Some t)
+  types-below k from below_k = get-below (flat_map (choice_types n) cs) (k - first_own) (omega (arith, count_is, from, below_k))
 
-  if-index : ℕ → ℕ
-  if-index k = dones + (ranges + (news + (k - first_own)))
-
-  pub faces-length : length (event_faces n cs) ≡ dones + (ranges + (news + all_temps cs))
+  pub faces-length : length (event_faces n cs) ≡ dones + (ranges + (news + (sents + all_temps cs)))
   faces-length =
-      length-append (done_faces n cs) (data_faces n None cs)
-      ∙ ap (λ q. dones + q) (length-append (range_faces n cs) (map (new_face n) (event_vars cs) ++ map if_face (flat_map (choice_types n None) cs)))
-      ∙ ap (λ q. dones + (ranges + q)) (length-append (map (new_face n) (event_vars cs)) (map if_face (flat_map (choice_types n None) cs)))
-      ∙ ap (λ q. dones + (ranges + (q + length (map if_face (flat_map (choice_types n None) cs))))) news-length
-      ∙ ap (λ q. dones + (ranges + (news + q))) (map-length if_face (flat_map (choice_types n None) cs) ∙ count_is)
+      length-append (done_faces n cs) (data_faces n cs)
+      ∙ ap (λ q. dones + q) (length-append (range_faces n cs) (map (new_face n) (event_vars cs) ++ (sent_faces n cs ++ ifs)))
+      ∙ ap (λ q. dones + (ranges + q)) (length-append (map (new_face n) (event_vars cs)) (sent_faces n cs ++ ifs))
+      ∙ ap (λ q. dones + (ranges + (q + length (sent_faces n cs ++ ifs)))) news-length
+      ∙ ap (λ q. dones + (ranges + (news + q))) (length-append (sent_faces n cs) ifs)
+      ∙ ap (λ q. dones + (ranges + (news + (sents + q)))) (map-length if_face (flat_map (choice_types n) cs) ∙ count_is)
 
   module _ (us : NetUpdates) (sub : (v : ℕ) → has (targets us) v ≡ true → has (event_vars cs) v ≡ true) (tests : any_tested n us ≡ true → tests_range n cs ≡ true) where
     is-new : (v : ℕ) → has (targets us) v ≡ true → IsNew n p own_names new v
@@ -181,7 +200,7 @@ module _ (n : Net) (p : Program) (received : Text) (base j : ℕ) (cs : List Net
     one-range : tests_range n cs ≡ true → ranges ≡ 1
     one-range t = ap (λ b. length (if b then range_face ∷ [] else [])) t
 
-    pub stands : OwnStand n p own_names naming new base first_own end_own us
+    pub stands : OwnStand n p own_names naming new base first_own end_own (event_type n cs) us
     stands = record {
       next = is-new;
       next_apart = λ v u h g other.
@@ -191,7 +210,7 @@ module _ (n : Net) (p : Program) (received : Text) (base j : ℕ) (cs : List Net
       next_own = λ v k h from below_k.
           let t = types-below k from below_k in
           let in_v = place-below v (sub v h) in
-          apart (dones + (ranges + place_in (event_vars cs) v)) (dones + (ranges + (news + (k - first_own)))) (new_face n v) (if_face t.0) (new-at v (sub v h)) (if-at (k - first_own) t.0 t.1)
+          apart (dones + (ranges + place_in (event_vars cs) v)) (dones + (ranges + (news + (sents + (k - first_own))))) (new_face n v) (if_face t.0) (new-at v (sub v h)) (if-at (k - first_own) t.0 t.1)
           (data_first n cs j + ranges + place_in (event_vars cs) v) k (omega arith) (omega (arith, from)) (λ e. omega (arith, e, in_v));
       mark = λ t. temp-named (dones + 0) (data_first n cs j) range_face (range-at (tests t)) (omega arith);
       mark_apart = λ v t h.
@@ -201,34 +220,48 @@ module _ (n : Net) (p : Program) (received : Text) (base j : ℕ) (cs : List Net
       mark_own = λ k t from below_k.
           let one = one-range (tests t) in
           let q = types-below k from below_k in
-          apart (dones + 0) (dones + (ranges + (news + (k - first_own)))) range_face (if_face q.0) (range-at (tests t)) (if-at (k - first_own) q.0 q.1)
+          apart (dones + 0) (dones + (ranges + (news + (sents + (k - first_own))))) range_face (if_face q.0) (range-at (tests t)) (if-at (k - first_own) q.0 q.1)
           (data_first n cs j) k (omega arith) (omega (arith, from)) (λ e. omega (arith, e, one));
-      own_type = λ k. elim (slice_get (flat_map (choice_types n None) cs) (k - first_own)) [ None ↦ ty.Bool | Some t ↦ t ];
+      sent = λ t is. temp-named (dones + (ranges + (news + 0))) (sent_number n cs (data_first n cs j)) (sent_face t) (sent-at t is) (omega arith);
+      sent_next = λ t v is h.
+          let in_v = place-below v (sub v h) in
+          apart (dones + (ranges + (news + 0))) (dones + (ranges + place_in (event_vars cs) v)) (sent_face t) (new_face n v) (sent-at t is) (new-at v (sub v h))
+          (sent_number n cs (data_first n cs j)) (data_first n cs j + ranges + place_in (event_vars cs) v) (omega arith) (omega arith) (λ e. omega (arith, e, in_v));
+      sent_mark = λ t is tested.
+          let one = one-range (tests tested) in
+          apart (dones + (ranges + (news + 0))) (dones + 0) (sent_face t) range_face (sent-at t is) (range-at (tests tested))
+          (sent_number n cs (data_first n cs j)) (data_first n cs j) (omega arith) (omega arith) (λ e. omega (arith, e, one));
+      sent_own = λ t k is from below_k.
+          let one = one-sent t is in
+          let q = types-below k from below_k in
+          apart (dones + (ranges + (news + 0))) (dones + (ranges + (news + (sents + (k - first_own))))) (sent_face t) (if_face q.0) (sent-at t is) (if-at (k - first_own) q.0 q.1)
+          (sent_number n cs (data_first n cs j)) k (omega arith) (omega (arith, from)) (λ e. omega (arith, e, one));
+      own_type = λ k. elim (slice_get (flat_map (choice_types n) cs) (k - first_own)) [ None ↦ ty.Bool | Some t ↦ t ];
       own_temp = λ k from below_k.
           let q = types-below k from below_k in
           subst (λ t. IsTemp p own_names (naming.own k) t) (ap (λ (o : Option StTy). elim o [ None ↦ ty.Bool | Some t ↦ t ]) (sym q.1))
-          (temp-named (dones + (ranges + (news + (k - first_own)))) k (if_face q.0) (if-at (k - first_own) q.0 q.1) (omega (arith, from)));
+          (temp-named (dones + (ranges + (news + (sents + (k - first_own))))) k (if_face q.0) (if-at (k - first_own) q.0 q.1) (omega (arith, from)));
       own_places = λ k from below_k.
           let q = types-below k from below_k in
-          let e : j + (dones + (ranges + (news + (k - first_own)))) ≡ k = omega (arith, from) in
-          subst (λ i. place_of p.vars (name_for letter.T i (codes "if")) ≡ base + i) e (d.place (dones + (ranges + (news + (k - first_own)))) (if_face q.0) (if-at (k - first_own) q.0 q.1));
+          let e : j + (dones + (ranges + (news + (sents + (k - first_own))))) ≡ k = omega (arith, from) in
+          subst (λ i. place_of p.vars (name_for letter.T i (codes "if")) ≡ base + i) e (d.place (dones + (ranges + (news + (sents + (k - first_own))))) (if_face q.0) (if-at (k - first_own) q.0 q.1));
       own_inside = let inside = d.inside in omega (arith, inside, faces-length);
     }
 
   -- the own variables of the expressions are declared one after another
-  declares-from : (ts : List StTy) (i : ℕ) → ((a : ℕ) (t : StTy) → slice_get ts a ≡ Some t → slice_get (flat_map (choice_types n None) cs) (i + a) ≡ Some t) → Declares p.vars naming base (first_own + i) ts
+  declares-from : (ts : List StTy) (i : ℕ) → ((a : ℕ) (t : StTy) → slice_get ts a ≡ Some t → slice_get (flat_map (choice_types n) cs) (i + a) ≡ Some t) → Declares p.vars naming base (first_own + i) ts
   declares-from [] i at = tt
   declares-from (t ∷ ts) i at =
-      let here : slice_get (flat_map (choice_types n None) cs) i ≡ Some t = (let q : i + 0 ≡ i = omega arith in ap (slice_get (flat_map (choice_types n None) cs)) (sym q)) ∙ at 0 t refl in
-      let e : j + (dones + (ranges + (news + i))) ≡ first_own + i = omega arith in (
+      let here : slice_get (flat_map (choice_types n) cs) i ≡ Some t = (let q : i + 0 ≡ i = omega arith in ap (slice_get (flat_map (choice_types n) cs)) (sym q)) ∙ at 0 t refl in
+      let e : j + (dones + (ranges + (news + (sents + i)))) ≡ first_own + i = omega arith in (
         (
-          subst (λ k. IsDeclared p.vars (name_for letter.T k (codes "if")) t) e (d.each (dones + (ranges + (news + i))) (if_face t) (if-at i t here)),
-          subst (λ k. place_of p.vars (name_for letter.T k (codes "if")) ≡ base + k) e (d.place (dones + (ranges + (news + i))) (if_face t) (if-at i t here)),
+          subst (λ k. IsDeclared p.vars (name_for letter.T k (codes "if")) t) e (d.each (dones + (ranges + (news + (sents + i)))) (if_face t) (if-at i t here)),
+          subst (λ k. place_of p.vars (name_for letter.T k (codes "if")) ≡ base + k) e (d.place (dones + (ranges + (news + (sents + i)))) (if_face t) (if-at i t here)),
         ),
         subst (λ k. Declares p.vars naming base k ts) (omega arith)
-            (declares-from ts (i + 1) (λ a u is. (let q : i + 1 + a ≡ i + suc a = omega arith in ap (slice_get (flat_map (choice_types n None) cs)) q) ∙ at (suc a) u is)),
+            (declares-from ts (i + 1) (λ a u is. (let q : i + 1 + a ≡ i + suc a = omega arith in ap (slice_get (flat_map (choice_types n) cs)) q) ∙ at (suc a) u is)),
       )
 
-  pub declares-ifs : Declares p.vars naming base first_own (flat_map (choice_types n None) cs)
-  declares-ifs = subst (λ k. Declares p.vars naming base k (flat_map (choice_types n None) cs)) (omega arith)
-      (declares-from (flat_map (choice_types n None) cs) 0 (λ a t is. (let q : 0 + a ≡ a = omega arith in ap (slice_get (flat_map (choice_types n None) cs)) q) ∙ is))
+  pub declares-ifs : Declares p.vars naming base first_own (flat_map (choice_types n) cs)
+  declares-ifs = subst (λ k. Declares p.vars naming base k (flat_map (choice_types n) cs)) (omega arith)
+      (declares-from (flat_map (choice_types n) cs) 0 (λ a t is. (let q : 0 + a ≡ a = omega arith in ap (slice_get (flat_map (choice_types n) cs)) q) ∙ is))

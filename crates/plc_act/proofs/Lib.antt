@@ -6,6 +6,7 @@ pub mod Memories
 pub mod Taking
 pub mod Storing
 pub mod Acting
+pub mod Sending
 pub mod Offering
 pub mod Trying
 pub mod Whole

@@ -1,5 +1,5 @@
 -- The memories between the statements of a choice: only its own variables have changed, and all variables are in their types.
-use Rattle.std.proofs.Common.{◌≡◌, ◌≢◌, ℕ, ◌+◌, ◌-◌, ◌^◌, ◌<◌, ◌≤◌, ℤ, Bool, true, false, List, length, Some, inl, inr, refl, sym, ap, subst, ◌∙◌, arith, [], ◌∷◌, ◌++◌}
+use Rattle.std.proofs.Common.{◌≡◌, ◌≢◌, ℕ, ◌+◌, ◌-◌, ◌^◌, ◌<◌, ◌≤◌, ℤ, pos, Bool, true, false, List, length, Option, Some, None, inl, inr, refl, sym, ap, subst, ◌∙◌, arith, [], ◌∷◌, ◌++◌}
 use Rattle.std.specs.Prelude.{IsTrue, codes, slice_get, slice_set}
 use Rattle.std.specs.List.{list_all, list_any}
 use Rattle.grammar.specs.Pieces.{Text}
@@ -38,9 +38,9 @@ use Rattle.plc_expr.specs.Safe.{Setting, IsSafe}
 use Rattle.plc_expr.specs.Held.{Reads, Prepares}
 use Rattle.plc_act.specs.Writes.{NewNames, is_tested, any_tested}
 use Rattle.plc_act.specs.Declared.{IsTemp, OwnStand}
-use Rattle.plc_act.specs.Asked.{setting_of, IsFit, CanTake, KeepsTypes, Promises}
-use Rattle.plc_act.specs.Own.{new_type}
-use Rattle.plc_act.proofs.Writing.{Grounds}
+use Rattle.plc_act.specs.Asked.{setting_of, IsFit, CanTake, KeepsTypes, Promises, Receives}
+use Rattle.plc_act.specs.Own.{new_type, sent_type}
+use Rattle.plc_act.proofs.Writing.{Grounds, same-at}
 use Rattle.plc_act.proofs.Targets.{tested-any}
 
 -- ---- types of new values
@@ -103,7 +103,7 @@ module _ (n : Net) (p : Program) (own : List Text) (w : Naming) (y : NewNames) (
     pub typed : Typed p.vars m
     pub others : (j : ℕ) → IsOther j → slice_get m j ≡ slice_get m0 j
 
-  module _ (o : OwnStand n p own w y base low count us) where
+  module _ (carried : Option Ty) (o : OwnStand n p own w y base low count carried us) where
     -- the place of a variable of another name
     pub other-at : (x : Text) (v : StVar) → declared p.vars x ≡ Some v → (Tested → same_name x y.in_range ≡ false) → ((u : ℕ) → Assigned u → same_name x (y.next u) ≡ false)
         → ((k : ℕ) → low ≤ k → k < count → same_name x (w.own k) ≡ false) → IsOther (place_of p.vars x)
@@ -151,6 +151,12 @@ module _ (n : Net) (p : Program) (own : List Text) (w : Naming) (y : NewNames) (
     later-state m0 m s h st =
         state-kept (face_of_net n) (system_of_net n) p m0 m s (later-kept m0 m h letter.L (λ e. cc)) (later-kept m0 m h letter.V (λ e. cc)) (later-kept m0 m h letter.H (λ e. cc)) st
 
+    -- and so is the one for what is received
+    pub received-other : (t : Ty) → carried ≡ Some t → IsOther (place_of p.vars w.received)
+    received-other t is =
+        let d = declared-of p.vars w.received (sent_type t) (o.sent t is).is_declared in
+        other-at w.received d.variable d.at (o.sent_mark t is) (λ u q. o.sent_next t u is q) (λ k from below. o.sent_own t k is from below)
+
     room : (x : Text) (t : StTy) (m : Memory) → IsTemp p own x t → Typed p.vars m → place_of p.vars x < length m
     room x t m h typed =
         let d = declared-of p.vars x t h.is_declared in
@@ -162,23 +168,37 @@ module _ (n : Net) (p : Program) (own : List Text) (w : Naming) (y : NewNames) (
 
     -- ---- what is promised of expressions
 
-    module _ (s : State) (r : ℤ) (m0 : Memory) (st : StateOf (face_of_net n) (system_of_net n) p m0 s) (stored_stand : list_all stored_stands n.vars ≡ true)
-        (promised : Promises p.vars w (setting_of n s r) base low count) where
+    module _ (s : State) (receives : Option Ty) (r : ℤ) (m0 : Memory) (st : StateOf (face_of_net n) (system_of_net n) p m0 s) (got : Receives p.vars w receives r m0) (only : (t : Ty) → receives ≡ Some t → carried ≡ Some t)
+        (stored_stand : list_all stored_stands n.vars ≡ true) (promised : Promises p.vars w (setting_of n s r) base low count) where
       abbrev x : Setting
       x = setting_of n s r
 
-      -- The expression is safe, its names are read from each memory that stands for the state, and its own variables keep
-      -- their types.
+      -- The expression is safe, its names are read from each memory that stands for the state and holds what is received, and
+      -- its own variables keep their types.
       abbrev pub IsReady : ℕ → NetExpr → Type 0
-      IsReady k e = IsSafe x e × ((m : Memory) → StateOf (face_of_net n) (system_of_net n) p m s → Reads p.vars w x m e) × KeepsTypes p.vars w x base k e
+      IsReady k e =
+          IsSafe x e × ((m : Memory) → StateOf (face_of_net n) (system_of_net n) p m s → Receives p.vars w receives r m → Reads p.vars w x m e)
+          × KeepsTypes p.vars w x base k e
+
+      -- what is received stays where it is
+      receives-on : (m a : Memory) → ((j : ℕ) → IsOther j → slice_get a j ≡ slice_get m j) → Receives p.vars w receives r m → Receives p.vars w receives r a
+      receives-on m a same = go receives only
+        where
+          go : (t : Option Ty) → ((u : Ty) → t ≡ Some u → carried ≡ Some u) → Receives p.vars w t r m → Receives p.vars w t r a
+          go None is h = tt
+          go (Some u) is h = same-at a m (place_of p.vars w.received) (pos 0) (same (place_of p.vars w.received) (received-other u (is u refl))) ∙ h
+
+      received-later : (m : Memory) → IsLater m0 m → Receives p.vars w receives r m
+      received-later m h = receives-on m0 m h.others got
 
       reads-later : (m : Memory) (k : ℕ) (e : NetExpr) → IsLater m0 m → IsReady k e → Reads p.vars w x m e
-      reads-later m k e h is = is.1 m (later-state m0 m s h st)
+      reads-later m k e h is = is.1 m (later-state m0 m s h st) (received-later m h)
 
       -- whatever the own variables of expressions hold
       reads-beside : (m a : Memory) (k : ℕ) (e : NetExpr) → IsLater m0 m → IsReady k e → ((j : ℕ) → (base + low ≤ j → base + count ≤ j) → slice_get a j ≡ slice_get m j) → Reads p.vars w x a e
       reads-beside m a k e h is same =
           is.1 a (state-kept (face_of_net n) (system_of_net n) p m a s (kept letter.L (λ q. cc)) (kept letter.V (λ q. cc)) (kept letter.H (λ q. cc)) (later-state m0 m s h st))
+          (receives-on m a (λ j apart. same j (past j apart)) (received-later m h))
         where
           past : (j : ℕ) → IsOther j → base + low ≤ j → base + count ≤ j
           past j apart above = let b : low ≤ j - base → j - base < count → j ≢ base + (j - base) = apart.no_own (j - base) in grind (arith, b, above)

@@ -1,9 +1,10 @@
--- What expressions name is read from each memory that stands for a state, as it is in the state.
-use Rattle.std.proofs.Common.{◌≡◌, ℕ, zero, suc, ◌+◌, ◌<◌, ℤ, pos, List, [], ◌∷◌, map, length, Option, Some, None, Ok, get_or, refl, sym, ap, ◌∙◌, arith}
-use Rattle.std.specs.Prelude.{slice_get, slice_index_or, option_map}
+-- What expressions name is read from each memory that stands for a state and holds what is received, as it is in the state.
+use Rattle.std.proofs.Common.{◌≡◌, ℕ, zero, suc, ◌+◌, ◌<◌, ℤ, pos, true, List, [], ◌∷◌, map, length, Option, Some, None, Ok, get_or, refl, sym, ap, ◌∙◌, arith}
+use Rattle.std.specs.Prelude.{is_some, slice_get, slice_index_or, option_map}
 use Rattle.std.specs.List.{AllByRecursion}
 use Rattle.std.proofs.lemmas.Option.{slice_get-map}
 use Rattle.grammar.specs.Pieces.{Text}
+use Rattle.cif_base.specs.declared.types.Ty.{Ty}
 use Rattle.cif_system.specs.System.{State}
 use Rattle.cif_term.specs.Tree.{NetExpr}
 use Rattle.cif_model.specs.Net.{NetAuto, NetStored, Net}
@@ -21,10 +22,9 @@ use Rattle.plc_gen.specs.Places.{place_name}
 use Rattle.plc_gen.proofs.Making.{face-at}
 use Rattle.plc_gen.proofs.Moving.{faces}
 use Rattle.plc_gen.proofs.Writing.{hold-at}
-use Rattle.plc_expr.specs.Held.{held_at, IsRead, Reads}
-use Rattle.plc_act.specs.Asked.{setting_of}
+use Rattle.plc_expr.specs.Held.{held_at, IsRead, IsThere, Reads}
+use Rattle.plc_act.specs.Asked.{setting_of, Receives}
 use Rattle.plc_act.specs.Own.{data_naming, input_name, variable_name}
-use Rattle.plc_act.specs.Ready.{IsNamed}
 use Rattle.plc_act.proofs.Taking.{variable-at}
 
 get-some : {A : Type 0} (xs : List A) (k : ℕ) → k < length xs → (a : A) × (slice_get xs k ≡ Some a)
@@ -62,17 +62,22 @@ module _ (n : Net) (p : Program) (received : Text) (s : State) (r : ℤ) (m : Me
   reads-variable : (k : ℕ) → k < length n.vars → held_at p.vars m (variable_name n k) ≡ slice_index_or s.vals k (pos 0)
   reads-variable k h = let a = get-some n.vars k h in get_or-of m (place_of p.vars (variable_name n k)) (slice_index_or s.vals k (pos 0)) (pos 0) (variable-at n p s m k a.0 a.1 st).holds
 
-  reads-one : (x : Read) → IsNamed n x → IsRead p.vars (data_naming n received) (setting_of n s r) m x
-  reads-one (a_var k) h = reads-variable k h
-  reads-one (an_input k) h = reads-input k h
-  reads-one (an_alg k) h = absurd h
-  reads-one (a_place k) h = λ q. ap (λ z. Ok (of_bool (same_number z (pos q)))) (reads-place k h)
-  reads-one the_received h = absurd h
+  module _ (t : Option Ty) (got : Receives p.vars (data_naming n received) t r m) where
+    reads-one : (x : Read) → IsThere n t x → IsRead p.vars (data_naming n received) (setting_of n s r) m x
+    reads-one (a_var k) h = reads-variable k h
+    reads-one (an_input k) h = reads-input k h
+    reads-one (an_alg k) h = absurd h
+    reads-one (a_place k) h = λ q. ap (λ z. Ok (of_bool (same_number z (pos q)))) (reads-place k h)
+    reads-one the_received h = go t h got
+      where
+        go : (u : Option Ty) → is_some u ≡ true → Receives p.vars (data_naming n received) u r m → held_at p.vars m received ≡ r
+        go None h g = absurd cc
+        go (Some u) h g = g
 
-  reads-all : (xs : List Read) → AllByRecursion (IsNamed n) xs → AllByRecursion (IsRead p.vars (data_naming n received) (setting_of n s r) m) xs
-  reads-all [] all = tt
-  reads-all (x ∷ xs) all = (reads-one x all.0, reads-all xs all.1)
+    reads-all : (xs : List Read) → AllByRecursion (IsThere n t) xs → AllByRecursion (IsRead p.vars (data_naming n received) (setting_of n s r) m) xs
+    reads-all [] all = tt
+    reads-all (x ∷ xs) all = (reads-one x all.0, reads-all xs all.1)
 
-  -- the names of an expression
-  pub reads-named : (e : NetExpr) → AllByRecursion (IsNamed n) (names_in e) → Reads p.vars (data_naming n received) (setting_of n s r) m e
-  reads-named e all = reads-all (names_in e) all
+    -- the names of an expression
+    pub reads-named : (e : NetExpr) → AllByRecursion (IsThere n t) (names_in e) → Reads p.vars (data_naming n received) (setting_of n s r) m e
+    reads-named e all = reads-all (names_in e) all

@@ -1,15 +1,23 @@
--- What is written for choices with data: an example computed.
-use Rattle.std.proofs.Common.{◌≡◌, pos, true, false, [], ◌∷◌, refl}
+-- What is written for choices with data: examples computed.
+use Rattle.std.proofs.Common.{◌≡◌, ℕ, pos, true, false, [], ◌∷◌, Some, None, refl}
 use Rattle.std.specs.Prelude.{codes, decimal}
 use Rattle.std.specs.Fmt.{digits}
 use Rattle.cif_base.specs.declared.types.Ty.TheVariants as cif_ty
-use Rattle.cif_term.specs.Tree.{lt, NetExpr, net_expr, n_number, n_var, n_not, n_sum, n_compare, no_net_terms, net_terms, NetUpdates, net_set, net_choose, no_net_updates, net_updates, no_net_update_branches, net_update_branches}
-use Rattle.cif_model.specs.Net.{Net}
-use Rattle.st_ast.specs.Tree.{Stms, truth, number, named, complement, sum, order, all_of, exprs, no_exprs, terms, no_terms, assign, choice, no_stms, stms, no_branches, branches, no_other, other}
+use Rattle.cif_system.specs.System.{unc}
+use Rattle.cif_term.specs.Tree.{lt, NetExpr, net_expr, n_truth, n_number, n_received, n_var, n_not, n_sum, n_compare, no_net_terms, net_terms, NetUpdates, net_set, net_choose, no_net_updates, net_updates, no_net_update_branches, net_update_branches}
+use Rattle.cif_model.specs.Net.{net_chan_of, Net}
+use Rattle.cif_model.specs.Listing.{NetChoice}
+use Rattle.st_ast.specs.Tree.{Stms, append, truth, number, named, complement, sum, order, all_of, exprs, no_exprs, terms, no_terms, assign, choice, no_stms, stms, no_branches, branches, no_other, other}
 use Rattle.st_ast.specs.declared.tree.StOrder.TheVariants as cmp
+use Rattle.st_ast.specs.declared.tree.StTy.TheVariants as ty
+use Rattle.plc_gen.specs.Events.{done_face, event_text, marks_with, tested}
 use Rattle.plc_expr.specs.Texts.{Naming}
 use Rattle.plc_act.specs.Writes.{NewNames}
 use Rattle.plc_act.specs.Acts.{act}
+use Rattle.plc_act.specs.Sends.{sends}
+use Rattle.plc_act.specs.Events.{all_written}
+use Rattle.plc_act.specs.Own.{range_face}
+use Rattle.plc_act.specs.Parts.{event_faces}
 
 -- ---- a net with the variables count : int[0..10] and lamp : bool
 
@@ -84,3 +92,62 @@ chosen : act n w y 3
     (stms (choice (branches (named (codes "K")) (stms (assign (codes "V0") (named (codes "N0"))) (stms (assign (codes "V1") (named (codes "N1"))) rest)) no_branches) no_other) no_stms))))
 unfolding n w y count more rest digits
 chosen = refl
+
+-- ---- what is sent
+
+five : NetExpr
+five = net_expr (n_number (pos 5)) 0
+
+received : NetExpr
+received = net_expr n_received 0
+
+-- S := 5; IF 0 <= S AND S <= 9 THEN F := TRUE; END_IF
+sent : sends w 3 (Some five) (Some (cif_ty.Int (pos 0) (pos 9))) rest
+    ≡ stms (assign (codes "S") (number (pos 5)))
+    (stms (choice (branches (all_of (exprs (order (number (pos 0)) cmp.Le (named (codes "S"))) (exprs (order (named (codes "S")) cmp.Le (number (pos 9))) no_exprs))) rest no_branches) no_other) no_stms)
+unfolding w five rest
+sent = refl
+
+-- a boolean is in range by its kind: S := TRUE; F := TRUE
+told : sends w 3 (Some (net_expr (n_truth true) 0)) (Some cif_ty.Bool) rest ≡ stms (assign (codes "S") (truth true)) rest
+unfolding w rest
+told = refl
+
+-- over a void channel nothing is sent
+void : sends w 3 None None rest ≡ rest
+void = refl
+
+-- ---- edge m!5, or edge m!4, with edge m? do count := ?
+
+channel : Net
+channel = record n { events = record { path = codes "m"; class = unc; chan = net_chan_of (cif_ty.Int (pos 0) (pos 9)) } ∷ [] }
+
+sends_number : ℕ → NetChoice
+sends_number z = record {
+  event = 0;
+  moves = [];
+  test = net_expr (n_truth true) 0;
+  sent = Some (net_expr (n_number (pos z)) 0);
+  writes = net_updates (net_set 0 received) no_net_updates;
+  invariants = [];
+}
+
+-- IF NOT D THEN IF TRUE THEN S := z; IF 0 <= S AND S <= 9 THEN K := TRUE; N0 := S; K := ..; IF K THEN V0 := N0; D := TRUE; ..
+offered : ℕ → Stms
+offered z =
+    tested (complement (named (codes "D"))) (tested (truth true) (stms (assign (codes "S") (number (pos z)))
+    (tested (all_of (exprs (order (number (pos 0)) cmp.Le (named (codes "S"))) (exprs (order (named (codes "S")) cmp.Le (number (pos 9))) no_exprs)))
+    (stms (assign (codes "K") (truth true))
+    (stms (assign (codes "N0") (named (codes "S")))
+    (stms (assign (codes "K") (all_of (exprs (named (codes "K")) (exprs (order (number (pos 0)) cmp.Le (named (codes "N0"))) (exprs (order (named (codes "N0")) cmp.Le (number (pos 10))) no_exprs)))))
+    (tested (named (codes "K")) (stms (assign (codes "V0") (named (codes "N0"))) (marks_with (codes "D"))))))))))
+
+both_offered : event_text (codes "D") (all_written channel w y 3 (sends_number 5 ∷ sends_number 4 ∷ [])) ≡ stms (assign (codes "D") (truth false)) (append (offered 5) (offered 4))
+unfolding n w y received channel sends_number offered digits
+both_offered = refl
+
+-- the own variables of the event: T2_done, T3_in_range, T4_new_count, T5_sent
+own_faces : event_faces channel (sends_number 5 ∷ sends_number 4 ∷ [])
+    ≡ done_face ∷ range_face ∷ record { path = codes "new_count"; ty = ty.Lint; first = pos 0 } ∷ record { path = codes "sent"; ty = ty.Lint; first = pos 0 } ∷ []
+unfolding n received channel sends_number
+own_faces = refl

@@ -6,6 +6,7 @@ use Rattle.std.proofs.lemmas.Bool.{eqb-false}
 use Rattle.std.proofs.lemmas.List.{get_or-set_other}
 use Rattle.std.proofs.lemmas.Option.{slice_get-map}
 use Rattle.grammar.specs.Pieces.{Text}
+use Rattle.cif_base.specs.declared.types.Ty.{Ty}
 use Rattle.cif_system.specs.System.{State, in_range}
 use Rattle.cif_system.proofs.Lists.{none-some, some-same}
 use Rattle.cif_term.specs.Tree.{NetUpdates}
@@ -40,7 +41,7 @@ all-at P i [] k x all e = absurd (none-some x e)
 all-at P i (z ∷ xs) zero x all e = subst (λ j. P (j, x)) (omega arith) (subst (λ (u : VariableFace). P (i, u)) (some-same z x e) all.0)
 all-at P i (z ∷ xs) (suc k) x all e = subst (λ j. P (j, x)) (omega arith) (all-at P (i + 1) xs k x all.1 e)
 
-module _ (n : Net) (p : Program) (own : List Text) (w : Naming) (y : NewNames) (base low count : ℕ) (us : NetUpdates) (o : OwnStand n p own w y base low count us)
+module _ (n : Net) (p : Program) (own : List Text) (w : Naming) (y : NewNames) (base low count : ℕ) (us : NetUpdates) (carried : Option Ty) (o : OwnStand n p own w y base low count carried us)
     (named_so : (v : ℕ) → w.variable v ≡ variable_name n v) (few : length n.vars < 2 ^ 32) (s : State) (m0 : Memory) (st : StateOf (face_of_net n) (system_of_net n) p m0 s)
     (f : ℕ → ℤ) (ranged : (v : ℕ) (d : NetStored) → slice_get n.vars v ≡ Some d → in_range (type_range d.type_of) (f v) ≡ true) where
   abbrev pub place_v : ℕ → ℕ

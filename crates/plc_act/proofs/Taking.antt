@@ -36,7 +36,7 @@ use Rattle.plc_expr.specs.Texts.{Naming}
 use Rattle.plc_expr.specs.Held.{held_at}
 use Rattle.plc_act.specs.Writes.{NewNames, is_tested, any_tested}
 use Rattle.plc_act.specs.Acts.{copy}
-use Rattle.plc_act.specs.Asked.{setting_of, IsFit, CanTake, Promises}
+use Rattle.plc_act.specs.Asked.{setting_of, IsFit, CanTake, Promises, Receives}
 use Rattle.plc_act.specs.Declared.{OwnStand}
 use Rattle.plc_act.specs.Own.{variable_name}
 use Rattle.plc_act.proofs.Memories.{Assigned, Tested, IsLater, later-state, IsReady, grounds}
@@ -104,7 +104,7 @@ has-none u vs v e h = ap (λ b. b || has vs v) e ∙ h
 pub self : (v : ℕ) → nat_eq v v ≡ true
 self v = eq-eqb v v refl
 
-module _ (n : Net) (p : Program) (own : List Text) (w : Naming) (y : NewNames) (base low count : ℕ) (us : NetUpdates) (o : OwnStand n p own w y base low count us)
+module _ (n : Net) (p : Program) (own : List Text) (w : Naming) (y : NewNames) (base low count : ℕ) (us : NetUpdates) (carried : Option Ty) (o : OwnStand n p own w y base low count carried us)
     (named_so : (v : ℕ) → w.variable v ≡ variable_name n v) (stored_stand : list_all stored_stands n.vars ≡ true) where
   -- ---- copies
 
@@ -121,9 +121,9 @@ module _ (n : Net) (p : Program) (own : List Text) (w : Naming) (y : NewNames) (
       pub stayed : (v : ℕ) → has (targets us) v ≡ true → has vs v ≡ false → held_at p.vars after (y.next v) ≡ held_at p.vars m (y.next v)
       pub mark : any_tested n us ≡ true → held_at p.vars after y.in_range ≡ held_at p.vars m y.in_range
 
-    module _ (r : ℤ) (promised : Promises p.vars w (setting_of n s r) base low count) where
-      abbrev g : Grounds n s r p.vars w y base low count (IsLater n p own w y base low count us m0) (IsReady n p own w y base low count us o s r m0 st stored_stand promised) (Assigned n p own w y base low count us) (Tested n p own w y base low count us)
-      g = grounds n p own w y base low count us o s r m0 st stored_stand promised
+    module _ (r : ℤ) (got : Receives p.vars w carried r m0) (promised : Promises p.vars w (setting_of n s r) base low count) where
+      abbrev g : Grounds n s r p.vars w y base low count (IsLater n p own w y base low count us m0) (IsReady n p own w y base low count us carried o s carried r m0 st got (λ t e. e) stored_stand promised) (Assigned n p own w y base low count us) (Tested n p own w y base low count us)
+      g = grounds n p own w y base low count us carried o s carried r m0 st got (λ t e. e) stored_stand promised
 
       takes-old : (v : ℕ) → has (targets us) v ≡ true → CanTake (slice_get n.vars v) (old n p s v)
       takes-old v i =
@@ -135,7 +135,7 @@ module _ (n : Net) (p : Program) (own : List Text) (w : Naming) (y : NewNames) (
       reads-old : (m : Memory) (v : ℕ) → has (targets us) v ≡ true → IsAfter m → value_of p.vars (named (w.variable v)) m ≡ Ok (old n p s v)
       reads-old m v i h =
           let new = o.next v i in
-          let x = variable-at n p s m v new.stored new.at (later-state n p own w y base low count us o m0 m s h st) in
+          let x = variable-at n p s m v new.stored new.at (later-state n p own w y base low count us carried o m0 m s h st) in
           ap (λ z. value_of p.vars (named z) m) (named_so v) ∙ ap Ok (get_or-of m (place_of p.vars (variable_name n v)) (old n p s v) (pos 0) x.holds)
 
       -- the first of the list, or one of the others

@@ -1,17 +1,20 @@
 -- What the statements of an event do whose choices have data: they make the event's first step, if it has one.
-use Rattle.std.proofs.Common.{◌≡◌, ℕ, suc, ◌+◌, ◌^◌, ◌<◌, pos, Bool, true, false, not, ◌&&◌, List, [], ◌∷◌, map, find, length, Option, Some, None, get_or, cond, refl, sym, ap, subst, ◌∙◌, arith, eqb-true, if◌then◌else◌}
-use Rattle.std.specs.Prelude.{IsTrue, nat_eq, nat_lt, option_map, slice_set}
+use Rattle.std.proofs.Common.{◌≡◌, ◌≢◌, ℕ, suc, ◌+◌, ◌^◌, ◌<◌, ℤ, pos, Bool, true, false, not, ◌&&◌, List, [], ◌∷◌, map, find, length, Option, Some, None, get_or, cond, refl, sym, ap, subst, ◌∙◌, arith, eqb-true, if◌then◌else◌}
+use Rattle.std.specs.Prelude.{IsTrue, is_none, nat_eq, nat_lt, option_map, slice_set}
 use Rattle.std.specs.List.{AllByRecursion, list_all}
 use Rattle.std.proofs.lemmas.Bool.Decides.{nat_tests}
 use Rattle.std.proofs.lemmas.List.{get_or-set_same, get_or-set_other}
 use Rattle.grammar.specs.Pieces.{Text}
+use Rattle.cif_base.specs.declared.types.Ty.{Ty}
 use Rattle.cif_system.specs.System.{State, IsState, in_range}
 use Rattle.cif_system.specs.Step.{after, makes_step}
 use Rattle.cif_system.specs.Choices.{first_step}
+use Rattle.cif_term.specs.Tree.{NetExpr}
 use Rattle.cif_model.specs.Net.{Net}
 use Rattle.cif_model.specs.Facts.{stored_stands}
 use Rattle.cif_model.specs.Listing.{NetChoice, full_choices, listed}
-use Rattle.cif_model.specs.Meaning.{system_of_net, true_in}
+use Rattle.cif_model.specs.Meaning.{system_of_net, true_in, value_in}
+use Rattle.cif_model.specs.Table.{carried_type}
 use Rattle.cif_model.proofs.Passing.{and-left, and-right}
 use Rattle.st_ast.specs.Tree.{Program, assign, choice, no_other, no_stms, stms, truth}
 use Rattle.st_ast.specs.Names.{same_name, place_of}
@@ -28,26 +31,27 @@ use Rattle.plc_face.specs.declared.letter.Letter.{Letter}
 use Rattle.plc_face.specs.declared.letter.Letter.TheVariants as letter
 use Rattle.plc_face.specs.Names.{name_for}
 use Rattle.plc_gen.specs.Faces.{face_of_net}
-use Rattle.plc_gen.specs.Events.{all_bare, alone, chain, chain_branches, choices_of, event_text, marks, marks_with, moves_text, needs_mark, parts_text}
+use Rattle.plc_gen.specs.Events.{all_bare, alone, chain, chain_branches, choices_of, event_text, marks, marks_with, needs_mark, parts_text}
 use Rattle.plc_gen.proofs.Choosing.{choice_in, choices-are}
 use Rattle.plc_gen.proofs.Making.{Closed, Does, Ready, marks-close, marks-last}
 use Rattle.plc_gen.proofs.Marked.{Offer, Offers, all_parts, done_in, event_does, first_of, or_else}
 use Rattle.plc_gen.proofs.Writing.{Among, writes-none, writes-one, writes-then}
 use Rattle.plc_expr.specs.Texts.{Naming, temps}
 use Rattle.plc_act.specs.Writes.{NewNames, any_tested}
-use Rattle.plc_act.specs.Acts.{act}
+use Rattle.plc_act.specs.Sends.{carries, received_in, sends_fit, sent_temps}
 use Rattle.plc_act.specs.Asked.{setting_of, IsSafeSet, IsSafeCondition, Promises}
-use Rattle.plc_act.specs.Own.{variable_name, choice_temps}
+use Rattle.plc_act.specs.Own.{variable_name, choice_temps, sent_type}
 use Rattle.plc_act.specs.Events.{all_written, data_written, is_bare}
 use Rattle.plc_act.specs.Ready.{AllFrom, ChoiceStands, DoneStands, IsReadySet, IsReadyTest}
 use Rattle.plc_act.proofs.Memories.{IsOther, among-temp, fired-other, fired-temp, other-at}
 use Rattle.plc_act.proofs.Pairs.{all_fit}
 use Rattle.plc_act.proofs.Targets.{all-updates, untested-fit}
 use Rattle.plc_act.proofs.Acting.{IsData, makes-is, pairs_of}
-use Rattle.plc_act.proofs.Offering.{act-chosen, bare-told, body-does, made}
+use Rattle.plc_act.proofs.Sending.{made}
+use Rattle.plc_act.proofs.Offering.{bare-told, body-does, test-chosen}
 
 -- the choices of an event are of that event
-of-event : (cs : List NetChoice) (e : ℕ) → AllByRecursion (λ (c : NetChoice). c.event ≡ e) (choices_of cs e)
+pub of-event : (cs : List NetChoice) (e : ℕ) → AllByRecursion (λ (c : NetChoice). c.event ≡ e) (choices_of cs e)
 of-event [] e = tt
 of-event (c ∷ cs) e = go (nat_eq c.event e) refl (of-event cs e)
   where
@@ -56,7 +60,7 @@ of-event (c ∷ cs) e = go (nat_eq c.event e) refl (of-event cs e)
     go false is rest = rest
 
 module _ (n : Net) (p : Program) (own : List Text) (w : Naming) (y : NewNames) (base low count : ℕ) (named_so : (v : ℕ) → w.variable v ≡ variable_name n v)
-    (stored_stand : list_all stored_stands n.vars ≡ true) (few : length n.vars < 2 ^ 32) (ready : Ready n p) (promised : (s : State) → Promises p.vars w (setting_of n s (pos 0)) base low count)
+    (stored_stand : list_all stored_stands n.vars ≡ true) (few : length n.vars < 2 ^ 32) (ready : Ready n p) (promised : (s : State) (r : ℤ) → Promises p.vars w (setting_of n s r) base low count)
     (e : ℕ) where
   -- what is asked of each choice
   abbrev pub Fits : ℕ → NetChoice → Type 0
@@ -91,7 +95,12 @@ module _ (n : Net) (p : Program) (own : List Text) (w : Naming) (y : NewNames) (
   -- ---- one choice
 
   fired-of : (k : ℕ) (c : NetChoice) → ChoiceStands n p own w y base low count k c → IsOther n p own w y base low count c.writes (place_of p.vars fired)
-  fired-of k c h = fired-other n p own w y base low count c.writes h.variables ready.mark
+  fired-of k c h = fired-other n p own w y base low count c.writes (carried_type n c) h.variables ready.mark
+
+  fired-apart : (k : ℕ) (c : NetChoice) → ChoiceStands n p own w y base low count k c → (t : Ty) → carried_type n c ≡ Some t → place_of p.vars fired ≢ place_of p.vars w.received
+  fired-apart k c h t is =
+      let q = declared-of p.vars fired ty.Bool ready.mark in
+      places-differ p.vars fired w.received q.variable q.at (fired-temp p own w.received (sent_type t) (h.variables.sent t is))
 
   close-marks : (turns : ℕ) (b : Memory) → Typed p.vars b → (z : Closed n p ready own marks turns b) × (done_in n p own fired z.after ≡ pos 1)
   close-marks turns b typed = let z = marks-close n p ready own turns b typed in (z, z.mark)
@@ -99,7 +108,7 @@ module _ (n : Net) (p : Program) (own : List Text) (w : Naming) (y : NewNames) (
   alone-does : (k : ℕ) (c : NetChoice) → Fits k c → (turns : ℕ) (m : Memory) (s : State) → Stands (face_of_net n) (system_of_net n) p m s
       → Does n p own (made n c s) (exec p.vars (alone (data_written n w y k c)) turns m) turns m s
   alone-does k c h turns m s st =
-      (body-does n p own w y base low count named_so stored_stand few ready promised k c h.0 h.1 fired (fired-of k c h.1) marks m s st turns (close-marks turns)).does
+      (body-does n p own w y base low count named_so stored_stand few ready promised k c h.0 h.1 fired (fired-of k c h.1) (fired-apart k c h.1) marks turns m s st (close-marks turns)).does
 
   -- ---- choices that are told by their tests alone
 
@@ -107,15 +116,25 @@ module _ (n : Net) (p : Program) (own : List Text) (w : Naming) (y : NewNames) (
   none-tested true h = absurd cc
   none-tested false h = refl
 
+  unsent-fits : (c : NetChoice) (s : State) → is_none c.sent ≡ true → sends_fit n s c ≡ true
+  unsent-fits c s none = go c.sent (carried_type n c) none
+    where
+      go : (e : Option NetExpr) (t : Option Ty) → is_none e ≡ true → carries t (option_map (value_in n s (pos 0)) e) ≡ true
+      go None None h = refl
+      go None (Some t) h = refl
+      go (Some e) t h = absurd cc
+
   bare-makes : (k : ℕ) (c : NetChoice) (s : State) → Fits k c → is_bare n c ≡ true → IsState (system_of_net n) s → true_in n s c.test ≡ true → makes_step (system_of_net n) s c.event (choice_in n c) ≡ true
   bare-makes k c s h bare is_state test =
-      makes-is n c s h.0 ready.none ∙ ap (λ b. b && all_fit n (pairs_of n c s)) test
-      ∙ untested-fit n s (pos 0) c.writes (k + temps c.test) (none-tested (any_tested n c.writes) (and-right _ _ (and-left _ _ (and-left _ _ bare))))
-      (all-updates (IsReadySet n p w base s) (λ i v x. IsSafeSet n (setting_of n s (pos 0)) v x) (IsReadyTest n p w base s) (λ i x. IsSafeCondition (setting_of n s (pos 0)) x)
-      (λ v. Unit {0}) (λ i v x in_it r. (r.0.0, r.1)) (λ i x r. (r.0.0, r.1)) c.writes (k + temps c.test) (λ v q. tt) (h.1.ready.updates s is_state test))
+      let sent = unsent-fits c s (and-left _ _ (and-left _ _ (and-left _ _ bare))) in
+      makes-is n c s h.0 ready.none ∙ ap (λ b. b && (sends_fit n s c && all_fit n (pairs_of n c s))) test ∙ ap (λ b. b && all_fit n (pairs_of n c s)) sent
+      ∙ untested-fit n s (received_in n s c) c.writes (k + temps c.test + sent_temps c.sent) (none-tested (any_tested n c.writes) (and-right _ _ (and-left _ _ (and-left _ _ bare))))
+      (all-updates (IsReadySet n p w base s (carried_type n c) (received_in n s c)) (λ i v x. IsSafeSet n (setting_of n s (received_in n s c)) v x)
+      (IsReadyTest n p w base s (carried_type n c) (received_in n s c)) (λ i x. IsSafeCondition (setting_of n s (received_in n s c)) x)
+      (λ v. Unit {0}) (λ i v x in_it r. (r.0.0, r.1)) (λ i x r. (r.0.0, r.1)) c.writes (k + temps c.test + sent_temps c.sent) (λ v q. tt) (h.1.ready.updates s is_state test sent))
 
   fails-makes : (c : NetChoice) (s : State) → IsData n c → true_in n s c.test ≡ false → makes_step (system_of_net n) s c.event (choice_in n c) ≡ false
-  fails-makes c s h test = makes-is n c s h ready.none ∙ ap (λ b. b && all_fit n (pairs_of n c s)) test
+  fails-makes c s h test = makes-is n c s h ready.none ∙ ap (λ b. b && (sends_fit n s c && all_fit n (pairs_of n c s))) test
 
   first-taken : (c : NetChoice) (s : State) (r : Option State) (out : Outcome) (turns : ℕ) (m : Memory) → makes_step (system_of_net n) s c.event (choice_in n c) ≡ true
       → Does n p own (made n c s) out turns m s → Does n p own (or_else (made n c s) r) out turns m s
@@ -139,17 +158,17 @@ module _ (n : Net) (p : Program) (own : List Text) (w : Naming) (y : NewNames) (
   chain-does k (c ∷ cs) all bare turns m s st =
       let is : is_bare n c ≡ true = and-left _ _ bare in
       subst (λ r. Does n p own (or_else (made n c s) (first_of (offers_from (k + choice_temps c) cs) s))
-      (with_value r Faulted (λ z. if is_true z then exec p.vars (act n w y (k + temps c.test) c.writes (moves_text n c.moves marks)) turns m else chain_of (k + choice_temps c) cs turns m)) turns m s)
-      (sym (bare-told n p own w y base low count named_so stored_stand few ready promised k c all.0.0 all.0.1 fired (fired-of k c all.0.1) marks m s st (eqb-true (temps c.test) 0 (and-right _ _ is)) turns))
+      (with_value r Faulted (λ z. if is_true z then exec p.vars ((data_written n w y k c).act marks) turns m else chain_of (k + choice_temps c) cs turns m)) turns m s)
+      (sym (bare-told n p own w y base low count named_so stored_stand few ready promised k c all.0.0 all.0.1 fired (fired-of k c all.0.1) (fired-apart k c all.0.1) marks turns m s st (eqb-true (temps c.test) 0 (and-right _ _ is))))
       (pick (true_in n s c.test) refl is (chain-does (k + choice_temps c) cs all.1 (and-right _ _ bare) turns m s st))
     where
       pick : (b : Bool) → true_in n s c.test ≡ b → is_bare n c ≡ true → Does n p own (first_of (offers_from (k + choice_temps c) cs) s) (chain_of (k + choice_temps c) cs turns m) turns m s
           → Does n p own (or_else (made n c s) (first_of (offers_from (k + choice_temps c) cs) s))
-          (if is_true (of_bool b) then exec p.vars (act n w y (k + temps c.test) c.writes (moves_text n c.moves marks)) turns m else chain_of (k + choice_temps c) cs turns m) turns m s
+          (if is_true (of_bool b) then exec p.vars ((data_written n w y k c).act marks) turns m else chain_of (k + choice_temps c) cs turns m) turns m s
       pick true test is rest =
-          first-taken c s (first_of (offers_from (k + choice_temps c) cs) s) (exec p.vars (act n w y (k + temps c.test) c.writes (moves_text n c.moves marks)) turns m) turns m
+          first-taken c s (first_of (offers_from (k + choice_temps c) cs) s) (exec p.vars ((data_written n w y k c).act marks) turns m) turns m
           (bare-makes k c s all.0 is st.state.is_state test)
-          (act-chosen n p own w y base low count named_so stored_stand few ready promised k c all.0.0 all.0.1 fired (fired-of k c all.0.1) marks turns m s st (close-marks turns) test).does
+          (test-chosen n p own w y base low count named_so stored_stand few ready promised k c all.0.0 all.0.1 fired (fired-of k c all.0.1) (fired-apart k c all.0.1) marks turns m s st (close-marks turns) test).does
       pick false test is rest = first-skipped c s (first_of (offers_from (k + choice_temps c) cs) s) (chain_of (k + choice_temps c) cs turns m) turns m (fails-makes c s all.0.0 test) rest
 
   chain-runs : (k : ℕ) (c : NetChoice) (cs : List NetChoice) → AllFrom Fits k (c ∷ cs) → all_bare (all_written n w y k (c ∷ cs)) ≡ true → (turns : ℕ) (m : Memory) (s : State) → Stands (face_of_net n) (system_of_net n) p m s
@@ -203,12 +222,15 @@ module _ (n : Net) (p : Program) (own : List Text) (w : Naming) (y : NewNames) (
     done-of : (k : ℕ) (c : NetChoice) → ChoiceStands n p own w y base low count k c → IsOther n p own w y base low count c.writes (place_of p.vars done)
     done-of k c h =
         let q = declared-of p.vars done ty.Bool d.variable.is_declared in
-        other-at n p own w y base low count c.writes h.variables done q.variable q.at (λ t. d.no_mark) (λ u i. d.no_next u) d.no_own
+        other-at n p own w y base low count c.writes (carried_type n c) h.variables done q.variable q.at (λ t. d.no_mark) (λ u i. d.no_next u) d.no_own
+
+    done-apart-sent : (t : Ty) (c : NetChoice) → carried_type n c ≡ Some t → place_of p.vars done ≢ place_of p.vars w.received
+    done-apart-sent t c is = let q = declared-of p.vars done ty.Bool d.variable.is_declared in places-differ p.vars done w.received q.variable q.at d.no_sent
 
     offers-stand : (k : ℕ) (cs : List NetChoice) → AllFrom Fits k cs → AllByRecursion (Offers n p own done) (offers_from k cs)
     offers-stand k [] all = tt
     offers-stand k (c ∷ cs) all = (
-      λ turns m s st none. body-does n p own w y base low count named_so stored_stand few ready promised k c all.0.0 all.0.1 done (done-of k c all.0.1) (marks_with done) m s st turns (close-both turns),
+      λ turns m s st none. body-does n p own w y base low count named_so stored_stand few ready promised k c all.0.0 all.0.1 done (done-of k c all.0.1) (λ t is. done-apart-sent t c is) (marks_with done) turns m s st (close-both turns),
       offers-stand (k + choice_temps c) cs all.1,
     )
 

@@ -1,12 +1,15 @@
 -- The statements of an event try it, from what a net and its table of choices keep.
-use Rattle.std.proofs.Common.{◌≡◌, ℕ, ◌+◌, ◌<◌, pos, true, ◌&&◌, List, [], ◌∷◌, length, None, arith}
-use Rattle.std.specs.Prelude.{nat_eq}
-use Rattle.std.specs.List.{AllByRecursion}
+use Rattle.std.proofs.Common.{◌≡◌, ℕ, zero, suc, ◌+◌, ◌<◌, ℤ, true, ◌&&◌, List, [], ◌∷◌, length, Some, None, subst, arith}
+use Rattle.std.specs.Prelude.{nat_eq, slice_get}
+use Rattle.std.specs.List.{AllByRecursion, list_all}
 use Rattle.grammar.specs.Pieces.{Text}
+use Rattle.cif_base.specs.declared.types.Ty.{Ty}
 use Rattle.cif_system.specs.System.{State}
-use Rattle.cif_system.proofs.Lists.{map-length}
-use Rattle.cif_model.specs.Net.{Net}
-use Rattle.cif_model.specs.Facts.{is_net}
+use Rattle.cif_system.proofs.Lists.{map-length, none-some, some-same}
+use Rattle.cif_model.specs.Net.{NetChan, no_net_chan, void_net_chan, net_chan_of, NetEvent, Net}
+use Rattle.cif_model.specs.Facts.{event_stands, is_net, is_type}
+use Rattle.cif_model.specs.Shown.{channel_type}
+use Rattle.cif_model.proofs.Passing.{and-left, and-right}
 use Rattle.cif_model.specs.Listing.{NetChoice}
 use Rattle.cif_model.specs.Meaning.{event_in, system_of_net, true_in}
 use Rattle.cif_model.specs.Table.{IsGuarded, MovesParties, SendsAndAssigns, agrees_in, permitted_in}
@@ -37,21 +40,35 @@ record IsListed (n : Net) (c : NetChoice) : Type 0 where
 all-listed : (n : Net) (cs : List NetChoice) → IsGuarded n cs → AllByRecursion (IsListed n) cs
 all-listed n cs g = all-of (IsListed n) cs (λ k c at. record { parties = g.parties k c at; tests = λ s. g.tests k c s at; values = λ s. g.values k c s at })
 
-module _ (n : Net) (P : ℕ → NetChoice → Type 0) where
-  together : (k : ℕ) (cs : List NetChoice) → AllByRecursion (IsListed n) cs → AllByRecursion (λ (c : NetChoice). c.sent ≡ None) cs → AllFrom P k cs → AllFrom (λ i c. IsData n c × P i c) k cs
-  together k [] all none stand = tt
-  together k (c ∷ cs) all none stand = (
-    (record { parties = all.0.parties; tests = all.0.tests; values = all.0.values; sends_none = none.0 }, stand.0),
-    together (k + choice_temps c) cs all.1 none.1 stand.1,
+pub events-stand : (n : Net) → is_net n ≡ true → list_all event_stands n.events ≡ true
+events-stand n net = and-right _ _ (and-left _ _ (and-left _ _ (and-left _ _ (and-left _ _ (and-left _ _ (and-left _ _ (and-left _ _ net)))))))
+
+-- the type of a channel is a type
+pub carried-stands : (events : List NetEvent) (e : ℕ) (t : Ty) → list_all event_stands events ≡ true → channel_type (elim (slice_get events e) [ None ↦ no_net_chan | Some x ↦ x.chan ]) ≡ Some t → is_type t ≡ true
+carried-stands [] e t h is = absurd (none-some t is)
+carried-stands (x ∷ events) (suc e) t h is = carried-stands events e t (and-right _ _ h) is
+carried-stands (x ∷ events) zero t h is = go x.chan (and-left _ _ h) is
+  where
+    go : (k : NetChan) → (elim k [ net_chan_of u ↦ is_type u | _ ↦ true ]) ≡ true → channel_type k ≡ Some t → is_type t ≡ true
+    go no_net_chan h is = absurd (none-some t is)
+    go void_net_chan h is = absurd (none-some t is)
+    go (net_chan_of u) h is = subst (λ v. is_type v ≡ true) (some-same u t is) h
+
+module _ (n : Net) (net : is_net n ≡ true) (P : ℕ → NetChoice → Type 0) where
+  together : (k : ℕ) (cs : List NetChoice) → AllByRecursion (IsListed n) cs → AllFrom P k cs → AllFrom (λ i c. IsData n c × P i c) k cs
+  together k [] all stand = tt
+  together k (c ∷ cs) all stand = (
+    (record { parties = all.0.parties; tests = all.0.tests; values = all.0.values; carried = λ t is. carried-stands n.events c.event t (events-stand n net) is }, stand.0),
+    together (k + choice_temps c) cs all.1 stand.1,
   )
 
 module _ (n : Net) (cs : List NetChoice) (p : Program) (own : List Text) (w : Naming) (y : NewNames) (base low count k e : ℕ) (done : Text) where
-  pub events-tried : is_net n ≡ true → IsGuarded n cs → n.invariants ≡ [] → e < length n.events → AllByRecursion (λ (c : NetChoice). c.sent ≡ None) (choices_of cs e)
-      → IsDeclared p.vars fired ty.Bool → ((v : ℕ) → w.variable v ≡ variable_name n v) → ((s : State) → Promises p.vars w (setting_of n s (pos 0)) base low count)
+  pub events-tried : is_net n ≡ true → IsGuarded n cs → n.invariants ≡ [] → e < length n.events
+      → IsDeclared p.vars fired ty.Bool → ((v : ℕ) → w.variable v ≡ variable_name n v) → ((s : State) (r : ℤ) → Promises p.vars w (setting_of n s r) base low count)
       → AllFrom (ChoiceStands n p own w y base low count) k (choices_of cs e) → (needs_mark (all_written n w y k (choices_of cs e)) ≡ true → DoneStands p own w y low count done)
       → TriesEvent (face_of_net n) (system_of_net n) p (record { own = own; body = event_text done (all_written n w y k (choices_of cs e)) }) e
-  events-tried is guarded none below sends mark named_so promised stand marked =
+  events-tried is guarded none below mark named_so promised stand marked =
       let net = standing n is in
       let ready : Ready n p = record { mark = mark; few = net.few; within = ends-within n net; inside = ends-inside n net; none = none } in
       event-tried n p own w y base low count named_so net.vars net.few_vars ready promised e cs done k guarded.each (let long = map-length event_in n.events in omega (arith, below, long))
-      (together n (ChoiceStands n p own w y base low count) k (choices_of cs e) (all-filter (IsListed n) (λ (c : NetChoice). nat_eq c.event e) cs (all-listed n cs guarded)) sends stand) marked
+      (together n is (ChoiceStands n p own w y base low count) k (choices_of cs e) (all-filter (IsListed n) (λ (c : NetChoice). nat_eq c.event e) cs (all-listed n cs guarded)) stand) marked

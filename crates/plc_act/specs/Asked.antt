@@ -1,5 +1,6 @@
 -- What is asked of the updates of a choice in a state, so that their statements do what they are to do.
 use Rattle.std.specs.Prelude.{◌≡◌, ℕ, ◌+◌, ◌≤◌, ◌<◌, IsTrue, List, Ok, ℤ, pos, Bool, true, false, Option, Some, None, length, slice_get}
+use Rattle.cif_base.specs.declared.types.Ty.{Ty}
 use Rattle.cif_system.specs.System.{State, Range, in_range}
 use Rattle.cif_term.specs.Tree.{NetExpr, NetUpdate, net_set, net_choose, NetUpdates, no_net_updates, net_updates, NetUpdateBranches, no_net_update_branches, net_update_branches}
 use Rattle.cif_model.specs.Net.{NetStored, Net}
@@ -11,8 +12,9 @@ use Rattle.st_ast.specs.Values.{Memory, value_of}
 use Rattle.st_ast.specs.declared.tree.StVar.{StVar}
 use Rattle.plc_face.specs.Face.{range_of}
 use Rattle.plc_expr.specs.Texts.{Naming, temps, text}
-use Rattle.plc_expr.specs.Held.{Reads, Held, Prepares}
+use Rattle.plc_expr.specs.Held.{held_at, Reads, Held, Prepares}
 use Rattle.plc_act.specs.Writes.{is_tested, conditions_temps, updates_temps, bodies_temps}
+use Rattle.plc_act.specs.Own.{sent_type}
 
 -- the setting of a net in a state, where r is received
 abbrev pub setting_of : Net → State → ℤ → Setting
@@ -51,6 +53,15 @@ IsSafeSet n x v e = IsSafe x e × CanTake (slice_get n.vars v) (value_at x e)
 -- what is asked of a condition
 abbrev pub IsSafeCondition : Setting → NetExpr → Type 0
 IsSafeCondition x c = IsSafe x c × IsTruth (value_at x c)
+
+-- It is a number of the variable that it is sent through, and where it isn't tested it is in the range of the channel.
+abbrev pub CanSend : Ty → ℤ → Type 0
+CanSend t z = IsFit (is_tested t) (type_range t) z × IsTrue (in_range (range_of (sent_type t)) z)
+
+-- the memory holds what is received, where something is
+abbrev pub Receives : List StVar → Naming → Option Ty → ℤ → Memory → Type 0
+Receives vars w None r m = Unit {0}
+Receives vars w (Some t) r m = held_at vars m w.received ≡ r
 
 -- ---- what is promised of expressions
 

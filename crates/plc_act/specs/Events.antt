@@ -2,10 +2,12 @@
 use Rattle.std.specs.Prelude.{ℕ, ◌+◌, Bool, not, ◌&&◌, nat_eq, length, is_none, List, [], ◌∷◌}
 use Rattle.cif_model.specs.Net.{Net}
 use Rattle.cif_model.specs.Listing.{NetChoice}
+use Rattle.cif_model.specs.Table.{carried_type}
 use Rattle.plc_gen.specs.Events.{Written, moves_text}
 use Rattle.plc_expr.specs.Texts.{Naming, temps, text, before}
 use Rattle.plc_act.specs.Writes.{NewNames, any_tested}
 use Rattle.plc_act.specs.Acts.{act}
+use Rattle.plc_act.specs.Sends.{sends, sent_temps}
 use Rattle.plc_act.specs.Own.{choice_temps}
 
 -- its test alone says whether there is a step, and nothing stands before the test
@@ -17,7 +19,7 @@ abbrev pub data_written : Net → Naming → NewNames → ℕ → NetChoice → 
 data_written n w y k c = record {
   before = before w k c.test;
   test = text w k c.test;
-  act = λ marks. act n w y (k + temps c.test) c.writes (moves_text n c.moves marks);
+  act = λ marks. sends w (k + temps c.test) c.sent (carried_type n c) (act n w y (k + temps c.test + sent_temps c.sent) c.writes (moves_text n c.moves marks));
   is_bare = is_bare n c;
 }
 

@@ -1,5 +1,6 @@
 pub mod Writes
 pub mod Acts
+pub mod Sends
 pub mod Asked
 pub mod Own
 pub mod Declared

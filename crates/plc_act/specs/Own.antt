@@ -1,12 +1,13 @@
 -- The own variables of the statements of an event: the mark that its new values are in range, the new value of each variable
--- that one of its choices assigns, and the values of the `if`s in its expressions. Their names say what they hold.
+-- that one of its choices assigns, what is sent, and the values of the `if`s in its expressions. Their names say what they hold.
 use Rattle.std.specs.Prelude.{ℕ, suc, ◌+◌, pos, Bool, List, [], ◌∷◌, ◌++◌, map, flat_map, length, nat_eq, Option, Some, None, slice_get, codes, if◌then◌else◌}
 use Rattle.std.specs.List.{list_any}
 use Rattle.cif_base.specs.declared.types.Ty.{Ty}
-use Rattle.cif_term.specs.Tree.{NetUpdate, net_set, net_choose, NetUpdates, no_net_updates, net_updates, NetUpdateBranches, no_net_update_branches, net_update_branches}
+use Rattle.cif_term.specs.Tree.{NetExpr, NetUpdate, net_set, net_choose, NetUpdates, no_net_updates, net_updates, NetUpdateBranches, no_net_update_branches, net_update_branches}
 use Rattle.cif_model.specs.Net.{NetStored, Net}
 use Rattle.cif_model.specs.Exprs.{targets}
 use Rattle.cif_model.specs.Listing.{NetChoice}
+use Rattle.cif_model.specs.Table.{carried_type}
 use Rattle.grammar.specs.Pieces.{Text}
 use Rattle.st_ast.specs.declared.tree.StTy.{StTy}
 use Rattle.st_ast.specs.declared.tree.StTy.TheVariants as ty
@@ -16,9 +17,10 @@ use Rattle.plc_face.specs.Face.{VariableFace}
 use Rattle.plc_gen.specs.Faces.{st_type}
 use Rattle.plc_gen.specs.Places.{is_in_place}
 use Rattle.plc_expr.specs.Texts.{Naming, temps}
-use Rattle.plc_expr.specs.Sorts.{own_types}
+use Rattle.plc_expr.specs.Sorts.{is_bool_type, own_types, type_by}
 use Rattle.plc_act.specs.Writes.{NewNames, is_tested, any_tested, updates_temps}
 use Rattle.plc_act.specs.Acts.{once}
+use Rattle.plc_act.specs.Sends.{event_type, sent_temps}
 
 -- ---- the variables of the net
 
@@ -48,13 +50,24 @@ new_face_of (Some v) = record { path = codes "new_" ++ v.path; ty = new_type v.t
 abbrev pub new_face : Net → ℕ → VariableFace
 new_face n v = new_face_of (slice_get n.vars v)
 
+-- a sent value is BOOL, or any integer before it is tested
+abbrev pub sent_type : Ty → StTy
+sent_type t = type_by (is_bool_type t)
+
+abbrev pub sent_face : Ty → VariableFace
+sent_face t = record { path = codes "sent"; ty = sent_type t; first = pos 0 }
+
 abbrev pub if_face : StTy → VariableFace
 if_face t = record { path = codes "if"; ty = t; first = pos 0 }
 
 -- ---- the own variables of a choice's expressions, in the order of the statements
 
 abbrev pub choice_temps : NetChoice → ℕ
-choice_temps c = temps c.test + updates_temps c.writes
+choice_temps c = temps c.test + (sent_temps c.sent + updates_temps c.writes)
+
+abbrev pub sent_types : Net → Option NetExpr → List StTy
+sent_types n None = []
+sent_types n (Some e) = own_types n None e
 
 abbrev pub conditions_types : Net → Option Ty → NetUpdateBranches → List StTy
 conditions_types n r no_net_update_branches = []
@@ -74,8 +87,8 @@ abbrev mutual
   bodies_types n r no_net_update_branches = []
   bodies_types n r (net_update_branches c us bs) = updates_types n r us ++ bodies_types n r bs
 
-abbrev pub choice_types : Net → Option Ty → NetChoice → List StTy
-choice_types n r c = own_types n None c.test ++ updates_types n r c.writes
+abbrev pub choice_types : Net → NetChoice → List StTy
+choice_types n c = own_types n None c.test ++ (sent_types n c.sent ++ updates_types n (carried_type n c) c.writes)
 
 -- ---- the own variables of an event
 
@@ -89,9 +102,17 @@ tests_range n cs = list_any (λ (c : NetChoice). any_tested n c.writes) cs
 abbrev pub range_faces : Net → List NetChoice → List VariableFace
 range_faces n cs = if tests_range n cs then range_face ∷ [] else []
 
+-- one for what is sent, where the event carries values
+abbrev pub faces_sent : Option Ty → List VariableFace
+faces_sent None = []
+faces_sent (Some t) = sent_face t ∷ []
+
+abbrev pub sent_faces : Net → List NetChoice → List VariableFace
+sent_faces n cs = faces_sent (event_type n cs)
+
 -- beside the mark that a choice was made
-abbrev pub data_faces : Net → Option Ty → List NetChoice → List VariableFace
-data_faces n r cs = range_faces n cs ++ (map (new_face n) (event_vars cs) ++ map if_face (flat_map (choice_types n r) cs))
+abbrev pub data_faces : Net → List NetChoice → List VariableFace
+data_faces n cs = range_faces n cs ++ (map (new_face n) (event_vars cs) ++ (sent_faces n cs ++ map if_face (flat_map (choice_types n) cs)))
 
 -- ---- names, where the first of these variables has the number j
 
@@ -106,9 +127,16 @@ new_names n cs j = record {
   next = λ v. name_for letter.T (j + length (range_faces n cs) + place_in (event_vars cs) v) (new_face n v).path;
 }
 
+-- the number of what is sent
+abbrev pub sent_number : Net → List NetChoice → ℕ → ℕ
+sent_number n cs j = j + length (range_faces n cs) + length (event_vars cs)
+
+abbrev pub sent_name : Net → List NetChoice → ℕ → Text
+sent_name n cs j = name_for letter.T (sent_number n cs j) (codes "sent")
+
 -- the number of the first `if`
 abbrev pub first_if : Net → List NetChoice → ℕ → ℕ
-first_if n cs j = j + length (range_faces n cs) + length (event_vars cs)
+first_if n cs j = sent_number n cs j + length (sent_faces n cs)
 
 -- names before a step; the received value has a name of its own, and an own variable of an expression that of its number
 abbrev pub data_naming : Net → Text → Naming

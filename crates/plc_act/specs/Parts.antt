@@ -3,7 +3,6 @@ use Rattle.std.specs.Prelude.{◌≡◌, ℕ, ◌+◌, ◌≤◌, ◌<◌, ◌^�
 use Rattle.std.specs.List.{list_all, enumerate_from}
 use Rattle.cif_model.specs.Net.{Net}
 use Rattle.cif_model.specs.Listing.{NetChoice}
-use Rattle.grammar.specs.Pieces.{Text}
 use Rattle.st_ast.specs.Tree.{Program}
 use Rattle.st_ast.specs.Names.{place_of}
 use Rattle.plc_face.specs.declared.letter.Letter.TheVariants as letter
@@ -11,7 +10,8 @@ use Rattle.plc_face.specs.Names.{name_for}
 use Rattle.plc_face.specs.Face.{VariableFace, IsDeclared}
 use Rattle.plc_face.specs.Frame.{Part}
 use Rattle.plc_gen.specs.Events.{done_face, event_text, own_name}
-use Rattle.plc_act.specs.Own.{choice_temps, data_faces, data_naming, first_if, new_names}
+use Rattle.plc_expr.specs.Texts.{Naming}
+use Rattle.plc_act.specs.Own.{choice_temps, data_faces, data_naming, first_if, new_names, sent_name}
 use Rattle.plc_act.specs.Events.{all_written, is_bare}
 
 -- several choices of which one is not bare need a mark of the event's own
@@ -21,9 +21,9 @@ needs_done n cs = if list_all (is_bare n) cs then false else nat_lt 1 (length cs
 abbrev pub done_faces : Net → List NetChoice → List VariableFace
 done_faces n cs = if needs_done n cs then done_face ∷ [] else []
 
--- all own variables of an event whose choices receive nothing
+-- all own variables of an event
 abbrev pub event_faces : Net → List NetChoice → List VariableFace
-event_faces n cs = done_faces n cs ++ data_faces n None cs
+event_faces n cs = done_faces n cs ++ data_faces n cs
 
 -- the number of the first one beside the mark, where the first one has the number j
 abbrev pub data_first : Net → List NetChoice → ℕ → ℕ
@@ -33,10 +33,14 @@ data_first n cs j = j + length (done_faces n cs)
 abbrev pub ifs_from : Net → List NetChoice → ℕ → ℕ
 ifs_from n cs j = first_if n cs (data_first n cs j)
 
-abbrev pub data_part : Net → Text → ℕ → List NetChoice → Part
-data_part n received j cs = record {
+-- how the expressions of the event's choices are written
+abbrev pub event_naming : Net → List NetChoice → ℕ → Naming
+event_naming n cs j = data_naming n (sent_name n cs (data_first n cs j))
+
+abbrev pub data_part : Net → ℕ → List NetChoice → Part
+data_part n j cs = record {
   own = map own_name (enumerate_from j (event_faces n cs));
-  body = event_text (own_name (j, done_face)) (all_written n (data_naming n received) (new_names n cs (data_first n cs j)) (ifs_from n cs j) cs);
+  body = event_text (own_name (j, done_face)) (all_written n (event_naming n cs j) (new_names n cs (data_first n cs j)) (ifs_from n cs j) cs);
 }
 
 -- how many own variables the expressions of the choices have

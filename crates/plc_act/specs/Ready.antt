@@ -1,13 +1,14 @@
 -- What is asked of the choices of an event and of the program round them, so that the statements of the event try it.
-use Rattle.std.specs.Prelude.{◌≡◌, ℕ, ◌+◌, ◌≤◌, ◌<◌, pos, true, false, List, [], ◌∷◌, slice_get, length}
-use Rattle.cif_system.specs.System.{State, IsState}
+use Rattle.std.specs.Prelude.{◌≡◌, ℕ, ◌+◌, ◌≤◌, ◌<◌, ℤ, pos, true, false, List, [], ◌∷◌, Option, Some, None, is_some, option_to_list, slice_get}
+use Rattle.cif_base.specs.declared.types.Ty.{Ty}
+use Rattle.cif_system.specs.System.{State, IsState, in_range}
 use Rattle.cif_term.specs.Tree.{NetExpr}
 use Rattle.std.specs.List.{AllByRecursion}
 use Rattle.cif_model.specs.Net.{Net}
 use Rattle.cif_model.specs.Exprs.{updates_exprs}
-use Rattle.cif_model.specs.Meaning.{system_of_net, true_in}
-use Rattle.cif_model.specs.Reads.{Read, a_var, an_input, an_alg, a_place, the_received}
+use Rattle.cif_model.specs.Meaning.{system_of_net, true_in, type_range}
 use Rattle.cif_model.specs.Listing.{NetChoice}
+use Rattle.cif_model.specs.Table.{carried_type}
 use Rattle.grammar.specs.Pieces.{Text}
 use Rattle.st_ast.specs.Tree.{Program}
 use Rattle.st_ast.specs.Names.{same_name}
@@ -19,46 +20,54 @@ use Rattle.plc_expr.specs.Texts.{Naming, temps}
 use Rattle.plc_expr.specs.Safe.{IsTruth, IsSafe, value_at}
 use Rattle.plc_expr.specs.Held.{Reads}
 use Rattle.plc_act.specs.Writes.{NewNames}
-use Rattle.plc_act.specs.Asked.{setting_of, AllUpdates, CanTake, KeepsTypes}
+use Rattle.plc_act.specs.Sends.{received_in, sends_fit, sent_temps}
+use Rattle.plc_act.specs.Asked.{setting_of, AllUpdates, CanSend, CanTake, KeepsTypes, Receives}
 use Rattle.plc_act.specs.Own.{choice_temps}
 use Rattle.plc_act.specs.Declared.{IsTemp, OwnStand}
 
 -- ---- expressions
 
--- The expression is safe in the state, its names are read from each memory that stands for the state, and its own variables
--- keep their types.
-abbrev pub IsReady : Net → Program → Naming → (base : ℕ) → State → ℕ → NetExpr → Type 0
-IsReady n p w base s k e =
-    IsSafe (setting_of n s (pos 0)) e
-    × ((m : Memory) → StateOf (face_of_net n) (system_of_net n) p m s → Reads p.vars w (setting_of n s (pos 0)) m e)
-    × KeepsTypes p.vars w (setting_of n s (pos 0)) base k e
+-- The expression is safe in the state where r is received, over an event of this type. Its names are read from each memory
+-- that stands for the state and holds what is received, and its own variables keep their types.
+abbrev pub IsReady : Net → Program → Naming → (base : ℕ) → State → Option Ty → ℤ → ℕ → NetExpr → Type 0
+IsReady n p w base s t r k e =
+    IsSafe (setting_of n s r) e
+    × ((m : Memory) → StateOf (face_of_net n) (system_of_net n) p m s → Receives p.vars w t r m → Reads p.vars w (setting_of n s r) m e)
+    × KeepsTypes p.vars w (setting_of n s r) base k e
 
-abbrev pub IsReadyTest : Net → Program → Naming → (base : ℕ) → State → ℕ → NetExpr → Type 0
-IsReadyTest n p w base s k e = IsReady n p w base s k e × IsTruth (value_at (setting_of n s (pos 0)) e)
+abbrev pub IsReadyTest : Net → Program → Naming → (base : ℕ) → State → Option Ty → ℤ → ℕ → NetExpr → Type 0
+IsReadyTest n p w base s t r k e = IsReady n p w base s t r k e × IsTruth (value_at (setting_of n s r) e)
 
-abbrev pub IsReadySet : Net → Program → Naming → (base : ℕ) → State → ℕ → ℕ → NetExpr → Type 0
-IsReadySet n p w base s k v e = IsReady n p w base s k e × CanTake (slice_get n.vars v) (value_at (setting_of n s (pos 0)) e)
+abbrev pub IsReadySet : Net → Program → Naming → (base : ℕ) → State → Option Ty → ℤ → ℕ → ℕ → NetExpr → Type 0
+IsReadySet n p w base s t r k v e = IsReady n p w base s t r k e × CanTake (slice_get n.vars v) (value_at (setting_of n s r) e)
 
--- what is named is one of the net's, and nothing is received
-abbrev pub IsNamed : Net → Read → Type 0
-IsNamed n (a_var k) = k < length n.vars
-IsNamed n (an_input k) = k < length n.inputs
-IsNamed n (an_alg k) = ⊥
-IsNamed n (a_place k) = k < length n.autos
-IsNamed n the_received = ⊥
+-- a value is sent where the event has a type, and then its expression is ready; itself it receives nothing
+abbrev pub IsReadySent : Net → Program → Naming → (base : ℕ) → State → ℕ → Option Ty → Option NetExpr → Type 0
+IsReadySent n p w base s k None None = Unit {0}
+IsReadySent n p w base s k None (Some e) = ⊥
+IsReadySent n p w base s k (Some t) None = ⊥
+IsReadySent n p w base s k (Some t) (Some e) = IsReady n p w base s None (pos 0) k e × CanSend t (value_at (setting_of n s (pos 0)) e)
 
 -- ---- choices
 
--- in each state the test of the choice is ready, and where it holds so are the updates
+-- In each state the test of the choice is ready. Where it holds so is what is sent, and where that is in the range of the
+-- channel so are the updates.
 pub record IsReadyChoice (n : Net) (p : Program) (w : Naming) (base k : ℕ) (c : NetChoice) : Type 0 where
-  pub test : (s : State) → IsState (system_of_net n) s → IsReadyTest n p w base s k c.test
-  pub updates : (s : State) → IsState (system_of_net n) s → true_in n s c.test ≡ true
-      → AllUpdates (IsReadySet n p w base s) (IsReadyTest n p w base s) (k + temps c.test) c.writes
+  pub test : (s : State) → IsState (system_of_net n) s → IsReadyTest n p w base s None (pos 0) k c.test
+  pub sent : (s : State) → IsState (system_of_net n) s → true_in n s c.test ≡ true → IsReadySent n p w base s (k + temps c.test) (carried_type n c) c.sent
+  pub updates : (s : State) → IsState (system_of_net n) s → true_in n s c.test ≡ true → sends_fit n s c ≡ true
+      → AllUpdates (IsReadySet n p w base s (carried_type n c) (received_in n s c)) (IsReadyTest n p w base s (carried_type n c) (received_in n s c)) (k + temps c.test + sent_temps c.sent) c.writes
 
--- In each state the test of the choice is safe, and where it holds so are the expressions of the updates.
+-- In each state the test of the choice is safe. Where it holds, a value is sent just where the event has a type, and its
+-- expression is safe; and where the value is in the range of the channel, so are the expressions of the updates.
+pub record IsSafeIn (n : Net) (c : NetChoice) (s : State) : Type 0 where
+  pub test : IsSafe (setting_of n s (pos 0)) c.test
+  pub sends : true_in n s c.test ≡ true → is_some c.sent ≡ is_some (carried_type n c)
+  pub sent : true_in n s c.test ≡ true → AllByRecursion (IsSafe (setting_of n s (pos 0))) (option_to_list c.sent)
+  pub updates : true_in n s c.test ≡ true → sends_fit n s c ≡ true → AllByRecursion (IsSafe (setting_of n s (received_in n s c))) (updates_exprs c.writes)
+
 abbrev pub IsSafeChoice : Net → NetChoice → Type 0
-IsSafeChoice n c = (s : State) → IsState (system_of_net n) s
-    → IsSafe (setting_of n s (pos 0)) c.test × (true_in n s c.test ≡ true → AllByRecursion (IsSafe (setting_of n s (pos 0))) (updates_exprs c.writes))
+IsSafeChoice n c = (s : State) → IsState (system_of_net n) s → IsSafeIn n c s
 
 -- of each choice with the number of its first own variable
 abbrev pub AllFrom : (P : ℕ → NetChoice → Type 0) → ℕ → List NetChoice → Type 0
@@ -67,7 +76,7 @@ AllFrom P k (c ∷ cs) = P k c × AllFrom P (k + choice_temps c) cs
 
 -- its own variables and its expressions are as they are asked for
 pub record ChoiceStands (n : Net) (p : Program) (own : List Text) (w : Naming) (y : NewNames) (base low count k : ℕ) (c : NetChoice) : Type 0 where
-  pub variables : OwnStand n p own w y base low count c.writes
+  pub variables : OwnStand n p own w y base low count (carried_type n c) c.writes
   pub ready : IsReadyChoice n p w base k c
   pub from : low ≤ k
   pub room : k + choice_temps c ≤ count
@@ -79,4 +88,5 @@ pub record DoneStands (p : Program) (own : List Text) (w : Naming) (y : NewNames
   pub variable : IsTemp p own done ty.Bool
   pub no_mark : same_name done y.in_range ≡ false
   pub no_next : (v : ℕ) → same_name done (y.next v) ≡ false
+  pub no_sent : same_name done w.received ≡ false
   pub no_own : (k : ℕ) → low ≤ k → k < count → same_name done (w.own k) ≡ false

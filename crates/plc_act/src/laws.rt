@@ -1,9 +1,10 @@
 //! What is proved of the statements of choices with data, as laws that a proof reads off: each the contract of a function
 //! without a body.
 
-ghost use Rattle.std.specs.Prelude.{◌≡◌, ◌+◌, ◌-◌, ◌<◌, ◌≤◌, ℕ, pos, true, List, [], length, None};
+ghost use Rattle.std.specs.Prelude.{◌≡◌, ◌+◌, ◌-◌, ◌<◌, ◌≤◌, ℕ, ℤ, true, List, [], length, Option};
 ghost use Rattle.std.specs.List.{AllByRecursion};
 ghost use Rattle.grammar.specs.Pieces.{Text};
+ghost use Rattle.cif_base.specs.declared.types.Ty.{Ty};
 ghost use Rattle.cif_system.specs.System.{State};
 ghost use Rattle.cif_term.specs.Tree.{NetExpr};
 ghost use Rattle.cif_model.specs.Net.{Net};
@@ -12,7 +13,7 @@ ghost use Rattle.cif_model.specs.Kinds.{Kind, fits, is_bool};
 ghost use Rattle.cif_model.specs.Reads.{names_in, names_no_alg};
 ghost use Rattle.cif_model.specs.Listing.{NetChoice};
 ghost use Rattle.cif_model.specs.Meaning.{system_of_net};
-ghost use Rattle.cif_model.specs.Table.{IsGuarded, carried_type};
+ghost use Rattle.cif_model.specs.Table.{IsGuarded};
 ghost use Rattle.st_ast.specs.Tree.{Program};
 ghost use Rattle.st_ast.specs.declared.tree.StTy.TheVariants as ty;
 ghost use Rattle.st_ast.specs.declared.tree.StVar.{StVar};
@@ -21,47 +22,44 @@ ghost use Rattle.plc_face.specs.Frame.{TriesEvent, fired};
 ghost use Rattle.plc_gen.specs.Faces.{face_of_net};
 ghost use Rattle.plc_gen.specs.Small.{are_small};
 ghost use Rattle.plc_gen.specs.Events.{choices_of, event_text, needs_mark};
-ghost use Rattle.plc_expr.specs.Held.{OwnPlaces};
+ghost use Rattle.plc_expr.specs.Held.{IsThere, OwnPlaces};
 ghost use Rattle.plc_expr.specs.Safe.{Setting};
 ghost use Rattle.plc_expr.specs.Sorts.{is_boolean, own_types};
 ghost use Rattle.plc_expr.specs.Texts.{Naming, temps};
 ghost use Rattle.plc_act.specs.Writes.{NewNames};
 ghost use Rattle.plc_act.specs.Asked.{setting_of, Promises};
-ghost use Rattle.plc_act.specs.Own.{data_naming, variable_name};
+ghost use Rattle.plc_act.specs.Own.{variable_name};
 ghost use Rattle.plc_act.specs.Events.{all_written};
-ghost use Rattle.plc_act.specs.Parts.{AreDeclared, all_temps, data_part, event_faces, ifs_from};
-ghost use Rattle.plc_act.specs.Ready.{AllFrom, ChoiceStands, DoneStands, IsNamed, IsSafeChoice};
+ghost use Rattle.plc_act.specs.Parts.{AreDeclared, all_temps, data_part, event_faces, event_naming, ifs_from};
+ghost use Rattle.plc_act.specs.Ready.{AllFrom, ChoiceStands, DoneStands, IsSafeChoice};
 
-/// The statements that are written for an event try it: of its choices, which may assign variables and send nothing, the
-/// first is made that makes a step, with its new values, and where there is none nothing that is seen changes. The net has
-/// no state invariants. What is promised of expressions, and how the own variables stand, are premises.
+/// The statements that are written for an event try it: of its choices, which may assign variables and send a value, the first
+/// is made that makes a step, with its new values, and where there is none nothing that is seen changes. The net has no state
+/// invariants. What is promised of expressions, and how the own variables stand, are premises.
 pub fn events_with_data_are_tried()
     ensures { (n : Net) (cs : List NetChoice) (p : Program) (own : List Text) (w : Naming) (y : NewNames) (base low count k e : ℕ) (done : Text) →
         is_net n ≡ true → IsGuarded n cs → n.invariants ≡ [] → e < length n.events →
-        AllByRecursion (λ (c : NetChoice). c.sent ≡ None) (choices_of cs e) →
         IsDeclared p.vars fired ty.Bool → ((v : ℕ) → w.variable v ≡ variable_name n v) →
-        ((s : State) → Promises p.vars w (setting_of n s (pos 0)) base low count) →
+        ((s : State) (r : ℤ) → Promises p.vars w (setting_of n s r) base low count) →
         AllFrom (ChoiceStands n p own w y base low count) k (choices_of cs e) →
         (needs_mark (all_written n w y k (choices_of cs e)) ≡ true → DoneStands p own w y low count done) →
         TriesEvent (face_of_net n) (system_of_net n) p (record { own = own; body = event_text done (all_written n w y k (choices_of cs e)) }) e }
 {}
 
-/// The part of an event whose choices assign variables, and neither send nor receive a value, tries the event, where its own
+/// The part of an event whose choices assign variables, and may send a value that these read, tries the event, where its own
 /// variables are declared one after another and the expressions of its choices are safe in each state. The net has no state
 /// invariants, and enumerations that a u32 counts. What is promised of expressions is a premise: of their own variables, of
 /// their kinds, of their names, and of their texts.
 pub fn parts_with_data_are_tried()
-    ensures { (n : Net) (cs : List NetChoice) (p : Program) (received : Text) (base j e : ℕ) →
+    ensures { (n : Net) (cs : List NetChoice) (p : Program) (base j e : ℕ) →
         is_net n ≡ true → IsGuarded n cs → n.invariants ≡ [] → are_small n.vars ≡ true → are_small n.inputs ≡ true → e < length n.events →
-        AllByRecursion (λ (c : NetChoice). c.sent ≡ None) (choices_of cs e) →
-        AllByRecursion (λ (c : NetChoice). carried_type n c ≡ None) (choices_of cs e) →
         AllByRecursion (IsSafeChoice n) (choices_of cs e) →
         IsDeclared p.vars fired ty.Bool → AreDeclared p base j (event_faces n (choices_of cs e)) →
-        ((x : NetExpr) → length (own_types n None x) ≡ temps x) →
-        ((k : Kind) (x : NetExpr) → fits n None k x ≡ true → names_no_alg x ≡ true → is_boolean n None x ≡ is_bool k) →
-        ((k : Kind) (x : NetExpr) → fits n None k x ≡ true → names_no_alg x ≡ true → AllByRecursion (IsNamed n) (names_in x)) →
-        ((s : State) → Promises p.vars (data_naming n received) (setting_of n s (pos 0)) base (ifs_from n (choices_of cs e) j) (ifs_from n (choices_of cs e) j + all_temps (choices_of cs e))) →
-        TriesEvent (face_of_net n) (system_of_net n) p (data_part n received j (choices_of cs e)) e }
+        ((r : Option Ty) (x : NetExpr) → length (own_types n r x) ≡ temps x) →
+        ((r : Option Ty) (k : Kind) (x : NetExpr) → fits n r k x ≡ true → names_no_alg x ≡ true → is_boolean n r x ≡ is_bool k) →
+        ((r : Option Ty) (k : Kind) (x : NetExpr) → fits n r k x ≡ true → names_no_alg x ≡ true → AllByRecursion (IsThere n r) (names_in x)) →
+        ((s : State) (r : ℤ) → Promises p.vars (event_naming n (choices_of cs e) j) (setting_of n s r) base (ifs_from n (choices_of cs e) j) (ifs_from n (choices_of cs e) j + all_temps (choices_of cs e))) →
+        TriesEvent (face_of_net n) (system_of_net n) p (data_part n j (choices_of cs e)) e }
 {}
 
 /// What is promised of expressions holds where their own variables from a number on stand one after another, each by its number

@@ -17,7 +17,7 @@ use st_print::print;
 use std::alloc::Global;
 
 /// The text of a Structured Text program (IEC 61131-3) that makes the scans of a net, with these most rounds of each class in a
-/// scan. The net has no state invariants and channels. Each event is to be controllable or uncontrollable.
+/// scan. The net has no state invariants. Each event is to be controllable or uncontrollable.
 pub fn generate_text(
     alloc: Global,
     guarded: &Guarded,

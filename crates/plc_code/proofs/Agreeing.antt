@@ -1,23 +1,27 @@
 -- The statements of an event are the same under two ways of naming that name alike what is in the net, and two ways of naming
 -- new values that name alike those of the variables that are assigned.
 use Rattle.std.proofs.Common.{◌≡◌, ℕ, ◌+◌, Bool, true, false, not, ◌||◌, List, [], ◌∷◌, map, flat_map, nat_eq, Option, Some, None, slice_get, refl, sym, ap, ap₂, subst, arith, ◌∙◌, if◌then◌else◌}
+use Rattle.std.specs.Prelude.{option_to_list}
 use Rattle.std.specs.List.{AllByRecursion}
 use Rattle.std.proofs.lemmas.Bool.Decides.{nat_tests}
 use Rattle.grammar.specs.Pieces.{Text}
+use Rattle.cif_base.specs.declared.types.Ty.{Ty}
 use Rattle.cif_term.specs.Tree.{NetExpr, NetUpdate, net_set, net_choose, NetUpdates, no_net_updates, net_updates, NetUpdateBranches, no_net_update_branches, net_update_branches}
 use Rattle.cif_model.specs.Exprs.{branches_exprs, targets, update_exprs, updates_exprs}
 use Rattle.cif_model.specs.Facts.{has}
 use Rattle.cif_model.specs.Listing.{NetChoice}
 use Rattle.cif_model.specs.Net.{NetStored, Net}
 use Rattle.cif_model.specs.Reads.{Read, names_in}
+use Rattle.cif_model.specs.Table.{carried_type}
 use Rattle.st_ast.specs.Tree.{Stms, append, assign, branches, named, no_branches, no_stms, stms, stms_of, truth}
+use Rattle.plc_expr.specs.Held.{IsThere}
 use Rattle.plc_expr.specs.Texts.{Naming, before, temps, text}
 use Rattle.plc_gen.specs.Events.{moves_text}
 use Rattle.plc_gen.proofs.Choosing.{all-filter}
 use Rattle.plc_act.specs.Acts.{act, assigned_vars, computed, copy, may_stay, store, stored, surely_set}
 use Rattle.plc_act.specs.Events.{all_written, data_written, is_bare}
 use Rattle.plc_act.specs.Own.{choice_temps}
-use Rattle.plc_act.specs.Ready.{IsNamed}
+use Rattle.plc_act.specs.Sends.{sends, sent_temps, where_fits}
 use Rattle.plc_act.specs.Writes.{NewNames, any_tested, bodies_temps, chosen, conditions_before, conditions_temps, is_tested, range_test, stays_in, updates_temps, write, write_branches, writes}
 use Rattle.plc_act.proofs.Targets.{all_vars, assigned-has, by_vars, has-append, in_vars, targets-are}
 use Rattle.cif_model.specs.Meaning.{type_range}
@@ -49,22 +53,19 @@ all-has P (x ∷ xs) h = (h x (ap (λ b. b || has xs x) (eq-self x)), all-has P 
 
 -- ---- statements of updates
 
-module _ (n : Net) (w v : Naming) (y z : NewNames) (alike : (q : Read) → IsNamed n q → IsAlike w v q) (own : (k : ℕ) → w.own k ≡ v.own k) (mark : y.in_range ≡ z.in_range) where
+module _ (n : Net) (w v : Naming) (y z : NewNames) (alike : (r : Option Ty) (q : Read) → IsThere n r q → IsAlike w v q) (received : w.received ≡ v.received) (own : (k : ℕ) → w.own k ≡ v.own k) (mark : y.in_range ≡ z.in_range) where
   -- the variable and its new value are named alike
   abbrev pub NewAlike : ℕ → Type 0
   NewAlike x = (y.next x ≡ z.next x) × (w.variable x ≡ v.variable x)
 
-  abbrev Named : List NetExpr → Type 0
-  Named es = AllByRecursion (IsNamedExpr n) es
-
   abbrev New : List ℕ → Type 0
   New xs = AllByRecursion NewAlike xs
 
-  expr-text : (k : ℕ) (e : NetExpr) → IsNamedExpr n e → text w k e ≡ text v k e
-  expr-text k e h = same-text w v own k e (each (IsNamed n) (IsAlike w v) alike (names_in e) h)
+  expr-text : (r : Option Ty) (k : ℕ) (e : NetExpr) → IsNamedExpr n r e → text w k e ≡ text v k e
+  expr-text r k e h = same-text w v own k e (each (IsThere n r) (IsAlike w v) (alike r) (names_in e) h)
 
-  expr-before : (k : ℕ) (e : NetExpr) → IsNamedExpr n e → before w k e ≡ before v k e
-  expr-before k e h = same-before w v own k e (each (IsNamed n) (IsAlike w v) alike (names_in e) h)
+  expr-before : (r : Option Ty) (k : ℕ) (e : NetExpr) → IsNamedExpr n r e → before w k e ≡ before v k e
+  expr-before r k e h = same-before w v own k e (each (IsThere n r) (IsAlike w v) (alike r) (names_in e) h)
 
   abbrev test_with : Text → Text → Option NetStored → Stms
   test_with m t None = no_stms
@@ -77,75 +78,91 @@ module _ (n : Net) (w v : Naming) (y z : NewNames) (alike : (q : Read) → IsNam
   range-same : (x : ℕ) (o : Option NetStored) → NewAlike x → range_test y x o ≡ range_test z x o
   range-same x o h = range-with y x o ∙ ap₂ (λ m t. test_with m t o) mark h.0 ∙ sym (range-with z x o)
 
-  conditions-same : (k : ℕ) (bs : NetUpdateBranches) → Named (branches_exprs bs) → conditions_before w k bs ≡ conditions_before v k bs
-  conditions-same k no_net_update_branches h = refl
-  conditions-same k (net_update_branches c us bs) h =
-      let t = both (IsNamedExpr n) (updates_exprs us) (branches_exprs bs) h.1 in
-      ap₂ append (expr-before k c h.0) (conditions-same (k + temps c) bs t.1)
+  -- those of updates, where something of this type is received
+  module _ (r : Option Ty) where
+    abbrev Named : List NetExpr → Type 0
+    Named es = AllByRecursion (IsNamedExpr n r) es
 
-  mutual
-    writes-same : (k : ℕ) (us : NetUpdates) → Named (updates_exprs us) → New (all_vars us) → writes n w y k us ≡ writes n v z k us
-    writes-same k no_net_updates h t = refl
-    writes-same k (net_updates u us) h t =
-        let p = both (IsNamedExpr n) (update_exprs u) (updates_exprs us) h in
-        let q = both NewAlike (by_vars u) (all_vars us) t in
-        ap₂ append (writes-same k us p.1 q.1) (write-same (k + updates_temps us) u p.0 q.0)
+    conditions-same : (k : ℕ) (bs : NetUpdateBranches) → Named (branches_exprs bs) → conditions_before w k bs ≡ conditions_before v k bs
+    conditions-same k no_net_update_branches h = refl
+    conditions-same k (net_update_branches c us bs) h =
+        let t = both (IsNamedExpr n r) (updates_exprs us) (branches_exprs bs) h.1 in
+        ap₂ append (expr-before r k c h.0) (conditions-same (k + temps c) bs t.1)
 
-    write-same : (k : ℕ) (u : NetUpdate) → Named (update_exprs u) → New (by_vars u) → write n w y k u ≡ write n v z k u
-    write-same k (net_set x e) h t =
-        ap₂ (λ bs d. append bs (stms (assign (y.next x) d) (range_test y x (slice_get n.vars x)))) (expr-before k e h.0) (expr-text k e h.0)
-        ∙ ap₂ (λ nm r. append (before v k e) (stms (assign nm (text v k e)) r)) t.0.0 (range-same x (slice_get n.vars x) t.0)
-    write-same k (net_choose bs us) h t =
-        let p = both (IsNamedExpr n) (branches_exprs bs) (updates_exprs us) h in
-        let q = both NewAlike (in_vars bs) (all_vars us) t in
-        ap₂ append (conditions-same k bs p.0)
-        (ap₂ chosen (branches-same k (k + conditions_temps bs) bs p.0 q.0) (writes-same (k + conditions_temps bs + bodies_temps bs) us p.1 q.1))
+    mutual
+      writes-same : (k : ℕ) (us : NetUpdates) → Named (updates_exprs us) → New (all_vars us) → writes n w y k us ≡ writes n v z k us
+      writes-same k no_net_updates h t = refl
+      writes-same k (net_updates u us) h t =
+          let p = both (IsNamedExpr n r) (update_exprs u) (updates_exprs us) h in
+          let q = both NewAlike (by_vars u) (all_vars us) t in
+          ap₂ append (writes-same k us p.1 q.1) (write-same (k + updates_temps us) u p.0 q.0)
 
-    branches-same : (k j : ℕ) (bs : NetUpdateBranches) → Named (branches_exprs bs) → New (in_vars bs) → write_branches n w y k j bs ≡ write_branches n v z k j bs
-    branches-same k j no_net_update_branches h t = refl
-    branches-same k j (net_update_branches c us bs) h t =
-        let p = both (IsNamedExpr n) (updates_exprs us) (branches_exprs bs) h.1 in
-        let q = both NewAlike (all_vars us) (in_vars bs) t in
-        ap₂ (λ d ss. branches d ss (write_branches n w y (k + temps c) (j + updates_temps us) bs)) (expr-text k c h.0) (writes-same j us p.0 q.0)
-        ∙ ap (branches (text v k c) (writes n v z j us)) (branches-same (k + temps c) (j + updates_temps us) bs p.1 q.1)
+      write-same : (k : ℕ) (u : NetUpdate) → Named (update_exprs u) → New (by_vars u) → write n w y k u ≡ write n v z k u
+      write-same k (net_set x e) h t =
+          ap₂ (λ bs d. append bs (stms (assign (y.next x) d) (range_test y x (slice_get n.vars x)))) (expr-before r k e h.0) (expr-text r k e h.0)
+          ∙ ap₂ (λ nm r. append (before v k e) (stms (assign nm (text v k e)) r)) t.0.0 (range-same x (slice_get n.vars x) t.0)
+      write-same k (net_choose bs us) h t =
+          let p = both (IsNamedExpr n r) (branches_exprs bs) (updates_exprs us) h in
+          let q = both NewAlike (in_vars bs) (all_vars us) t in
+          ap₂ append (conditions-same k bs p.0)
+          (ap₂ chosen (branches-same k (k + conditions_temps bs) bs p.0 q.0) (writes-same (k + conditions_temps bs + bodies_temps bs) us p.1 q.1))
 
-  -- ---- what a choice does
+      branches-same : (k j : ℕ) (bs : NetUpdateBranches) → Named (branches_exprs bs) → New (in_vars bs) → write_branches n w y k j bs ≡ write_branches n v z k j bs
+      branches-same k j no_net_update_branches h t = refl
+      branches-same k j (net_update_branches c us bs) h t =
+          let p = both (IsNamedExpr n r) (updates_exprs us) (branches_exprs bs) h.1 in
+          let q = both NewAlike (all_vars us) (in_vars bs) t in
+          ap₂ (λ d ss. branches d ss (write_branches n w y (k + temps c) (j + updates_temps us) bs)) (expr-text r k c h.0) (writes-same j us p.0 q.0)
+          ∙ ap (branches (text v k c) (writes n v z j us)) (branches-same (k + temps c) (j + updates_temps us) bs p.1 q.1)
 
-  module _ (us : NetUpdates) (h : Named (updates_exprs us)) (new : (x : ℕ) → has (targets us) x ≡ true → NewAlike x) where
-    all-new : New (all_vars us)
-    all-new = subst New (targets-are us) (all-has NewAlike (targets us) new)
+    -- ---- what a choice does
 
-    assigned-new : New (assigned_vars us)
-    assigned-new = all-has NewAlike (assigned_vars us) (λ x in_them. new x (sym (assigned-has us x) ∙ in_them))
+    module _ (us : NetUpdates) (h : Named (updates_exprs us)) (new : (x : ℕ) → has (targets us) x ≡ true → NewAlike x) where
+      all-new : New (all_vars us)
+      all-new = subst New (targets-are us) (all-has NewAlike (targets us) new)
 
-    stays-new : New (may_stay us)
-    stays-new = all-filter NewAlike (λ x. not (has (surely_set us) x)) (assigned_vars us) assigned-new
+      assigned-new : New (assigned_vars us)
+      assigned-new = all-has NewAlike (assigned_vars us) (λ x in_them. new x (sym (assigned-has us x) ∙ in_them))
 
-    computed-same : (k : ℕ) → computed n w y k us ≡ computed n v z k us
-    computed-same k =
-        ap₂ (λ ss ts. append (stms_of ss) ts)
-        (map-same (copy w y) (copy v z) (may_stay us) (each NewAlike (λ x. copy w y x ≡ copy v z x) (λ x q. ap₂ (λ a b. assign a (named b)) q.0 q.1) (may_stay us) stays-new))
-        (writes-same k us h all-new)
+      stays-new : New (may_stay us)
+      stays-new = all-filter NewAlike (λ x. not (has (surely_set us) x)) (assigned_vars us) assigned-new
 
-    stored-same : (rest : Stms) → stored w y us rest ≡ stored v z us rest
-    stored-same rest =
-        ap (λ ss. append (stms_of ss) rest)
-        (map-same (store w y) (store v z) (assigned_vars us) (each NewAlike (λ x. store w y x ≡ store v z x) (λ x q. ap₂ (λ a b. assign b (named a)) q.0 q.1) (assigned_vars us) assigned-new))
+      computed-same : (k : ℕ) → computed n w y k us ≡ computed n v z k us
+      computed-same k =
+          ap₂ (λ ss ts. append (stms_of ss) ts)
+          (map-same (copy w y) (copy v z) (may_stay us) (each NewAlike (λ x. copy w y x ≡ copy v z x) (λ x q. ap₂ (λ a b. assign a (named b)) q.0 q.1) (may_stay us) stays-new))
+          (writes-same k us h all-new)
 
-    abbrev act_with : Text → Stms → Stms → Stms
-    act_with m cs ss =
-        if any_tested n us
-        then stms (assign m (truth true)) (append cs (chosen (branches (named m) ss no_branches) no_stms))
-        else append cs ss
+      stored-same : (rest : Stms) → stored w y us rest ≡ stored v z us rest
+      stored-same rest =
+          ap (λ ss. append (stms_of ss) rest)
+          (map-same (store w y) (store v z) (assigned_vars us) (each NewAlike (λ x. store w y x ≡ store v z x) (λ x q. ap₂ (λ a b. assign b (named a)) q.0 q.1) (assigned_vars us) assigned-new))
 
-    act-same : (k : ℕ) (rest : Stms) → act n w y k us rest ≡ act n v z k us rest
-    act-same k rest = ap₂ (λ m cs. act_with m cs (stored w y us rest)) mark (computed-same k) ∙ ap (act_with z.in_range (computed n v z k us)) (stored-same rest)
+      abbrev act_with : Text → Stms → Stms → Stms
+      act_with m cs ss =
+          if any_tested n us
+          then stms (assign m (truth true)) (append cs (chosen (branches (named m) ss no_branches) no_stms))
+          else append cs ss
+
+      act-same : (k : ℕ) (rest : Stms) → act n w y k us rest ≡ act n v z k us rest
+      act-same k rest = ap₂ (λ m cs. act_with m cs (stored w y us rest)) mark (computed-same k) ∙ ap (act_with z.in_range (computed n v z k us)) (stored-same rest)
+
+  -- what is sent, and then the same statements
+  where-same : (t : Ty) (ss ts : Stms) → ss ≡ ts → where_fits w.received t ss ≡ where_fits v.received t ts
+  where-same t ss ts same = ap₂ (λ x qs. where_fits x t qs) received same
+
+  sends-same : (k : ℕ) (e : Option NetExpr) (t : Option Ty) (ss ts : Stms) → AllByRecursion (IsNamedExpr n None) (option_to_list e) → ss ≡ ts → sends w k e t ss ≡ sends v k e t ts
+  sends-same k None t ss ts h same = same
+  sends-same k (Some e) None ss ts h same = same
+  sends-same k (Some e) (Some t) ss ts h same =
+      ap₂ (λ bs d. append bs (stms (assign w.received d) (where_fits w.received t ss))) (expr-before None k e h.0) (expr-text None k e h.0)
+      ∙ ap₂ (λ x r. append (before v k e) (stms (assign x (text v k e)) r)) received (where-same t ss ts same)
 
   written-same : (k : ℕ) (c : NetChoice) → IsNamedChoice n c → ((x : ℕ) → has (targets c.writes) x ≡ true → NewAlike x) → data_written n w y k c ≡ data_written n v z k c
   written-same k c h new =
-      let p = expr-before k c.test h.test in
-      let q = expr-text k c.test h.test in
-      let a = λ (ms : Stms). act-same c.writes h.updates new (k + temps c.test) (moves_text n c.moves ms) in
+      let p = expr-before None k c.test h.test in
+      let q = expr-text None k c.test h.test in
+      let a = λ (ms : Stms). sends-same (k + temps c.test) c.sent (carried_type n c) _ _ h.sent (act-same (carried_type n c) c.writes h.updates new (k + temps c.test + sent_temps c.sent) (moves_text n c.moves ms)) in
       λ i. record { before = p i; test = q i; act = λ ms. a ms i; is_bare = is_bare n c }
 
   -- the choices of an event, of which each assigns variables whose new values are named alike

@@ -16,7 +16,7 @@ use Rattle.plc_face.specs.Face.{declaration}
 use Rattle.plc_gen.specs.Events.{choices_of}
 use Rattle.plc_gen.specs.Given.{EventPart, own_variables, part_tree}
 use Rattle.plc_gen.specs.declared.given.Part.{Part}
-use Rattle.plc_act.specs.Own.{if_face, new_face}
+use Rattle.plc_act.specs.Own.{faces_sent, if_face, new_face}
 use Rattle.plc_act.specs.Parts.{event_faces}
 use Rattle.plc_parts.specs.Parts.{part_for, parts_from}
 use Rattle.plc_code.specs.Order.{Ascending, leading}
@@ -28,17 +28,18 @@ use Rattle.plc_code.proofs.Sorted.{here-is, later-ascends, later-has, parts-late
 -- ---- declarations
 
 -- the own variables of an event, from what each step adds
-pub outlined-all : (n : Net) (x : Outline) (first b c d : ℕ) (vars : List ℕ) (types : List StTy) (v vb vc vd all : List StVar)
+pub outlined-all : (n : Net) (x : Outline) (first b c d e : ℕ) (vars : List ℕ) (types : List StTy) (v vb vc vd ve all : List StVar)
     → v ≡ [] → vb ≡ v ++ declared_from first (done_if x.has_mark) → b ≡ first + length (done_if x.has_mark)
     → vc ≡ vb ++ declared_from b (range_if x.tests_range) → c ≡ b + length (range_if x.tests_range)
     → vars ≡ x.vars → vd ≡ vc ++ declared_from c (map (new_face n) vars) → d ≡ c + length vars
-    → types ≡ x.types → all ≡ vd ++ declared_from d (map if_face types)
+    → ve ≡ vd ++ declared_from d (faces_sent x.sent) → e ≡ d + length (faces_sent x.sent)
+    → types ≡ x.types → all ≡ ve ++ declared_from e (map if_face types)
     → all ≡ declared_from first (outlined_faces n x)
-outlined-all n x first b c d vars types v vb vc vd all none vb_is b_is vc_is c_is vars_are vd_is d_is types_are all_is =
-    declared-all first (done_if x.has_mark) (range_if x.tests_range) (map (new_face n) vars) (map if_face types) b c d vb vc vd all b_is c_is
-    (d_is ∙ ap (λ k. c + k) (sym (map-length (new_face n) vars)))
-    (vb_is ∙ ap (λ vs. vs ++ declared_from first (done_if x.has_mark)) none) vc_is vd_is all_is
-    ∙ ap₂ (λ (vs : List ℕ) (ts : List StTy). declared_from first (done_if x.has_mark ++ (range_if x.tests_range ++ (map (new_face n) vs ++ map if_face ts)))) vars_are types_are
+outlined-all n x first b c d e vars types v vb vc vd ve all none vb_is b_is vc_is c_is vars_are vd_is d_is ve_is e_is types_are all_is =
+    declared-all first (done_if x.has_mark) (range_if x.tests_range) (map (new_face n) vars) (faces_sent x.sent) (map if_face types) b c d e vb vc vd ve all b_is c_is
+    (d_is ∙ ap (λ k. c + k) (sym (map-length (new_face n) vars))) e_is
+    (vb_is ∙ ap (λ vs. vs ++ declared_from first (done_if x.has_mark)) none) vc_is vd_is ve_is all_is
+    ∙ ap₂ (λ (vs : List ℕ) (ts : List StTy). declared_from first (done_if x.has_mark ++ (range_if x.tests_range ++ (map (new_face n) vs ++ (faces_sent x.sent ++ map if_face ts))))) vars_are types_are
 
 -- ---- what holds of all holds of some
 

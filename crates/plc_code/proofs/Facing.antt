@@ -44,11 +44,11 @@ module _ {A : Type 0} (face : A → VariableFace) (all : List A) (i : ℕ) (past
   pub counted-end : (j : ℕ) → j + length (drop i all) ≡ j
   counted-end j = let end = ap (λ (ys : List A). length ys) (drop_all i all past) in omega arith
 
--- the variables of an event, from their four parts
-pub declared-all : (first : ℕ) (ps qs rs us : List VariableFace) (b c d : ℕ) (vb vc vd all : List StVar) → b ≡ first + length ps → c ≡ b + length qs → d ≡ c + length rs
+-- from four parts
+declared-four : (first : ℕ) (ps qs rs us : List VariableFace) (b c d : ℕ) (vb vc vd all : List StVar) → b ≡ first + length ps → c ≡ b + length qs → d ≡ c + length rs
     → vb ≡ [] ++ declared_from first ps → vc ≡ vb ++ declared_from b qs → vd ≡ vc ++ declared_from c rs → all ≡ vd ++ declared_from d us
     → all ≡ declared_from first (ps ++ (qs ++ (rs ++ us)))
-declared-all first ps qs rs us b c d vb vc vd all b_is c_is d_is vb_is vc_is vd_is all_is =
+declared-four first ps qs rs us b c d vb vc vd all b_is c_is d_is vb_is vc_is vd_is all_is =
     all_is
     ∙ ap (λ vs. vs ++ declared_from d us) (vd_is ∙ ap (λ vs. vs ++ declared_from c rs) (vc_is ∙ ap (λ vs. vs ++ declared_from b qs) vb_is))
     ∙ append_assoc (declared_from first ps ++ declared_from b qs) (declared_from c rs) (declared_from d us)
@@ -59,6 +59,15 @@ declared-all first ps qs rs us b c d vb vc vd all b_is c_is d_is vb_is vc_is vd_
     ∙ ap (λ vs. declared_from first ps ++ vs) (sym (declared-both b qs (rs ++ us)))
     ∙ ap (λ k. declared_from first ps ++ declared_from k (qs ++ (rs ++ us))) b_is
     ∙ sym (declared-both first ps (qs ++ (rs ++ us)))
+
+-- the variables of an event, from their five parts
+pub declared-all : (first : ℕ) (ps qs rs ts us : List VariableFace) (b c d e : ℕ) (vb vc vd ve all : List StVar) → b ≡ first + length ps → c ≡ b + length qs → d ≡ c + length rs → e ≡ d + length ts
+    → vb ≡ [] ++ declared_from first ps → vc ≡ vb ++ declared_from b qs → vd ≡ vc ++ declared_from c rs → ve ≡ vd ++ declared_from d ts → all ≡ ve ++ declared_from e us
+    → all ≡ declared_from first (ps ++ (qs ++ (rs ++ (ts ++ us))))
+declared-all first ps qs rs ts us b c d e vb vc vd ve all b_is c_is d_is e_is vb_is vc_is vd_is ve_is all_is =
+    declared-four first ps qs rs (ts ++ us) b c d vb vc vd all b_is c_is d_is vb_is vc_is vd_is
+    (all_is ∙ ap (λ vs. vs ++ declared_from e us) ve_is ∙ append_assoc vd (declared_from d ts) (declared_from e us)
+    ∙ ap (λ k. vd ++ (declared_from d ts ++ declared_from k us)) e_is ∙ ap (λ vs. vd ++ vs) (sym (declared-both d ts us)))
 
 -- ---- names of new values
 

@@ -6,11 +6,7 @@ use Rattle.cif_model.specs.Listing.{NetChoice}
 use Rattle.cif_model.specs.Meaning.{system_of_net}
 use Rattle.cif_model.specs.Inline.{defined_by}
 use Rattle.cif_model.specs.Kinds.{kind_of}
-use Rattle.cif_model.specs.Net.{NetAlg, NetChan, no_net_chan, void_net_chan, net_chan_of, NetEvent, Net}
-use Rattle.cif_model.specs.Reads.{names_in}
-use Rattle.cif_model.specs.Shown.{channel_type}
-use Rattle.cif_model.proofs.Passing.{and-left, and-right}
-use Rattle.cif_model.proofs.PlainLaws.{never}
+use Rattle.cif_model.specs.Net.{NetAlg, Net}
 use Rattle.cif_net.specs.View.{choice_tree, net_tree}
 use Rattle.cif_net.specs.declared.guarded.Guarded.{Guarded}
 use Rattle.cif_choices.proofs.Steps.{guarded-steps}
@@ -19,9 +15,8 @@ use Rattle.plc_gen.specs.Small.{are_small}
 use Rattle.plc_gen.proofs.Choosing.{all-of}
 use Rattle.plc_expr.proofs.There.{there}
 use Rattle.plc_parts.specs.Definitions.{IsDefinition}
-use Rattle.plc_parts.specs.Parts.{HasParts, data_parts, is_no_channel, is_silent, shown_first, shown_part}
+use Rattle.plc_parts.specs.Parts.{HasParts, data_parts, is_silent, shown_first, shown_part}
 use Rattle.plc_parts.proofs.Defined.{all-defined}
-use Rattle.plc_tries.proofs.Tried.{named-there}
 use Rattle.plc_code.specs.Named.{IsNamedAlg, IsNamedChoice}
 use Rattle.plc_code.specs.Order.{Ascending}
 use Rattle.plc_code.proofs.Sorted.{listed-ascend}
@@ -30,18 +25,6 @@ use Rattle.plc_code.proofs.Stand.{choice-named}
 pub if-ok : {A E : Type 0} (r : Result A E) (P : Type 0) → P → IfOk r (λ x. P)
 if-ok (Ok x) P p = p
 if-ok (Err e) P p = tt
-
--- ---- channels
-
-no-chan : (c : NetChan) (x : NetEvent) → x.chan ≡ c → is_no_channel x ≡ true → channel_type c ≡ None
-no-chan no_net_chan x is h = refl
-no-chan void_net_chan x is h = never (subst (λ (d : NetChan). (elim d [ no_net_chan ↦ true | _ ↦ false ]) ≡ true) is h)
-no-chan (net_chan_of t) x is h = never (subst (λ (d : NetChan). (elim d [ no_net_chan ↦ true | _ ↦ false ]) ≡ true) is h)
-
-none-carried : (es : List NetEvent) (k : ℕ) → list_all is_no_channel es ≡ true → channel_type (elim (slice_get es k) [ None ↦ no_net_chan | Some x ↦ x.chan ]) ≡ None
-none-carried [] k h = refl
-none-carried (x ∷ es) zero h = no-chan x.chan x refl (and-left _ _ h)
-none-carried (x ∷ es) (suc k) h = none-carried es k (and-right _ _ h)
 
 -- ---- a guarded net
 
@@ -55,15 +38,13 @@ module _ (g : Guarded) where
   pub in-order : Ascending 0 cs
   in-order = listed-ascend n (system_of_net n) cs (guarded-steps g).each
 
-  pub all-there : is_silent n ≡ true → AllByRecursion (IsNamedChoice n) cs
-  all-there silent =
-      all-of (IsNamedChoice n) cs
-      (λ k c at. choice-named n c ((guarded-steps g).stands k c at) (none-carried n.events c.event (and-right _ _ silent)))
+  pub all-there : AllByRecursion (IsNamedChoice n) cs
+  all-there = all-of (IsNamedChoice n) cs (λ k c at. choice-named n c ((guarded-steps g).stands k c at))
 
   each-there : (as' : List NetAlg) → AllByRecursion (IsDefinition n) as' → AllByRecursion (IsNamedAlg n) as'
   each-there [] h = tt
   each-there (a ∷ as') h =
-      (named-there n (names_in (defined_by a)) (there n None (kind_of a.type_of a.literals) (defined_by a) h.0.fit h.0.names), each-there as' h.1)
+      (there n None (kind_of a.type_of a.literals) (defined_by a) h.0.fit h.0.names, each-there as' h.1)
 
   pub algs-there : AllByRecursion (IsNamedAlg n) n.algs
   algs-there = each-there n.algs (all-defined n g.plain.plain)

@@ -1,8 +1,10 @@
 -- The statements that show the algebraic variables, put together one after the other, and under the names of the net.
-use Rattle.std.proofs.Common.{◌≡◌, ℕ, ◌+◌, ◌<◌, ◌≤◌, List, [], ◌∷◌, ◌++◌, None, drop, get_or, length, map, sym, ap, ◌∙◌}
+use Rattle.std.proofs.Common.{◌≡◌, ℕ, ◌+◌, ◌<◌, ◌≤◌, List, [], ◌∷◌, ◌++◌, true, Option, None, drop, get_or, length, map, sym, ap, ◌∙◌}
+use Rattle.std.specs.Prelude.{is_some}
 use Rattle.std.specs.List.{AllByRecursion}
 use Rattle.std.proofs.lemmas.List.{append_assoc, drop_all}
 use Rattle.grammar.specs.Pieces.{Text}
+use Rattle.cif_base.specs.declared.types.Ty.{Ty}
 use Rattle.cif_net.specs.View.{alg_tree}
 use Rattle.cif_net.specs.declared.data.Alg.{Alg}
 use Rattle.plc_expr.specs.Sorts.{own_types}
@@ -11,6 +13,7 @@ use Rattle.cif_term.specs.Tree.{NetExpr}
 use Rattle.cif_model.specs.Inline.{defined_by}
 use Rattle.cif_model.specs.Net.{NetAlg, Net}
 use Rattle.cif_model.specs.Reads.{Read, names_in}
+use Rattle.cif_model.proofs.PlainLaws.{never}
 use Rattle.st_ast.specs.Tree.{Stm, Stms, append, assign, no_stms, stms}
 use Rattle.st_ast.specs.View.{view_stmt, view_stmts}
 use Rattle.st_ast.specs.declared.tree.Stmt.{Stmt}
@@ -19,12 +22,12 @@ use Rattle.st_ast.specs.declared.tree.StTy.{StTy}
 use Rattle.plc_face.specs.declared.letter.Letter.TheVariants as letter
 use Rattle.plc_face.specs.Frame.{fired}
 use Rattle.plc_face.specs.Names.{name_for}
+use Rattle.plc_expr.specs.Held.{IsThere}
 use Rattle.plc_expr.specs.Texts.{Naming, before, temps, text}
 use Rattle.plc_expr.specs.Written.{naming_of}
 use Rattle.plc_expr.specs.declared.names.Names.{Names}
 use Rattle.plc_gen.specs.Given.{EventPart}
 use Rattle.plc_act.specs.Own.{data_naming, if_face}
-use Rattle.plc_act.specs.Ready.{IsNamed}
 use Rattle.plc_walk.specs.Alike.{IsAlike}
 use Rattle.plc_walk.proofs.Alike.{same-before, same-text}
 use Rattle.plc_parts.specs.Parts.{defined_types, shown_part, shown_text}
@@ -86,16 +89,23 @@ module _ (n : Net) (names : Names) (are : AreNames n names) where
   abbrev v : Naming
   v = data_naming n fired
 
-  alike : (qs : List Read) → AllByRecursion (IsNamed n) qs → AllByRecursion (IsAlike w v) qs
+  -- nothing is received
+  abbrev nothing : Option Ty
+  nothing = None
+
+  nothing-same : is_some nothing ≡ true → names.received ≡ fired
+  nothing-same h = never h
+
+  alike : (qs : List Read) → AllByRecursion (IsThere n None) qs → AllByRecursion (IsAlike w v) qs
   alike [] h = tt
-  alike (q ∷ qs) h = (names-alike n names are q h.0, alike qs h.1)
+  alike (q ∷ qs) h = (names-alike n names are fired None nothing-same q h.0, alike qs h.1)
 
   same-shown : (i k : ℕ) (as' : List NetAlg) → AllByRecursion (IsNamedAlg n) as' → shown_text w i k as' ≡ shown_text v i k as'
   same-shown i k [] h = λ j. no_stms
   same-shown i k (a ∷ as') h =
       let e : NetExpr = defined_by a in
-      let b = same-before w v (own-alike n names are) k e (alike (names_in e) h.0) in
-      let t = same-text w v (own-alike n names are) k e (alike (names_in e) h.0) in
+      let b = same-before w v (own-alike n names are fired) k e (alike (names_in e) h.0) in
+      let t = same-text w v (own-alike n names are fired) k e (alike (names_in e) h.0) in
       let rest = same-shown (i + 1) (k + temps e) as' h.1 in
       λ j. append (b j) (stms (assign (name_for letter.R i a.path) (t j)) (rest j))
 

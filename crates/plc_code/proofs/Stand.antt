@@ -1,91 +1,89 @@
 -- What the expressions of the choices of a plain net name is in the net.
-use Rattle.std.proofs.Common.{◌≡◌, true, List, [], ◌∷◌, ◌++◌, map, Option, Some, None, subst}
+use Rattle.std.proofs.Common.{◌≡◌, true, ◌&&◌, List, [], ◌∷◌, ◌++◌, map, Option, Some, None}
 use Rattle.std.specs.Prelude.{option_to_list, slice_get}
 use Rattle.std.specs.List.{AllByRecursion, list_all}
+use Rattle.cif_base.specs.declared.types.Ty.{Ty}
 use Rattle.cif_system.specs.System.{Range}
 use Rattle.cif_system.proofs.Lists.{slice_get-below}
 use Rattle.cif_term.specs.Tree.{NetExpr, NetUpdate, net_set, net_choose, NetUpdates, no_net_updates, net_updates, NetUpdateBranches, no_net_update_branches, net_update_branches}
 use Rattle.cif_model.specs.Net.{NetStored, Net}
 use Rattle.cif_model.specs.Exprs.{branches_exprs, update_exprs, updates_exprs}
 use Rattle.cif_model.specs.Facts.{assigns_kind, branches_stand, channel_of, update_stands, updates_stand, var_kind}
-use Rattle.cif_model.specs.Kinds.{Kind, bool_kind, fits, kind_of}
+use Rattle.cif_model.specs.Kinds.{Kind, bool_kind, fits, has_type, kind_of, kinds_in}
 use Rattle.cif_model.specs.Listing.{NetChoice}
-use Rattle.cif_model.specs.Reads.{Read, a_var, an_input, an_alg, a_place, the_received, names_in, names_no_alg}
+use Rattle.cif_model.specs.Reads.{names_no_alg}
 use Rattle.cif_model.specs.Rules.{is_plain_expr}
 use Rattle.cif_model.specs.Shown.{channel_range}
-use Rattle.cif_model.specs.Table.{carried_type, choice_exprs, choice_stands}
+use Rattle.cif_model.specs.Table.{carried_type, choice_exprs, choice_stands, sent_stands}
 use Rattle.cif_model.proofs.Passing.{and-left, and-right}
 use Rattle.cif_model.proofs.PlainLaws.{never}
-use Rattle.plc_expr.specs.Held.{IsThere}
 use Rattle.plc_expr.proofs.There.{there}
-use Rattle.plc_act.specs.Ready.{IsNamed}
+use Rattle.plc_act.proofs.Keeping.{some-kind}
 use Rattle.plc_act.proofs.Targets.{target-there}
 use Rattle.plc_walk.proofs.Alike.{both}
 use Rattle.plc_code.specs.Named.{IsNamedChoice, IsNamedExpr}
 
 module _ (n : Net) where
-  named : (q : Read) → IsThere n None q → IsNamed n q
-  named (a_var k) h = h
-  named (an_input k) h = h
-  named (an_alg k) h = h
-  named (a_place k) h = h
-  named the_received h = never h
-
-  all-named : (qs : List Read) → AllByRecursion (IsThere n None) qs → AllByRecursion (IsNamed n) qs
-  all-named [] h = tt
-  all-named (q ∷ qs) h = (named q h.0, all-named qs h.1)
-
   abbrev NoAlg : NetExpr → Type 0
   NoAlg e = names_no_alg e ≡ true
-
-  expr-named : (k : Kind) (e : NetExpr) → fits n None k e ≡ true → NoAlg e → IsNamedExpr n e
-  expr-named k e fit none = all-named (names_in e) (there n None k e fit none)
-
-  abbrev Named : List NetExpr → Type 0
-  Named es = AllByRecursion (IsNamedExpr n) es
 
   abbrev NoAlgs : List NetExpr → Type 0
   NoAlgs es = AllByRecursion NoAlg es
 
-  join : (xs ys : List NetExpr) → Named xs → Named ys → Named (xs ++ ys)
-  join [] ys h k = k
-  join (x ∷ xs) ys h k = (h.0, join xs ys h.1 k)
+  -- where something of this type is received
+  module _ (r : Option Ty) where
+    expr-named : (k : Kind) (e : NetExpr) → fits n r k e ≡ true → NoAlg e → IsNamedExpr n r e
+    expr-named k e fit none = there n r k e fit none
 
-  set-named : (o : Option NetStored) (e : NetExpr) → assigns_kind n None (var_kind o) e ≡ true → NoAlg e → IsNamedExpr n e
-  set-named None e h none = never h
-  set-named (Some q) e h none = expr-named (kind_of q.type_of q.literals) e h none
+    abbrev Named : List NetExpr → Type 0
+    Named es = AllByRecursion (IsNamedExpr n r) es
 
-  mutual
-    updates-named : (us : NetUpdates) → updates_stand n None us ≡ true → NoAlgs (updates_exprs us) → Named (updates_exprs us)
-    updates-named no_net_updates h a = tt
-    updates-named (net_updates u us) h a =
-        let p = both NoAlg (update_exprs u) (updates_exprs us) a in
-        join (update_exprs u) (updates_exprs us) (update-named u (and-left _ _ (and-left _ _ h)) p.0) (updates-named us (and-right _ _ h) p.1)
+    join : (xs ys : List NetExpr) → Named xs → Named ys → Named (xs ++ ys)
+    join [] ys h k = k
+    join (x ∷ xs) ys h k = (h.0, join xs ys h.1 k)
 
-    update-named : (u : NetUpdate) → update_stands n None u ≡ true → NoAlgs (update_exprs u) → Named (update_exprs u)
-    update-named (net_set v e) h a = (set-named (slice_get n.vars v) e h a.0, tt)
-    update-named (net_choose bs us) h a =
-        let p = both NoAlg (branches_exprs bs) (updates_exprs us) a in
-        join (branches_exprs bs) (updates_exprs us) (branches-named bs (and-left _ _ h) p.0) (updates-named us (and-right _ _ h) p.1)
+    set-named : (o : Option NetStored) (e : NetExpr) → assigns_kind n r (var_kind o) e ≡ true → NoAlg e → IsNamedExpr n r e
+    set-named None e h none = never h
+    set-named (Some q) e h none = expr-named (kind_of q.type_of q.literals) e h none
 
-    branches-named : (bs : NetUpdateBranches) → branches_stand n None bs ≡ true → NoAlgs (branches_exprs bs) → Named (branches_exprs bs)
-    branches-named no_net_update_branches h a = tt
-    branches-named (net_update_branches c us bs) h a =
-        let p = both NoAlg (updates_exprs us) (branches_exprs bs) a.1 in (
-          expr-named bool_kind c (and-left _ _ (and-left _ _ h)) a.0,
-          join (updates_exprs us) (branches_exprs bs) (updates-named us (and-right _ _ (and-left _ _ h)) p.0) (branches-named bs (and-right _ _ h) p.1),
-        )
+    mutual
+      updates-named : (us : NetUpdates) → updates_stand n r us ≡ true → NoAlgs (updates_exprs us) → Named (updates_exprs us)
+      updates-named no_net_updates h a = tt
+      updates-named (net_updates u us) h a =
+          let p = both NoAlg (update_exprs u) (updates_exprs us) a in
+          join (update_exprs u) (updates_exprs us) (update-named u (and-left _ _ (and-left _ _ h)) p.0) (updates-named us (and-right _ _ h) p.1)
+
+      update-named : (u : NetUpdate) → update_stands n r u ≡ true → NoAlgs (update_exprs u) → Named (update_exprs u)
+      update-named (net_set v e) h a = (set-named (slice_get n.vars v) e h a.0, tt)
+      update-named (net_choose bs us) h a =
+          let p = both NoAlg (branches_exprs bs) (updates_exprs us) a in
+          join (branches_exprs bs) (updates_exprs us) (branches-named bs (and-left _ _ h) p.0) (updates-named us (and-right _ _ h) p.1)
+
+      branches-named : (bs : NetUpdateBranches) → branches_stand n r bs ≡ true → NoAlgs (branches_exprs bs) → Named (branches_exprs bs)
+      branches-named no_net_update_branches h a = tt
+      branches-named (net_update_branches c us bs) h a =
+          let p = both NoAlg (updates_exprs us) (branches_exprs bs) a.1 in (
+            expr-named bool_kind c (and-left _ _ (and-left _ _ h)) a.0,
+            join (updates_exprs us) (branches_exprs bs) (updates-named us (and-right _ _ (and-left _ _ h)) p.0) (branches-named bs (and-right _ _ h) p.1),
+          )
+
+  sent-named : (t : Option Ty) (e : Option NetExpr) → sent_stands n t e ≡ true → NoAlgs (option_to_list e) → AllByRecursion (IsNamedExpr n None) (option_to_list e)
+  sent-named t None h a = tt
+  sent-named None (Some e) h a = never h
+  sent-named (Some t) (Some e) h a = let q = some-kind (λ k. has_type t k && fits n None k e) (kinds_in n) h in (expr-named None q.0 e (and-right _ _ q.1) a.0, tt)
 
   plain-none : (r : Range) (es : List NetExpr) → list_all (is_plain_expr n) (map (λ e. record { value = e; received = r }) es) ≡ true → NoAlgs es
   plain-none r [] h = tt
   plain-none r (e ∷ es) h = (and-left _ _ (and-left _ _ (and-left _ _ h)), plain-none r es (and-right _ _ h))
 
-  pub choice-named : (c : NetChoice) → choice_stands n c ≡ true → carried_type n c ≡ None → IsNamedChoice n c
-  choice-named c stands carried =
+  pub choice-named : (c : NetChoice) → choice_stands n c ≡ true → IsNamedChoice n c
+  choice-named c stands =
       let none = plain-none (channel_range (channel_of n c.event)) (choice_exprs c) (and-right _ _ (and-left _ _ stands)) in
-      let up : updates_stand n None c.writes ≡ true = subst (λ t. updates_stand n t c.writes ≡ true) carried (and-right _ _ (and-left _ _ (and-left _ _ stands))) in
+      let parts = both NoAlg (option_to_list c.sent) (updates_exprs c.writes) none.1 in
+      let up : updates_stand n (carried_type n c) c.writes ≡ true = and-right _ _ (and-left _ _ (and-left _ _ stands)) in
       record {
-        test = expr-named bool_kind c.test (and-left _ _ (and-left _ _ (and-left _ _ (and-left _ _ stands)))) none.0;
-        updates = updates-named c.writes up (both NoAlg (option_to_list c.sent) (updates_exprs c.writes) none.1).1;
-        targets_there = λ v h. let t = target-there n None v c.writes up h in slice_get-below n.vars v t.0 t.1;
+        test = expr-named None bool_kind c.test (and-left _ _ (and-left _ _ (and-left _ _ (and-left _ _ stands)))) none.0;
+        sent = sent-named (carried_type n c) c.sent (and-right _ _ (and-left _ _ (and-left _ _ (and-left _ _ stands)))) parts.0;
+        updates = updates-named (carried_type n c) c.writes up parts.1;
+        targets_there = λ v h. let t = target-there n (carried_type n c) v c.writes up h in slice_get-below n.vars v t.0 t.1;
       }

@@ -11,7 +11,8 @@ use Rattle.plc_face.specs.declared.letter.Letter.TheVariants as letter
 use Rattle.plc_face.specs.Face.{VariableFace, declaration}
 use Rattle.plc_face.specs.Names.{name_for}
 use Rattle.plc_gen.specs.Events.{done_face}
-use Rattle.plc_act.specs.Own.{choice_types, event_vars, if_face, new_face, place_in, range_face, tests_range}
+use Rattle.plc_act.specs.Own.{choice_types, event_vars, faces_sent, if_face, new_face, place_in, range_face, tests_range}
+use Rattle.plc_act.specs.Sends.{event_type}
 use Rattle.plc_act.specs.Parts.{needs_done}
 use Rattle.plc_code.specs.Writers.{new_names_of}
 use Rattle.plc_code.specs.declared.faces.NewFace.{NewFace}
@@ -23,7 +24,8 @@ pub record IsOutline (n : Net) (cs : List NetChoice) (x : Outline) : Type 0 wher
   pub has_mark : x.has_mark ≡ needs_done n cs
   pub tests : x.tests_range ≡ tests_range n cs
   pub vars : x.vars ≡ event_vars cs
-  pub types : x.types ≡ flat_map (choice_types n None) cs
+  pub sent : x.sent ≡ event_type n cs
+  pub types : x.types ≡ flat_map (choice_types n) cs
 
 -- ---- declarations
 
@@ -41,14 +43,17 @@ abbrev pub range_if : Bool → List VariableFace
 range_if b = if b then range_face ∷ [] else []
 
 abbrev pub outlined_faces : Net → Outline → List VariableFace
-outlined_faces n x = done_if x.has_mark ++ (range_if x.tests_range ++ (map (new_face n) x.vars ++ map if_face x.types))
+outlined_faces n x = done_if x.has_mark ++ (range_if x.tests_range ++ (map (new_face n) x.vars ++ (faces_sent x.sent ++ map if_face x.types)))
 
--- the number of the first new value, and that of the first `if`
+-- the number of the first new value, that of what is sent, and that of the first `if`
 abbrev pub outlined_new : ℕ → Outline → ℕ
 outlined_new first x = first + length (done_if x.has_mark) + length (range_if x.tests_range)
 
+abbrev pub outlined_sent : ℕ → Outline → ℕ
+outlined_sent first x = outlined_new first x + length x.vars
+
 abbrev pub outlined_ifs : ℕ → Outline → ℕ
-outlined_ifs first x = outlined_new first x + length x.vars
+outlined_ifs first x = outlined_sent first x + length (faces_sent x.sent)
 
 -- ---- names of new values
 

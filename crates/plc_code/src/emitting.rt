@@ -14,7 +14,7 @@ use plc_gen::Bounds;
 use st_ast::Program;
 use std::alloc::Global;
 
-/// The program of a net without state invariants and channels, whose conditional updates nest no deeper than statements can. It
+/// The program of a net without state invariants, whose conditional updates nest no deeper than statements can. It
 /// makes the net's scans, with these most rounds of each class. Own variables past 31 bits are want of memory. The time is
 /// linear in the choices and in what is written.
 pub fn emit(alloc: Global, guarded: &Guarded, bounds: Bounds) -> Result<Program, Memory>

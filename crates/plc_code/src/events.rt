@@ -57,7 +57,7 @@ fn has_no_if(alloc: Global, net: &Net, expr: &NetExpr) -> Result<bool, Memory>
     ensures { IfOk result (λ b. b ≡ nat_eq (temps (view expr.now)) 0) }
 {
     let mut types = Items::new(alloc);
-    own_types_of(expr, net, &mut types)?;
+    own_types_of(expr, net, None, &mut types)?;
     Ok(types.is_empty())
 }
 
@@ -133,7 +133,7 @@ impl<'a> Writer<'a> {
         let Draft {
             statements: act,
             next,
-        } = self.act(choice, marks, next, once)?;
+        } = self.taken(choice, marks, next, once)?;
         Ok(Pieces {
             before,
             test,

@@ -1,6 +1,6 @@
 //! The own variables of an event.
 
-ghost use Rattle.std.specs.Prelude.{◌≡◌, ◌+◌, ◌++◌, [], ◌∷◌, flat_map, length, map, IfOk, OnOk, None, Some};
+ghost use Rattle.std.specs.Prelude.{◌≡◌, ◌+◌, ◌++◌, [], ◌∷◌, flat_map, length, map, IfOk, OnOk, Some, None};
 ghost use Rattle.cif_model.specs.Exprs.{targets};
 ghost use Rattle.cif_model.specs.Listing.{NetChoice};
 ghost use Rattle.cif_net.specs.View.{choice_tree, net_tree};
@@ -14,9 +14,9 @@ ghost use Rattle.plc_code.specs.Outlines.{IsOutline, Keeps, NamesNew, StandOnce,
 use crate::events::needs_mark;
 use crate::marks::{Marks, once_of};
 use crate::targets::{add_targets, any_tested};
-use crate::types::{add_choice_types, new_type};
+use crate::types::{add_choice_types, event_type, new_type, sent_type};
 use crate::writing::NewTexts;
-use cif_base::{Items, Memory, Text};
+use cif_base::{Items, Memory, Text, Ty};
 use cif_net::{Choice, Net};
 use plc_face::Letter;
 use plc_names::name_of;
@@ -24,12 +24,13 @@ use st_ast::{StClass, StLit, StTy, StVar};
 use std::alloc::Global;
 
 /// What decides which own variables an event has: whether it has a mark that a choice was made, and one that new values are in
-/// their ranges, the variables that its choices assign, and the types of the `if`s in its expressions.
+/// their ranges, the variables that its choices assign, the type of what is sent, and the types of the `if`s in its expressions.
 #[derive(Debug, Drop)]
 pub struct Outline {
     pub has_mark: bool,
     pub tests_range: bool,
     pub vars: Items<u32>,
+    pub sent: Option<Ty>,
     pub types: Items<StTy>,
 }
 
@@ -47,6 +48,7 @@ pub fn outline_of(
         has_mark: needs_mark(alloc, net, choices)?,
         tests_range: any_range_tested(net, choices),
         vars: once_of(alloc, targets.as_slice(), marks)?,
+        sent: event_type(net, choices),
         types: all_types(alloc, net, choices)?,
     })
 }
@@ -74,7 +76,7 @@ fn any_range_tested(net: &Net, choices: &[Choice]) -> bool
 
 fn all_types(alloc: Global, net: &Net, choices: &[Choice]) -> Result<Items<StTy>, Memory>
     ensures { IfOk result
-        (λ all. all ≡ flat_map (o.choice_types (net_tree net.now) None) (map choice_tree choices.now)) }
+        (λ all. all ≡ flat_map (o.choice_types (net_tree net.now)) (map choice_tree choices.now)) }
 {
     let mut all = Items::new(alloc);
     for choice in choices {
@@ -214,6 +216,17 @@ impl OwnVariables {
     {
         for var in vars {
             self.declare_new(alloc, net, *var, new)?;
+        }
+        Ok(())
+    }
+
+    /// Declares what is sent, if the event carries values.
+    pub fn add_sent(&mut self, alloc: Global, sent: Option<Ty>) -> Result<(), Memory>
+        ensures variables { OnOk result (self.new.variables ≡ self.old.variables ++ declared_from self.old.next (o.faces_sent sent)) }
+        ensures next { OnOk result (self.new.next ≡ self.old.next + length (o.faces_sent sent)) }
+    {
+        if let Some(ty) = sent {
+            self.declare_as(alloc, b"sent", sent_type(ty), 0)?;
         }
         Ok(())
     }

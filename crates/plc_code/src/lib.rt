@@ -13,6 +13,7 @@ mod parts;
 mod program;
 mod ranges;
 mod selecting;
+mod sending;
 mod showing;
 mod targets;
 mod types;

@@ -16,7 +16,7 @@ use plc_names::name_of;
 use std::alloc::Global;
 
 /// The names of the places of automata, of the variables and of the inputs of a net. Its own variables have the path `if`, and
-/// nothing is received.
+/// what is received has a name for each event.
 pub fn names_of(alloc: Global, net: &Net) -> Result<Names, Memory>
     ensures names { IfOk result (λ names. AreNames (net_tree net.now) names) }
     ensures small_variables { IfOk result (λ names. are_small (net_tree net.now).vars ≡ true) }
@@ -25,7 +25,7 @@ pub fn names_of(alloc: Global, net: &Net) -> Result<Names, Memory>
     let places = place_names(alloc, net.autos.as_slice())?;
     let variables = variable_texts(alloc, net.vars.as_slice())?;
     let inputs = input_texts(alloc, net.inputs.as_slice())?;
-    let received = Text::from_slice(alloc, b"T0_fired")?;
+    let received = Text::new(alloc);
     let own = Text::from_slice(alloc, b"if")?;
     Ok(Names {
         places,

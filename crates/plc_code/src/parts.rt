@@ -1,6 +1,6 @@
 //! The parts of all events.
 
-ghost use Rattle.std.specs.Prelude.{◌≡◌, ◌+◌, ◌≤◌, length, map, IfOk, OnOk};
+ghost use Rattle.std.specs.Prelude.{◌≡◌, ◌+◌, ◌≤◌, codes, length, map, IfOk, OnOk};
 ghost use Rattle.std.specs.List.{AllByRecursion};
 ghost use Rattle.cif_net.specs.View.{choice_tree, net_tree};
 ghost use Rattle.st_ast.specs.View.{view_stmts};
@@ -16,7 +16,7 @@ ghost use Rattle.plc_parts.specs.Parts.{data_parts, part_for};
 ghost use Rattle.plc_code.specs.Making.{all_set};
 ghost use Rattle.plc_code.specs.Named.{AreNames, IsNamedChoice};
 ghost use Rattle.plc_code.specs.Order.{Ascending, leading};
-ghost use Rattle.plc_code.specs.Outlines.{NamesNew, StandOnce, declared_from, done_if, outlined_faces, outlined_ifs, outlined_new};
+ghost use Rattle.plc_code.specs.Outlines.{NamesNew, StandOnce, declared_from, done_if, outlined_faces, outlined_ifs, outlined_new, outlined_sent};
 ghost use Rattle.plc_code.specs.Writers.{new_names_of};
 
 use crate::events::EventMarks;
@@ -80,18 +80,23 @@ struct EventOwn {
     ifs: u32,
 }
 
-/// The own variables of an event with this outline, numbered from a number on; the names of its new values are kept.
+/// The own variables of an event with this outline, numbered from a number on; the names of its new values, and of what is sent,
+/// are kept.
 fn declared(
     alloc: Global,
     net: &Net,
     outline: &Outline,
     first: u32,
     new: &mut NewTexts,
+    names: &mut Names,
 ) -> Result<EventOwn, Memory>
-    requires { StandOnce outline.now.vars }
+    requires once { StandOnce outline.now.vars }
+    requires are_names { AreNames (net_tree net.now) names.now }
     ensures variables { IfOk result (λ own. own.variables ≡ declared_from first (outlined_faces (net_tree net.now) outline.now)) }
     ensures ifs { IfOk result (λ own. own.ifs ≡ outlined_ifs first outline.now) }
     ensures names { OnOk result (NamesNew (net_tree net.now) (outlined_new first outline.now) outline.now.vars new.new) }
+    ensures still_names { OnOk result (AreNames (net_tree net.now) names.new) }
+    ensures received { OnOk result (names.new.received ≡ name_for letter.T (outlined_sent first outline.now) (codes "sent")) }
     ensures in_range { OnOk result (new.new.in_range ≡ name_for letter.T (first + length (done_if outline.now.has_mark)) range_face.path) }
 {
     let mut own = OwnVariables {
@@ -102,6 +107,8 @@ fn declared(
     new.in_range = name_of(alloc, Letter::T, own.next, b"in_range")?;
     own.add_range(alloc, outline.tests_range)?;
     own.add_new(alloc, net, outline.vars.as_slice(), new)?;
+    names.received = name_of(alloc, Letter::T, own.next, b"sent")?;
+    own.add_sent(alloc, outline.sent)?;
     let ifs = own.next;
     own.add_ifs(alloc, outline.types.as_slice())?;
     let OwnVariables { variables, next: _ } = own;
@@ -139,17 +146,25 @@ fn statements(
 pub fn data_part_of(
     alloc: Global,
     net: &Net,
-    names: &Names,
+    names: &mut Names,
     choices: &[Choice],
     first: u32,
     tables: &mut Tables,
 ) -> Result<Boxed<Part>, Memory>
     requires names { AreNames (net_tree net.now) names.now }
     requires named { AllByRecursion (IsNamedChoice (net_tree net.now)) (map choice_tree choices.now) }
-    ensures { IfOk result (λ part. part_tree part ≡ part_for (net_tree net.now) first (map choice_tree choices.now)) }
+    ensures still_names { OnOk result (AreNames (net_tree net.now) names.new) }
+    ensures part { IfOk result (λ part. part_tree part ≡ part_for (net_tree net.now) first (map choice_tree choices.now)) }
 {
     let outline = outline_of(alloc, net, choices, &mut tables.marks)?;
-    let EventOwn { variables, ifs } = declared(alloc, net, &outline, first, &mut tables.new)?;
+    let EventOwn { variables, ifs } = declared(
+        alloc,
+        net,
+        &outline,
+        first,
+        &mut tables.new,
+        names,
+    )?;
     let marks = event_marks(alloc, first, outline.has_mark)?;
     let body = statements(
         alloc,
@@ -203,7 +218,7 @@ pub fn number_after(first: u32, count: usize) -> Result<u32, Memory>
 pub fn all_parts(
     alloc: Global,
     net: &Net,
-    names: &Names,
+    names: &mut Names,
     choices: &[Choice],
 ) -> Result<Parts, Memory>
     requires names { AreNames (net_tree net.now) names.now }
@@ -211,6 +226,7 @@ pub fn all_parts(
     requires ascending { Ascending 0 (map choice_tree choices.now) }
     ensures parts { IfOk result (λ all. map part_tree all.parts ≡ data_parts (net_tree net.now) (map choice_tree choices.now)) }
     ensures next { IfOk result (λ all. all.next ≡ 2 + length (own_variables (map part_tree all.parts))) }
+    ensures still_names { OnOk result (AreNames (net_tree net.now) names.new) }
 {
     let mut tables = Tables::new(alloc, net.vars.len())?;
     let mut rest = choices;

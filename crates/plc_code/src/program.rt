@@ -19,7 +19,7 @@ use std::alloc::Global;
 /// The number behind those of the most own variables, which are numbered from 2 on in 31 bits.
 const MOST_OWN: u32 = 2_147_483_648;
 
-/// The program of a net with data, of which no state invariant and no channel is left, where its parts fit into the frame. Own
+/// The program of a net with data, of which no state invariant is left, where its parts fit into the frame. Own
 /// variables past 31 bits are want of memory. The time is linear in the choices and in what is written.
 pub(crate) fn emit_fitting(
     alloc: Global,
@@ -40,8 +40,8 @@ pub(crate) fn emit_fitting(
     ensures makes { IfOk result (λ p. Makes (net_tree guarded.now.plain.net) bounds.unc bounds.con (view p)) }
 {
     let net = &guarded.plain.net;
-    let names = names_of(alloc, net)?;
-    let Parts { parts, next } = all_parts(alloc, net, &names, guarded.choices.as_slice())?;
+    let mut names = names_of(alloc, net)?;
+    let Parts { parts, next } = all_parts(alloc, net, &mut names, guarded.choices.as_slice())?;
     let made = shown_part_of(alloc, net, &names, next)?;
     let shown = made.into_inner();
     let last = number_after(next, shown.own.len())?;

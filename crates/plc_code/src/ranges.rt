@@ -1,4 +1,4 @@
-//! The tests that new values are in their ranges.
+//! The tests that new values, and what is sent, are in their ranges.
 
 ghost use Rattle.std.specs.Prelude.{◌≡◌, slice_get, IfOk};
 ghost use Rattle.cif_system.specs.System.{Range};
@@ -7,9 +7,11 @@ ghost use Rattle.st_ast.specs.Tree.{assign, order, named, no_stms, stms};
 ghost use Rattle.st_ast.specs.View.{view_expr, view_stmt, view_stmts};
 ghost use Rattle.st_ast.specs.declared.tree.StOrder.TheVariants as cmp;
 ghost use Rattle.plc_expr.specs.Texts.{number_text};
+ghost use Rattle.plc_act.specs.Sends as s;
 ghost use Rattle.plc_act.specs.Writes as w;
 ghost use Rattle.plc_code.specs.Writers.{new_names_of};
 
+use crate::selecting::tested;
 use crate::writing::NewTexts;
 use cif_base::{Boxed, Items, Memory, Text, Ty};
 use cif_net::Net;
@@ -51,6 +53,33 @@ fn stays_in(
     parts.push(from(alloc, lo, name)?.into_inner())?;
     parts.push(to(alloc, name, hi)?.into_inner())?;
     Boxed::new(alloc, StExpr::And(parts))
+}
+
+/// That the value with this name lies between these values.
+fn lies_in(alloc: Global, name: &Text, lo: i64, hi: i64) -> Result<Boxed<StExpr>, Memory>
+    ensures { IfOk result (λ e. view_expr e ≡ s.lies_in name.now (record { lo = lo; hi = hi })) }
+{
+    let mut parts = Items::only(alloc, from(alloc, lo, name)?.into_inner())?;
+    parts.push(to(alloc, name, hi)?.into_inner())?;
+    Boxed::new(alloc, StExpr::And(parts))
+}
+
+/// The statements where the sent value with this name is in the range of its channel.
+pub fn where_fits(
+    alloc: Global,
+    name: &Text,
+    ty: Ty,
+    body: Items<Stmt>,
+) -> Result<Items<Stmt>, Memory>
+    ensures { IfOk result (λ ss. view_stmts ss ≡ s.where_fits name.now ty (view_stmts body)) }
+{
+    match ty {
+        Ty::Int { lo, hi } => {
+            let test = lies_in(alloc, name, lo, hi)?;
+            Items::only(alloc, tested(alloc, test, body)?.into_inner())
+        }
+        Ty::Bool | Ty::Enum { size: _ } => Ok(body),
+    }
 }
 
 /// Keeps in the mark whether the new value of the variable lies between these values, too.

@@ -76,7 +76,7 @@ fn shows(
     };
     for (at, alg) in algs.iter().enumerate() {
         let value = definition(alloc, alg)?;
-        own_types_of(value.get(), net, &mut types)?;
+        own_types_of(value.get(), net, None, &mut types)?;
         let number = number_at(at)?;
         let path = alg.path.as_slice();
         show(alloc, names, number, path, value.get(), &mut draft)?;

@@ -1,7 +1,7 @@
 -- The parts of a net with data meet what the frame asks, so its program makes what a frame makes.
 use Rattle.std.proofs.Common.{◌≡◌, ℕ, suc, ◌+◌, ◌<◌, true, inl, inr, List, [], ◌∷◌, length, Option, Some, None, refl, ◌∙◌, ap, arith}
 use Rattle.std.specs.Prelude.{nat_eq, slice_get}
-use Rattle.std.specs.List.{list_all, range_with_len}
+use Rattle.std.specs.List.{range_with_len}
 use Rattle.std.proofs.lemmas.Bool.Decides.{nat_tests}
 use Rattle.cif_system.specs.System.{Event, System, unc, con}
 use Rattle.cif_system.specs.Step.{has_class}
@@ -19,7 +19,7 @@ use Rattle.plc_gen.specs.Makes.{Makes}
 use Rattle.plc_gen.proofs.GivenLaws.{given-makes}
 use Rattle.plc_gen.proofs.Making.{range-length}
 use Rattle.plc_act.specs.Parts.{event_faces}
-use Rattle.plc_parts.specs.Parts.{HasParts, is_no_channel, parts_from, data_parts, data_program, shown_first, shown_part}
+use Rattle.plc_parts.specs.Parts.{HasParts, parts_from, data_parts, data_program, shown_first, shown_part}
 use Rattle.plc_tries.proofs.Showing.{algs-shown}
 use Rattle.plc_tries.proofs.Tried.{all-tried}
 use Rattle.plc_sound.proofs.Own.{own-are-own}
@@ -52,7 +52,7 @@ nothing-listed (x ∷ xs) h = absurd (grind (arith, nat_tests))
 
 pub fit : (n : Net) (cs : List NetChoice) (U C : ℕ) → HasParts n cs U C → is_shallow n ≡ true → FrameFits n U C (data_parts n cs) (shown_part n (shown_first n cs))
 fit n cs U C h shallow = record {
-  no_invariants = nothing-listed n.invariants (and-left (nat_eq (length n.invariants) 0) (list_all is_no_channel n.events) h.silent);
+  no_invariants = nothing-listed n.invariants h.silent;
   one_each = parts-length n cs 2 (range_with_len 0 (length n.events)) ∙ range-length 0 (length n.events);
   own = own-are-own n cs U C h;
   spelled = program-spelled n cs U C h shallow;

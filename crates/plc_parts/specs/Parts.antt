@@ -1,9 +1,9 @@
 -- The parts of all events of a net with data, and the part that shows its algebraic variables. The own variables of an event are
 -- numbered after those of the events before it, those of the algebraic variables after those of all events, and the numbers 0
 -- and 1 are those of the mark that something fired and of the counter of rounds.
-use Rattle.std.specs.Prelude.{◌≡◌, ℕ, ◌+◌, ◌≤◌, true, Bool, false, ◌&&◌, nat_eq, List, [], ◌∷◌, ◌++◌, map, flat_map, length, None}
-use Rattle.std.specs.List.{list_all, enumerate_from, range_with_len}
-use Rattle.cif_model.specs.Net.{no_net_chan, NetAlg, NetEvent, Net}
+use Rattle.std.specs.Prelude.{◌≡◌, ℕ, ◌+◌, ◌≤◌, true, Bool, nat_eq, List, [], ◌∷◌, ◌++◌, map, flat_map, length, None}
+use Rattle.std.specs.List.{enumerate_from, range_with_len}
+use Rattle.cif_model.specs.Net.{NetAlg, Net}
 use Rattle.cif_model.specs.Inline.{defined_by}
 use Rattle.cif_model.specs.Rules.{is_plain}
 use Rattle.cif_model.specs.Listing.{NetChoice}
@@ -28,11 +28,11 @@ use Rattle.plc_act.specs.Parts.{event_faces, data_part}
 
 -- ---- parts
 
--- the part of an event with these choices, whose own variables are numbered from j; nothing is received
+-- the part of an event with these choices, whose own variables are numbered from j
 abbrev pub part_for : Net → ℕ → List NetChoice → EventPart
 part_for n j cs = record {
   own = map (declaration letter.T class.Plain) (enumerate_from j (event_faces n cs));
-  body = (data_part n fired j cs).body;
+  body = (data_part n j cs).body;
 }
 
 -- one event after the other
@@ -80,14 +80,11 @@ data_program n cs U C = framed_program n (data_parts n cs) (shown_part n (shown_
 
 -- ---- which nets have such a program
 
-abbrev pub is_no_channel : NetEvent → Bool
-is_no_channel e = elim e.chan [ no_net_chan ↦ true | _ ↦ false ]
-
--- no state invariant, and no channel
+-- no state invariant
 abbrev pub is_silent : Net → Bool
-is_silent n = nat_eq (length n.invariants) 0 && list_all is_no_channel n.events
+is_silent n = nat_eq (length n.invariants) 0
 
--- A plain net without state invariants and channels, with the choices of all its events, whose enumerations are numbered in 32
+-- A plain net without state invariants, with the choices of all its events, whose enumerations are numbered in 32
 -- bits. The own variables of all parts are numbered in 31 bits, and a scan has turns for all rounds.
 pub record HasParts (n : Net) (cs : List NetChoice) (U C : ℕ) : Type 0 where
   pub plain : is_plain n ≡ true

@@ -1,10 +1,10 @@
 -- The statements of the part of an event, and those that show the algebraic variables, break no check, where their own variables
 -- are declared one after another.
-use Rattle.std.proofs.Common.{◌≡◌, ℕ, suc, ◌+◌, Bool, true, false, ◌||◌, List, [], ◌∷◌, ◌++◌, map, flat_map, length, Some, None, nat_eq, refl, sym, ap, subst, ◌∙◌, arith, eqb-true, if◌then◌else◌}
+use Rattle.std.proofs.Common.{◌≡◌, ℕ, suc, ◌+◌, Bool, true, false, ◌||◌, List, [], ◌∷◌, ◌++◌, map, flat_map, length, Option, Some, None, nat_eq, refl, sym, ap, subst, ◌∙◌, arith, eqb-true, if◌then◌else◌}
 use Rattle.std.specs.Prelude.{option_map, slice_get}
 use Rattle.std.specs.List.{AllByRecursion, list_any}
 use Rattle.std.proofs.lemmas.Option.{slice_get-map}
-use Rattle.cif_system.proofs.Lists.{map-length}
+use Rattle.cif_system.proofs.Lists.{map-length, none-some}
 use Rattle.cif_term.specs.Tree.{NetExpr}
 use Rattle.cif_base.specs.declared.types.Ty.{Ty}
 use Rattle.cif_base.specs.declared.types.Ty.TheVariants as cif_ty
@@ -15,6 +15,7 @@ use Rattle.cif_model.specs.Facts.{has}
 use Rattle.cif_model.specs.Kinds.{Kind, bool_kind, fits, is_bool, kind_of}
 use Rattle.cif_model.specs.Listing.{NetChoice}
 use Rattle.cif_model.specs.Reads.{names_no_alg}
+use Rattle.cif_model.specs.Table.{carried_type}
 use Rattle.st_ast.specs.Tree.{Expr, Stms, assign, no_stms, stms}
 use Rattle.st_ast.specs.Names.{declared}
 use Rattle.st_ast.specs.Checks.{can_be_assigned, is_same_sort, sort_of_type, stm_faults}
@@ -35,15 +36,17 @@ use Rattle.plc_gen.specs.Events.{done_face, moves_text, own_name}
 use Rattle.plc_gen.proofs.Checking.{AllChecked, checked-append}
 use Rattle.plc_gen.proofs.Declaring.{AllDeclared, declared-at}
 use Rattle.plc_expr.specs.Texts.{Naming, before, temps, text}
-use Rattle.plc_expr.specs.Sorts.{AreOwn, HasSort, NamesHaveSorts, OwnIs, own_types, sort_by}
+use Rattle.plc_expr.specs.Sorts.{AreOwn, HasSort, NamesHaveSorts, OwnIs, is_bool_type as is_bool_sent, own_types, sort_by}
 use Rattle.plc_expr.proofs.Checking.{AllChecked as ExprChecked, expr-checked, text-sorted}
 use Rattle.plc_expr.proofs.Sorting.{own-both, types-length}
 use Rattle.plc_act.specs.Writes.{NewNames, any_tested}
-use Rattle.plc_act.specs.Own.{choice_temps, choice_types, data_faces, data_naming, event_vars, if_face, new_face, new_face_of, new_names, new_type, place_in, range_face, range_faces, tests_range, updates_types, variable_name}
+use Rattle.plc_act.specs.Acts.{act}
+use Rattle.plc_act.specs.Sends.{event_type, sent_temps}
+use Rattle.plc_act.specs.Own.{choice_temps, choice_types, data_faces, data_naming, event_vars, faces_sent, if_face, new_face, new_face_of, new_names, new_type, place_in, range_face, range_faces, sent_face, sent_faces, sent_number, sent_type, sent_types, tests_range, updates_types, variable_name}
 use Rattle.plc_act.specs.Events.{all_written, data_written}
-use Rattle.plc_act.specs.Parts.{data_first, data_part, done_faces, event_faces, ifs_from, needs_done}
-use Rattle.plc_act.proofs.Clean.{act-clean}
-use Rattle.plc_act.proofs.Parts.{choice-length, mark-is}
+use Rattle.plc_act.specs.Parts.{data_first, data_part, done_faces, event_faces, event_naming, ifs_from, needs_done}
+use Rattle.plc_act.proofs.Clean.{act-clean, name-sort, sends-clean, sort-of-sent}
+use Rattle.plc_act.proofs.Parts.{choice-length, mark-is, sent-length}
 use Rattle.plc_act.proofs.Targets.{has-append, once-all, target-there, tested-any}
 use Rattle.plc_parts.specs.Definitions.{IsDefinition}
 use Rattle.plc_parts.specs.Parts.{defined_types, shown_text}
@@ -94,12 +97,13 @@ module _ (n : Net) (vars : List StVar) (names : NamesHaveSorts vars (data_naming
   abbrev w : Naming
   w = data_naming n fired
 
+  -- the own variables have the same names whatever the received value has
   ifs-own : (k : ℕ) (us : List StTy) → AllDeclared vars letter.T class.Plain k (map if_face us) → AreOwn vars w k us
   ifs-own k [] h = tt
   ifs-own k (u ∷ us) h = (own-at vars k (if_face u) h.0, ifs-own (k + 1) us h.1)
 
-  own_length : (e : NetExpr) → length (own_types n None e) ≡ temps e
-  own_length e = types-length n None e
+  own_length : (r : Option Ty) (e : NetExpr) → length (own_types n r e) ≡ temps e
+  own_length r e = types-length n r e
 
   module _ (ds : List NetChoice) (j : ℕ) (all : AllDeclared vars letter.T class.Plain j (event_faces n ds)) where
     abbrev first : ℕ
@@ -108,20 +112,31 @@ module _ (n : Net) (vars : List StVar) (names : NamesHaveSorts vars (data_naming
     abbrev y : NewNames
     y = new_names n ds (data_first n ds j)
 
+    -- how its expressions are written
+    abbrev v : Naming
+    v = event_naming n ds j
+
     abbrev news : List VariableFace
     news = map (new_face n) (event_vars ds)
 
     abbrev ifs : List VariableFace
-    ifs = map if_face (flat_map (choice_types n None) ds)
+    ifs = map if_face (flat_map (choice_types n) ds)
 
-    dones : AllDeclared vars letter.T class.Plain j (done_faces n ds) × AllDeclared vars letter.T class.Plain first (data_faces n None ds)
-    dones = declared-parts vars letter.T class.Plain j (done_faces n ds) (data_faces n None ds) all
+    dones : AllDeclared vars letter.T class.Plain j (done_faces n ds) × AllDeclared vars letter.T class.Plain first (data_faces n ds)
+    dones = declared-parts vars letter.T class.Plain j (done_faces n ds) (data_faces n ds) all
 
-    ranges : AllDeclared vars letter.T class.Plain first (range_faces n ds) × AllDeclared vars letter.T class.Plain (first + length (range_faces n ds)) (news ++ ifs)
-    ranges = declared-parts vars letter.T class.Plain first (range_faces n ds) (news ++ ifs) dones.1
+    ranges : AllDeclared vars letter.T class.Plain first (range_faces n ds) × AllDeclared vars letter.T class.Plain (first + length (range_faces n ds)) (news ++ (sent_faces n ds ++ ifs))
+    ranges = declared-parts vars letter.T class.Plain first (range_faces n ds) (news ++ (sent_faces n ds ++ ifs)) dones.1
 
-    others : AllDeclared vars letter.T class.Plain (first + length (range_faces n ds)) news × AllDeclared vars letter.T class.Plain (first + length (range_faces n ds) + length news) ifs
-    others = declared-parts vars letter.T class.Plain (first + length (range_faces n ds)) news ifs ranges.1
+    others : AllDeclared vars letter.T class.Plain (first + length (range_faces n ds)) news × AllDeclared vars letter.T class.Plain (first + length (range_faces n ds) + length news) (sent_faces n ds ++ ifs)
+    others = declared-parts vars letter.T class.Plain (first + length (range_faces n ds)) news (sent_faces n ds ++ ifs) ranges.1
+
+    sents : AllDeclared vars letter.T class.Plain (sent_number n ds first) (sent_faces n ds) × AllDeclared vars letter.T class.Plain (sent_number n ds first + length (sent_faces n ds)) ifs
+    sents = declared-parts vars letter.T class.Plain (sent_number n ds first) (sent_faces n ds) ifs
+        (subst (λ l. AllDeclared vars letter.T class.Plain (first + length (range_faces n ds) + l) (sent_faces n ds ++ ifs)) (map-length (new_face n) (event_vars ds)) others.1)
+
+    sent-own : (t : Ty) → event_type n ds ≡ Some t → OwnIs vars v.received (sent_type t)
+    sent-own t is = own-at vars (sent_number n ds first) (sent_face t) (subst (λ o. AllDeclared vars letter.T class.Plain (sent_number n ds first) (faces_sent o)) is sents.0).0
 
     done-own : needs_done n ds ≡ true → OwnIs vars (own_name (j, done_face)) ty.Bool
     done-own t = own-at vars j done_face (subst (λ b. AllDeclared vars letter.T class.Plain j (if b then done_face ∷ [] else [])) t dones.0).0
@@ -136,45 +151,67 @@ module _ (n : Net) (vars : List StVar) (names : NamesHaveSorts vars (data_naming
         (declared-at vars letter.T class.Plain (first + length (range_faces n ds)) news (place_in (event_vars ds) i) (new_face n i) others.0
         (slice_get-map (new_face n) (event_vars ds) (place_in (event_vars ds) i) ∙ ap (option_map (new_face n)) (position-at (event_vars ds) i here))))
 
-    all-own : AreOwn vars w (ifs_from n ds j) (flat_map (choice_types n None) ds)
-    all-own = ifs-own (ifs_from n ds j) (flat_map (choice_types n None) ds)
-        (subst (λ l. AllDeclared vars letter.T class.Plain (first + length (range_faces n ds) + l) ifs) (map-length (new_face n) (event_vars ds)) others.1)
+    all-own : AreOwn vars v (ifs_from n ds j) (flat_map (choice_types n) ds)
+    all-own = same-own (ifs_from n ds j) (flat_map (choice_types n) ds) (ifs-own (ifs_from n ds j) (flat_map (choice_types n) ds) sents.1)
+      where
+        same-own : (k : ℕ) (us : List StTy) → AreOwn vars w k us → AreOwn vars v k us
+        same-own k [] o = tt
+        same-own k (u ∷ us) o = (o.0, same-own (k + 1) us o.1)
 
     -- ---- its choices
 
-    text-sort : (kind : Kind) (k : ℕ) (e : NetExpr) → fits n None kind e ≡ true → names_no_alg e ≡ true → AreOwn vars w k (own_types n None e) → HasSort vars (text w k e) (is_bool kind)
-    text-sort kind k e h none o = text-sorted vars w n None kind k e names h none o
+    -- the names, where something of this type is received
+    module _ (r : Option Ty) (received : (t : Ty) → r ≡ Some t → OwnIs vars v.received (sent_type t)) where
+      event-names : NamesHaveSorts vars v n r
+      event-names = record {
+        located = names.located;
+        variable = names.variable;
+        input = names.input;
+        received = λ t is. name-sort vars v.received (sent_type t) (is_bool_sent t) (received t is) (sort-of-sent t);
+      }
 
-    before-clean : (kind : Kind) (k : ℕ) (e : NetExpr) → fits n None kind e ≡ true → names_no_alg e ≡ true → AreOwn vars w k (own_types n None e) → AllChecked vars (before w k e)
-    before-clean kind k e h none o = same-checked vars (before w k e) (expr-checked vars w n None names kind k e h none o)
+      text-sort : (kind : Kind) (k : ℕ) (e : NetExpr) → fits n r kind e ≡ true → names_no_alg e ≡ true → AreOwn vars v k (own_types n r e) → HasSort vars (text v k e) (is_bool kind)
+      text-sort kind k e h none o = text-sorted vars v n r kind k e event-names h none o
 
-    written-checked : (c : NetChoice) (k : ℕ) → Told n c → ((v : ℕ) → has (targets c.writes) v ≡ true → has (event_vars ds) v ≡ true) → (any_tested n c.writes ≡ true → tests_range n ds ≡ true)
-        → AreOwn vars w k (choice_types n None c) → WrittenChecked vars (data_written n w y k c)
-    written-checked c k t sub tests o =
-        let q = own-both vars w k (temps c.test) (own_types n None c.test) (updates_types n None c.writes) (own_length c.test) o in
+      before-clean : (kind : Kind) (k : ℕ) (e : NetExpr) → fits n r kind e ≡ true → names_no_alg e ≡ true → AreOwn vars v k (own_types n r e) → AllChecked vars (before v k e)
+      before-clean kind k e h none o = same-checked vars (before v k e) (expr-checked vars v n r event-names kind k e h none o)
+
+    none-received : (t : Ty) → None ≡ Some t → OwnIs vars v.received (sent_type t)
+    none-received t is = absurd (none-some t is)
+
+    written-checked : (c : NetChoice) (k : ℕ) → Told n c → ((i : ℕ) → has (targets c.writes) i ≡ true → has (event_vars ds) i ≡ true) → (any_tested n c.writes ≡ true → tests_range n ds ≡ true)
+        → carried_type n c ≡ event_type n ds → AreOwn vars v k (choice_types n c) → WrittenChecked vars (data_written n v y k c)
+    written-checked c k t sub tests carried o =
+        let q = own-both vars v k (temps c.test) (own_types n None c.test) (sent_types n c.sent ++ updates_types n (carried_type n c) c.writes) (own_length None c.test) o in
+        let r = own-both vars v (k + temps c.test) (sent_temps c.sent) (sent_types n c.sent) (updates_types n (carried_type n c) c.writes) (sent-length n own_length c.sent) q.1 in
+        let received = λ (u : Ty) (is : carried_type n c ≡ Some u). sent-own u (sym carried ∙ is) in
         record {
-          before = before-clean bool_kind k c.test t.test t.test_names q.0;
-          test = text-sort bool_kind k c.test t.test t.test_names q.0;
+          before = before-clean None none-received bool_kind k c.test t.test t.test_names q.0;
+          test = text-sort None none-received bool_kind k c.test t.test t.test_names q.0;
           act = λ rest clean.
-              act-clean n vars w y own_length (λ i. has (targets c.writes) i ≡ true) text-sort before-clean (λ i d here at. next-own i d (sub i here) at) (λ i here is. range-own (tests (tested-any n i is c.writes here)))
-              (λ i here. target-there n None i c.writes t.writes here) (λ i d here at. values i d at) c.writes (k + temps c.test) (moves_text n c.moves rest) (λ i h. h) (λ is. range-own (tests is)) q.1 t.writes t.writes_names
-              (moves-checked vars n places c.moves rest clean);
+              sends-clean n vars v (text-sort None none-received) (before-clean None none-received) c.sent (carried_type n c) (k + temps c.test) (act n v y (k + temps c.test + sent_temps c.sent) c.writes (moves_text n c.moves rest))
+              received r.0 t.sent t.sent_names
+              (act-clean n (carried_type n c) vars v y (own_length (carried_type n c)) (λ i. has (targets c.writes) i ≡ true) (text-sort (carried_type n c) received) (before-clean (carried_type n c) received)
+              (λ i d here at. next-own i d (sub i here) at) (λ i here is. range-own (tests (tested-any n i is c.writes here)))
+              (λ i here. target-there n (carried_type n c) i c.writes t.writes here) (λ i d here at. values i d at) c.writes (k + temps c.test + sent_temps c.sent) (moves_text n c.moves rest) (λ i h. h) (λ is. range-own (tests is)) r.1 t.writes t.writes_names
+              (moves-checked vars n places c.moves rest clean));
         }
 
-    all-checked : (cs : List NetChoice) (k : ℕ) → AllByRecursion (Told n) cs → ((v : ℕ) → has (flat_map (λ (c : NetChoice). targets c.writes) cs) v ≡ true → has (event_vars ds) v ≡ true)
-        → (list_any (λ (c : NetChoice). any_tested n c.writes) cs ≡ true → tests_range n ds ≡ true) → AreOwn vars w k (flat_map (choice_types n None) cs) → AllByRecursion (WrittenChecked vars) (all_written n w y k cs)
-    all-checked [] k t sub tests o = tt
-    all-checked (c ∷ cs) k t sub tests o =
-        let q = own-both vars w k (choice_temps c) (choice_types n None c) (flat_map (choice_types n None) cs) (choice-length n own_length c) o in (
-          written-checked c k t.0 (λ v h. sub v (has-append (targets c.writes) (flat_map (λ (d : NetChoice). targets d.writes) cs) v ∙ in-left _ _ h)) (λ is. tests (in-left _ _ is)) q.0,
-          all-checked cs (k + choice_temps c) t.1 (λ v h. sub v (has-append (targets c.writes) (flat_map (λ (d : NetChoice). targets d.writes) cs) v ∙ in-right _ _ h)) (λ is. tests (in-right _ _ is)) q.1,
+    all-checked : (cs : List NetChoice) (k : ℕ) → AllByRecursion (Told n) cs → ((i : ℕ) → has (flat_map (λ (c : NetChoice). targets c.writes) cs) i ≡ true → has (event_vars ds) i ≡ true)
+        → (list_any (λ (c : NetChoice). any_tested n c.writes) cs ≡ true → tests_range n ds ≡ true) → AllByRecursion (λ (c : NetChoice). carried_type n c ≡ event_type n ds) cs
+        → AreOwn vars v k (flat_map (choice_types n) cs) → AllByRecursion (WrittenChecked vars) (all_written n v y k cs)
+    all-checked [] k t sub tests carried o = tt
+    all-checked (c ∷ cs) k t sub tests carried o =
+        let q = own-both vars v k (choice_temps c) (choice_types n c) (flat_map (choice_types n) cs) (choice-length n own_length c) o in (
+          written-checked c k t.0 (λ i h. sub i (has-append (targets c.writes) (flat_map (λ (d : NetChoice). targets d.writes) cs) i ∙ in-left _ _ h)) (λ is. tests (in-left _ _ is)) carried.0 q.0,
+          all-checked cs (k + choice_temps c) t.1 (λ i h. sub i (has-append (targets c.writes) (flat_map (λ (d : NetChoice). targets d.writes) cs) i ∙ in-right _ _ h)) (λ is. tests (in-right _ _ is)) carried.1 q.1,
         )
 
-    pub part-checked : AllByRecursion (Told n) ds → AllChecked vars (data_part n fired j ds).body
-    part-checked t =
-        event-checked vars mark (own_name (j, done_face)) (all_written n w y (ifs_from n ds j) ds)
-        (all-checked ds (ifs_from n ds j) t (λ v h. once-all (flat_map (λ (c : NetChoice). targets c.writes) ds) v ∙ h) (λ is. is) all-own)
-        (λ is. done-own (sym (mark-is n w y (ifs_from n ds j) ds) ∙ is))
+    pub part-checked : AllByRecursion (Told n) ds → AllByRecursion (λ (c : NetChoice). carried_type n c ≡ event_type n ds) ds → AllChecked vars (data_part n j ds).body
+    part-checked t carried =
+        event-checked vars mark (own_name (j, done_face)) (all_written n v y (ifs_from n ds j) ds)
+        (all-checked ds (ifs_from n ds j) t (λ i h. once-all (flat_map (λ (c : NetChoice). targets c.writes) ds) i ∙ h) (λ is. is) carried all-own)
+        (λ is. done-own (sym (mark-is n v y (ifs_from n ds j) ds) ∙ is))
 
   -- ---- the algebraic variables
 
@@ -201,7 +238,7 @@ module _ (n : Net) (vars : List StVar) (names : NamesHaveSorts vars (data_naming
       let e : NetExpr = defined_by a in
       let kind : Kind = kind_of a.type_of a.literals in
       let d = defs.0 in
-      let q = own-both vars w k (temps e) (own_types n None e) (defined_types n as') (own_length e) own in
+      let q = own-both vars w k (temps e) (own_types n None e) (defined_types n as') (own_length None e) own in
       checked-append vars (before w k e) (stms (assign (name_for letter.R i a.path) (text w k e)) (shown_text w (i + 1) (k + temps e) as'))
       (same-checked vars (before w k e) (expr-checked vars w n None names kind k e d.fit d.names q.0)) (
         (λ j. assign-checked (name_for letter.R i a.path) (text w k e) (declaration letter.R class.Output (i, alg_face (alg_face_of a))) (is_bool kind) at.0 refl (alg-sort a.type_of a.literals)

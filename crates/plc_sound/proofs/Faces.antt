@@ -14,6 +14,7 @@ use Rattle.cif_model.specs.Net.{NetAlg, NetStored, Net}
 use Rattle.cif_model.specs.Inline.{defined_by}
 use Rattle.cif_model.specs.Listing.{NetChoice}
 use Rattle.cif_model.specs.Meaning.{type_range}
+use Rattle.cif_model.specs.Table.{carried_type}
 use Rattle.cif_model.specs.Facts.{is_type, stored_stands}
 use Rattle.st_ast.specs.declared.tree.StTy.{StTy}
 use Rattle.st_ast.specs.declared.tree.StTy.TheVariants as ty
@@ -23,8 +24,9 @@ use Rattle.plc_gen.specs.Small.{are_small, is_small}
 use Rattle.plc_gen.specs.Events.{choices_of, done_face}
 use Rattle.plc_gen.proofs.Declaring.{Sound}
 use Rattle.plc_gen.proofs.Spelling.{FaceSpelled}
-use Rattle.plc_expr.specs.Sorts.{branches_types, factors_types, form_types, is_boolean, list_types, own_types, terms_types, type_by}
-use Rattle.plc_act.specs.Own.{bodies_types, choice_types, conditions_types, data_faces, event_vars, if_face, new_face, new_face_of, new_type, range_face, range_faces, tests_range, updates_types, update_types}
+use Rattle.plc_expr.specs.Sorts.{branches_types, factors_types, form_types, is_bool_type as is_bool_sent, is_boolean, list_types, own_types, terms_types, type_by}
+use Rattle.plc_act.specs.Own.{bodies_types, choice_types, conditions_types, data_faces, event_vars, faces_sent, if_face, new_face, new_face_of, new_type, range_face, range_faces, sent_faces, sent_types, tests_range, updates_types, update_types}
+use Rattle.plc_act.specs.Sends.{event_type}
 use Rattle.plc_act.specs.Parts.{done_faces, event_faces, needs_done}
 use Rattle.plc_parts.specs.Parts.{defined_types, shown_faces}
 use Rattle.plc_sound.proofs.Literals.{first-spelled, type-spelled}
@@ -114,11 +116,16 @@ module _ (n : Net) (r : Option Ty) where
     bodies-plain no_net_update_branches = tt
     bodies-plain (net_update_branches c us bs) = two (updates_types n r us) (bodies_types n r bs) (updates-plain us) (bodies-plain bs)
 
-choices-plain : (n : Net) (cs : List NetChoice) → AllPlain (flat_map (choice_types n None) cs)
+sent-plain : (n : Net) (e : Option NetExpr) → AllPlain (sent_types n e)
+sent-plain n None = tt
+sent-plain n (Some e) = expr-plain n None e
+
+choices-plain : (n : Net) (cs : List NetChoice) → AllPlain (flat_map (choice_types n) cs)
 choices-plain n [] = tt
 choices-plain n (c ∷ cs) =
-    all-both Plain (choice_types n None c) (flat_map (choice_types n None) cs)
-    (all-both Plain (own_types n None c.test) (updates_types n None c.writes) (expr-plain n None c.test) (updates-plain n None c.writes)) (choices-plain n cs)
+    all-both Plain (choice_types n c) (flat_map (choice_types n) cs)
+    (all-both Plain (own_types n None c.test) (sent_types n c.sent ++ updates_types n (carried_type n c) c.writes) (expr-plain n None c.test)
+    (all-both Plain (sent_types n c.sent) (updates_types n (carried_type n c) c.writes) (sent-plain n c.sent) (updates-plain n (carried_type n c) c.writes))) (choices-plain n cs)
 
 ifs-good : (us : List StTy) → AllPlain us → AllGood (map if_face us)
 ifs-good [] h = tt
@@ -178,11 +185,22 @@ module _ (n : Net) (vars : list_all stored_stands n.vars ≡ true) (small : are_
   flag-good : (path : Text) → Good (record { path = path; ty = ty.Bool; first = pos 0 })
   flag-good path = record { sound = record { type = refl; first = refl }; spelled = record { type = refl; first = refl } }
 
+  -- FALSE or 0
+  sent-good : (t : Option Ty) → AllGood (faces_sent t)
+  sent-good None = tt
+  sent-good (Some u) = (go (is_bool_sent u), tt)
+    where
+      go : (b : Bool) → Good (record { path = codes "sent"; ty = type_by b; first = pos 0 })
+      go true = record { sound = record { type = refl; first = refl }; spelled = record { type = refl; first = refl } }
+      go false = record { sound = record { type = refl; first = refl }; spelled = record { type = refl; first = refl } }
+
   event-good : (cs : List NetChoice) → AllGood (event_faces n cs)
   event-good cs =
-      all-both Good (done_faces n cs) (data_faces n None cs) (bool-good done_face (flag-good (codes "done")) (needs_done n cs))
-      (all-both Good (range_faces n cs) (map (new_face n) (event_vars cs) ++ map if_face (flat_map (choice_types n None) cs)) (bool-good range_face (flag-good (codes "in_range")) (tests_range n cs))
-      (all-both Good (map (new_face n) (event_vars cs)) (map if_face (flat_map (choice_types n None) cs)) (news-good (event_vars cs)) (ifs-good (flat_map (choice_types n None) cs) (choices-plain n cs))))
+      let ifs : List VariableFace = map if_face (flat_map (choice_types n) cs) in
+      all-both Good (done_faces n cs) (data_faces n cs) (bool-good done_face (flag-good (codes "done")) (needs_done n cs))
+      (all-both Good (range_faces n cs) (map (new_face n) (event_vars cs) ++ (sent_faces n cs ++ ifs)) (bool-good range_face (flag-good (codes "in_range")) (tests_range n cs))
+      (all-both Good (map (new_face n) (event_vars cs)) (sent_faces n cs ++ ifs) (news-good (event_vars cs))
+      (all-both Good (sent_faces n cs) ifs (sent-good (event_type n cs)) (ifs-good (flat_map (choice_types n) cs) (choices-plain n cs)))))
 
   pub faces-good : (cs : List NetChoice) (es : List ℕ) → AllGood (faces_of n cs es)
   faces-good cs [] = tt

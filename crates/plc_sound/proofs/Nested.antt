@@ -15,28 +15,28 @@ use Rattle.cif_nesting.specs.Nesting.{is_shallow, update_depth, updates_depth}
 
 -- updates that nest no deeper than is allowed
 abbrev pub Shallow : NetUpdates → Type 0
-Shallow us = updates_depth us ≤ 396
+Shallow us = updates_depth us ≤ 395
 
 both-shallow : (us vs : NetUpdates) → Shallow us → Shallow vs → Shallow (both us vs)
 both-shallow no_net_updates vs a b = b
 both-shallow (net_updates u us) vs a b =
-    let top : max (update_depth u) (updates_depth us) ≤ 396 = a in
+    let top : max (update_depth u) (updates_depth us) ≤ 395 = a in
     let rest = both-shallow us vs (omega (arith, top)) b in
     omega (arith, top, rest)
 
-edge-shallow : (x : NetEdge) → nat_le (updates_depth x.updates) 396 ≡ true → Shallow x.updates
+edge-shallow : (x : NetEdge) → nat_le (updates_depth x.updates) 395 ≡ true → Shallow x.updates
 edge-shallow x h = below (updates_depth x.updates) h
   where
-    below : (d : ℕ) → nat_le d 396 ≡ true → d ≤ 396
+    below : (d : ℕ) → nat_le d 395 ≡ true → d ≤ 395
     below d h = grind (arith, nat_tests)
 
 abbrev AutoShallow : NetAuto → Type 0
-AutoShallow a = list_all (λ (x : NetEdge). nat_le (updates_depth x.updates) 396) a.edges ≡ true
+AutoShallow a = list_all (λ (x : NetEdge). nat_le (updates_depth x.updates) 395) a.edges ≡ true
 
-autos-shallow : (as' : List NetAuto) → list_all (λ (x : NetEdge). nat_le (updates_depth x.updates) 396) (flat_map (λ (a : NetAuto). a.edges) as') ≡ true → AllByRecursion AutoShallow as'
+autos-shallow : (as' : List NetAuto) → list_all (λ (x : NetEdge). nat_le (updates_depth x.updates) 395) (flat_map (λ (a : NetAuto). a.edges) as') ≡ true → AllByRecursion AutoShallow as'
 autos-shallow [] h = tt
 autos-shallow (a ∷ as') h =
-    let q = sym (list_all-append (λ (x : NetEdge). nat_le (updates_depth x.updates) 396) a.edges (flat_map (λ (b : NetAuto). b.edges) as')) ∙ h in
+    let q = sym (list_all-append (λ (x : NetEdge). nat_le (updates_depth x.updates) 395) a.edges (flat_map (λ (b : NetAuto). b.edges) as')) ∙ h in
     (and-left _ _ q, autos-shallow as' (and-right _ _ q))
 
 taken-shallow : (as' : List NetAuto) (ch : Choice) → AllByRecursion AutoShallow as' → Shallow (writes_of (filter_map edge_at (zip as' ch)))
@@ -47,7 +47,7 @@ taken-shallow (a ∷ as') (Some k ∷ ch) h = by (slice_get a.edges k) refl (tak
   where
     by : (o : Option NetEdge) → slice_get a.edges k ≡ o → Shallow (writes_of (filter_map edge_at (zip as' ch))) → Shallow (writes_of (cons_option o (filter_map edge_at (zip as' ch))))
     by None at rest = rest
-    by (Some x) at rest = both-shallow x.updates (writes_of (filter_map edge_at (zip as' ch))) (edge-shallow x (all-at (λ (z : NetEdge). nat_le (updates_depth z.updates) 396) a.edges k x h.0 at)) rest
+    by (Some x) at rest = both-shallow x.updates (writes_of (filter_map edge_at (zip as' ch))) (edge-shallow x (all-at (λ (z : NetEdge). nat_le (updates_depth z.updates) 395) a.edges k x h.0 at)) rest
 
 pub all-shallow : (n : Net) (cs : List NetChoice) → is_shallow n ≡ true → IsGuarded n cs → AllByRecursion (λ (c : NetChoice). Shallow c.writes) cs
 all-shallow n cs shallow guarded =

@@ -42,6 +42,8 @@ use Rattle.plc_gen.proofs.Spelling.{FaceSpelled, append-spelled, both-true, copi
 use Rattle.plc_expr.specs.Sorts.{HasSort, NamesHaveSorts, OwnIs, is_bool_type, sort_by}
 use Rattle.plc_act.specs.Own.{data_naming, path_of}
 use Rattle.plc_act.specs.Parts.{data_part, event_faces}
+use Rattle.plc_act.proofs.Parts.{one-type}
+use Rattle.plc_act.proofs.Trying.{of-event}
 use Rattle.plc_parts.specs.Definitions.{IsDefinition}
 use Rattle.plc_parts.specs.Parts.{HasParts, data_parts, data_program, parts_from, shown_faces, shown_first, shown_text}
 use Rattle.plc_parts.proofs.Defined.{all-defined}
@@ -60,7 +62,7 @@ use Rattle.plc_sound.proofs.Worded.{part-spelled, shown-spelled}
 module _ (n : Net) (cs : List NetChoice) where
   -- what holds of the statements of each event, holds of the part of each number
   every-part : (P : Stms → Type 0) (vars : List StVar) → P no_stms
-      → ((j e : ℕ) → AllDeclared vars letter.T class.Plain j (event_faces n (choices_of cs e)) → P (data_part n fired j (choices_of cs e)).body)
+      → ((j e : ℕ) → AllDeclared vars letter.T class.Plain j (event_faces n (choices_of cs e)) → P (data_part n j (choices_of cs e)).body)
       → (j : ℕ) (es : List ℕ) → AllDeclared vars letter.T class.Plain j (faces_of n cs es) → (k : ℕ) → P (part_or_none (slice_get (map asked (parts_from n cs j es)) k)).body
   every-part P vars none each j [] all k = none
   every-part P vars none each j (e ∷ es) all zero = each j e (declared-parts vars letter.T class.Plain j (event_faces n (choices_of cs e)) (faces_of n cs es) all).0
@@ -111,7 +113,7 @@ module _ (n : Net) (cs : List NetChoice) (U C : ℕ) (has : HasParts n cs U C) w
   facts = standing n net
 
   no_invariants : n.invariants ≡ []
-  no_invariants = none-of n.invariants (and-left _ _ has.silent)
+  no_invariants = none-of n.invariants has.silent
 
   definitions : AllByRecursion (IsDefinition n) n.algs
   definitions = all-defined n has.plain
@@ -123,7 +125,7 @@ module _ (n : Net) (cs : List NetChoice) (U C : ℕ) (has : HasParts n cs U C) w
   all-good = all-both Good (events_faces n cs) (shown_faces n) (faces-good n facts.vars has.small_variables cs (range_with_len 0 (length n.events))) (shown-good n)
 
   told : AllByRecursion (Told n) cs
-  told = all-told n cs (and-right _ _ has.silent) has.guarded
+  told = all-told n cs net has.guarded
 
   told-of : (e : ℕ) → AllByRecursion (Told n) (choices_of cs e)
   told-of e = all-filter (Told n) (λ (c : NetChoice). nat_eq c.event e) cs told
@@ -182,7 +184,7 @@ module _ (n : Net) (cs : List NetChoice) (U C : ℕ) (has : HasParts n cs U C) w
       every-part n cs (AllChecked p.vars) p.vars tt
       (λ j e all.
       part-checked n p.vars names-sorted (stored-own p.vars letter.V n.vars values) (place-declared n (declared_from 2 (all_faces n cs)) parts last U C net no_invariants letters)
-      (mark_declared n (declared_from 2 (all_faces n cs)) parts last U C net no_invariants letters) (choices_of cs e) j all (told-of e)) 2 (range_with_len 0 (length n.events)) both-owns.0 k
+      (mark_declared n (declared_from 2 (all_faces n cs)) parts last U C net no_invariants letters) (choices_of cs e) j all (told-of e) (one-type n e (choices_of cs e) (of-event cs e))) 2 (range_with_len 0 (length n.events)) both-owns.0 k
 
   last-checked : AllChecked p.vars last
   last-checked =

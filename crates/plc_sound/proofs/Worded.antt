@@ -11,6 +11,7 @@ use Rattle.cif_model.specs.Unfolding.{at_or as or_none}
 use Rattle.cif_model.specs.Inline.{defined_by}
 use Rattle.cif_model.specs.Kinds.{Kind, bool_kind, kind_of, places_of}
 use Rattle.cif_model.specs.Listing.{NetChoice, NetMove}
+use Rattle.cif_model.specs.Table.{carried_type}
 use Rattle.st_ast.specs.Tokens.{greatest}
 use Rattle.st_ast.specs.Grammar.{at_or}
 use Rattle.st_ast.specs.Spelled.{are_branches, are_stms, is_expr, is_name, is_type_spelled, is_whole_expr}
@@ -27,13 +28,15 @@ use Rattle.plc_expr.specs.Texts.{Naming, before, temps, text}
 use Rattle.plc_expr.specs.Sorts.{NamesAreSpelled}
 use Rattle.plc_expr.proofs.Spelling.{statements-spelled, text-spelled}
 use Rattle.plc_act.specs.Writes.{NewNames}
-use Rattle.plc_act.specs.Own.{choice_temps, data_naming, event_vars, new_face, new_names, path_of, place_in, range_face, range_faces}
+use Rattle.plc_act.specs.Own.{choice_temps, data_naming, event_vars, new_face, new_names, path_of, place_in, range_face, range_faces, sent_name, sent_number}
 use Rattle.plc_act.specs.Events.{all_written, data_written}
-use Rattle.plc_act.specs.Parts.{data_first, data_part, ifs_from}
+use Rattle.plc_act.specs.Parts.{data_first, data_part, event_naming, ifs_from}
+use Rattle.plc_act.specs.Acts.{act}
+use Rattle.plc_act.specs.Sends.{sent_temps}
 use Rattle.plc_parts.specs.Definitions.{IsDefinition}
 use Rattle.plc_parts.specs.Parts.{shown_text}
 use Rattle.plc_sound.proofs.Nested.{Shallow}
-use Rattle.plc_sound.proofs.Spelled.{act-spelled, before-spelled, whole-spelled}
+use Rattle.plc_sound.proofs.Spelled.{act-spelled, before-spelled, sends-spelled, whole-spelled}
 use Rattle.plc_sound.proofs.Told.{Told}
 
 -- ---- events
@@ -100,12 +103,12 @@ module _ (n : Net) (small : (k : ℕ) → places_of (slice_get n.autos k) ≤ gr
       let few = small a in
       both-true (is_name (place_name n a)) (nat_le p greatest) (name-spelled letter.L a (path_in n.autos a)) (le-leb p greatest (omega (arith, few, inside)))
 
-  names-spelled : NamesAreSpelled (data_naming n fired) n
-  names-spelled = record {
+  names-spelled : (received : Text) → is_name received ≡ true → NamesAreSpelled (data_naming n received) n
+  names-spelled received is = record {
     located = located-spelled;
     variable = λ k. name-spelled letter.V k (path_of n.vars k);
     input = λ k. name-spelled letter.H k (path_of n.inputs k);
-    received = refl;
+    received = is;
     own = λ k. name-spelled letter.T k (codes "if");
   }
 
@@ -118,10 +121,10 @@ module _ (n : Net) (small : (k : ℕ) → places_of (slice_get n.autos k) ≤ gr
       let kind : Kind = kind_of a.type_of a.literals in
       let low = defs.0.low in
       append-spelled 400 (before w k e) (stms (assign (name_for letter.R i a.path) (text w k e)) (shown_text w (i + 1) (k + temps e) as'))
-      (statements-spelled w n None kind e (or_none no_form (alg_measures n)) k 400 names-spelled defs.0.fit (omega (arith, low)) (omega arith))
+      (statements-spelled w n None kind e (or_none no_form (alg_measures n)) k 400 (names-spelled fired refl) defs.0.fit (omega (arith, low)) (omega arith))
       (both-true (is_name (name_for letter.R i a.path) && is_whole_expr (text w k e)) (are_stms 400 (shown_text w (i + 1) (k + temps e) as'))
       (both-true (is_name (name_for letter.R i a.path)) (is_whole_expr (text w k e)) (name-spelled letter.R i a.path)
-      (text-spelled w n None kind e (or_none no_form (alg_measures n)) k 400 names-spelled defs.0.fit (omega (arith, low))))
+      (text-spelled w n None kind e (or_none no_form (alg_measures n)) k 400 (names-spelled fired refl) defs.0.fit (omega (arith, low))))
       (shown-spelled (i + 1) (k + temps e) as' defs.1))
 
   module _ (within : EndsWithin n) where
@@ -150,7 +153,10 @@ module _ (n : Net) (small : (k : ℕ) → places_of (slice_get n.autos k) ≤ gr
 
     module _ (types : (v : ℕ) (d : NetStored) → slice_get n.vars v ≡ Some d → is_type_spelled (st_type d.type_of) ≡ true) (ds : List NetChoice) (j : ℕ) where
       abbrev w : Naming
-      w = data_naming n fired
+      w = event_naming n ds j
+
+      names : NamesAreSpelled w n
+      names = names-spelled (sent_name n ds (data_first n ds j)) (name-spelled letter.T (sent_number n ds (data_first n ds j)) (codes "sent"))
 
       abbrev y : NewNames
       y = new_names n ds (data_first n ds j)
@@ -161,19 +167,28 @@ module _ (n : Net) (small : (k : ℕ) → places_of (slice_get n.autos k) ≤ gr
       next-name : (v : ℕ) → is_name (y.next v) ≡ true
       next-name v = name-spelled letter.T (data_first n ds j + length (range_faces n ds) + place_in (event_vars ds) v) (new_face n v).path
 
+      -- what the choice does where it sends its value, if it sends one, and that is in range
+      acts-spelled : (c : NetChoice) (k : ℕ) (rest : Stms) → Told n c → Shallow c.writes → Always rest → (d : ℕ) → 396 ≤ d → are_stms d (act n w y k c.writes (moves_text n c.moves rest)) ≡ true
+      acts-spelled c k rest t shallow all d deep =
+          act-spelled n (carried_type n c) w names y mark-name next-name types d c.writes k (moves_text n c.moves rest) (omega (arith, deep, shallow)) t.writes t.writes_low (λ i. moves-spelled i c.moves rest (all i))
+
       written-spelled : (c : NetChoice) (k : ℕ) → Told n c → Shallow c.writes → WrittenSpelled (data_written n w y k c)
       written-spelled c k t shallow = record {
-        before = λ d deep. before-spelled n w names-spelled y mark-name next-name types d bool_kind k c.test t.test t.test_low deep;
-        test = whole-spelled n w names-spelled y mark-name next-name types bool_kind k c.test t.test t.test_low;
-        act = λ rest all d deep.
-            act-spelled n w names-spelled y mark-name next-name types d c.writes (k + temps c.test) (moves_text n c.moves rest) (omega (arith, deep, shallow)) t.writes t.writes_low
-            (λ i. moves-spelled i c.moves rest (all i));
+        before = λ d deep. before-spelled n None w names y mark-name next-name types d bool_kind k c.test t.test t.test_low deep;
+        test = whole-spelled n None w names y mark-name next-name types bool_kind k c.test t.test t.test_low;
+        act = at-depth;
       }
+        where
+          at-depth : (rest : Stms) → Always rest → (d : ℕ) → 397 ≤ d → are_stms d ((data_written n w y k c).act rest) ≡ true
+          at-depth rest all zero deep = absurd (omega (arith, deep))
+          at-depth rest all (suc d) deep =
+              sends-spelled n w names d (k + temps c.test) c.sent (carried_type n c) (act n w y (k + temps c.test + sent_temps c.sent) c.writes (moves_text n c.moves rest)) t.sent t.sent_low t.carried
+              (acts-spelled c (k + temps c.test + sent_temps c.sent) rest t shallow all (suc d) (omega (arith, deep))) (acts-spelled c (k + temps c.test + sent_temps c.sent) rest t shallow all d (omega (arith, deep)))
 
       all-written : (cs : List NetChoice) (k : ℕ) → AllByRecursion (Told n) cs → AllByRecursion (λ (c : NetChoice). Shallow c.writes) cs → AllByRecursion WrittenSpelled (all_written n w y k cs)
       all-written [] k t shallow = tt
       all-written (c ∷ cs) k t shallow = (written-spelled c k t.0 shallow.0, all-written cs (k + choice_temps c) t.1 shallow.1)
 
-      pub part-spelled : AllByRecursion (Told n) ds → AllByRecursion (λ (c : NetChoice). Shallow c.writes) ds → are_stms 399 (data_part n fired j ds).body ≡ true
+      pub part-spelled : AllByRecursion (Told n) ds → AllByRecursion (λ (c : NetChoice). Shallow c.writes) ds → are_stms 399 (data_part n j ds).body ≡ true
       part-spelled t shallow =
           event-spelled (own_name (j, done_face)) (name-spelled letter.T j done_face.path) (all_written n w y (ifs_from n ds j) ds) (all-written ds (ifs_from n ds j) t shallow)

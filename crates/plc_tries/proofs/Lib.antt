@@ -1,5 +1,5 @@
 pub mod Safe
-pub mod Silent
+pub mod Carrying
 pub mod Free
 pub mod Places
 pub mod Own

@@ -12,7 +12,7 @@ use Rattle.st_ast.specs.declared.tree.StVar.{StVar}
 use Rattle.st_ast.specs.declared.tree.StClass.TheVariants as class
 use Rattle.plc_face.specs.declared.letter.Letter.TheVariants as letter
 use Rattle.plc_face.specs.Face.{VariableFace, declaration}
-use Rattle.plc_face.specs.Frame.{Part, fired, part_of}
+use Rattle.plc_face.specs.Frame.{Part, part_of}
 use Rattle.plc_gen.specs.Events.{choices_of, own_name}
 use Rattle.plc_gen.specs.Given.{asked, own_variables}
 use Rattle.plc_act.specs.Parts.{data_part, event_faces}
@@ -64,7 +64,7 @@ module _ (n : Net) (cs : List NetChoice) where
     pub number : ℕ
     pub from : j ≤ number
     pub room : number + length (event_faces n (choices_of cs e)) ≤ j + length (faces_of es)
-    pub is : part_of (map asked (parts_from n cs j es)) i ≡ data_part n fired number (choices_of cs e)
+    pub is : part_of (map asked (parts_from n cs j es)) i ≡ data_part n number (choices_of cs e)
     pub among : (a b : ℕ) (x : VariableFace) → slice_get (event_faces n (choices_of cs e)) a ≡ Some x → j + b ≡ number + a → slice_get (faces_of es) b ≡ Some x
 
   abbrev with_own : List Text → Stms → Part
@@ -79,7 +79,7 @@ module _ (n : Net) (cs : List NetChoice) where
         number = j;
         from = omega arith;
         room = let long = length-append (faces_at d) (faces_of es) in omega (arith, long);
-        is = ap (λ o. with_own o (data_part n fired j (choices_of cs d)).body) (owns-names j (faces_at d));
+        is = ap (λ o. with_own o (data_part n j (choices_of cs d)).body) (owns-names j (faces_at d));
         among = λ a b x is q.
             let same : a ≡ b = omega (arith, q) in
             get-left (faces_at d) (faces_of es) b x (subst (λ i. slice_get (faces_at d) i ≡ Some x) same is);

@@ -1,6 +1,6 @@
 -- The statements that show the algebraic variables do what the frame asks of them: from a memory that stands for a state they
 -- end, keep all types, and write own variables and R variables alone, which then hold the values of the definitions.
-use Rattle.std.proofs.Common.{◌≡◌, ◌≢◌, ℕ, zero, suc, ◌+◌, ◌-◌, ◌^◌, ◌<◌, ◌≤◌, ℤ, pos, Bool, true, false, List, [], ◌∷◌, map, length, Some, None, Ok, inr, refl, sym, ap, subst, ◌∙◌, arith, if◌then◌else◌}
+use Rattle.std.proofs.Common.{◌≡◌, ◌≢◌, ℕ, zero, suc, ◌+◌, ◌-◌, ◌^◌, ◌<◌, ◌≤◌, ℤ, pos, Bool, true, false, List, [], ◌∷◌, map, length, Option, Some, None, Ok, inr, refl, sym, ap, subst, ◌∙◌, arith, if◌then◌else◌}
 use Rattle.std.specs.Prelude.{IsTrue, codes, slice_get, slice_set}
 use Rattle.std.specs.List.{AllByRecursion}
 use Rattle.std.proofs.lemmas.List.{length-append}
@@ -8,14 +8,15 @@ use Rattle.grammar.specs.Pieces.{Text}
 use Rattle.cif_base.specs.declared.types.Ty.{Ty}
 use Rattle.cif_base.specs.declared.types.Ty.TheVariants as cif_ty
 use Rattle.cif_system.specs.System.{IsState, State, in_range}
+use Rattle.cif_system.proofs.Lists.{none-some}
 use Rattle.cif_term.specs.Tree.{NetExpr}
 use Rattle.cif_model.specs.Net.{NetAlg, Net}
 use Rattle.cif_model.specs.Facts.{is_net}
 use Rattle.cif_model.specs.Inline.{defined_by}
 use Rattle.cif_model.specs.Kinds.{Kind, bool_kind, fits, kind_of}
 use Rattle.cif_model.specs.Listing.{NetChoice}
-use Rattle.cif_model.specs.Meaning.{defined_value, system_of_net}
-use Rattle.cif_model.specs.Reads.{names_in, names_no_alg}
+use Rattle.cif_model.specs.Meaning.{defined_value, system_of_net, type_range}
+use Rattle.cif_model.specs.Reads.{names_no_alg}
 use Rattle.cif_model.proofs.Passing.{and-left}
 use Rattle.st_ast.specs.Tree.{Program, assign, stms}
 use Rattle.st_ast.specs.Names.{declared, place_of}
@@ -45,7 +46,7 @@ use Rattle.plc_expr.proofs.Sorting.{bool-by, types-length}
 use Rattle.plc_expr.proofs.There.{there}
 use Rattle.plc_act.specs.Asked.{Promises, setting_of}
 use Rattle.plc_act.specs.Own.{data_naming}
-use Rattle.plc_act.specs.Ready.{IsNamed, IsReady}
+use Rattle.plc_act.specs.Ready.{IsReady}
 use Rattle.plc_act.proofs.Kept.{Declares, declares-parts}
 use Rattle.plc_act.proofs.Promised.{promised}
 use Rattle.plc_act.proofs.Readying.{bits, ready-expr, truths}
@@ -54,7 +55,6 @@ use Rattle.plc_parts.specs.Parts.{HasParts, all_own, data_parts, data_program, d
 use Rattle.plc_parts.proofs.Defined.{all-defined}
 use Rattle.plc_tries.proofs.Declared.{first_place, own-letters, shown-declares, shown-last, vars-length}
 use Rattle.plc_tries.proofs.Free.{algs-free, own-places}
-use Rattle.plc_tries.proofs.Tried.{named-there}
 
 -- ---- lists and numbers
 
@@ -78,7 +78,7 @@ module _ (n : Net) (p : Program) (base low count : ℕ) (s : State) (is_state : 
     (places : (k : ℕ) → low ≤ k → k < count → place_of p.vars ((data_naming n fired).own k) ≡ base + k) (room : base + count ≤ length p.vars)
     (kept : Promises p.vars (data_naming n fired) (setting_of n s (pos 0)) base low count)
     (ready : (kind : Kind) (k : ℕ) (e : NetExpr) → Declares p.vars (data_naming n fired) base k (own_types n None e) → fits n None kind e ≡ true → names_no_alg e ≡ true → IsSafe (setting_of n s (pos 0)) e
-    → IsReady n p (data_naming n fired) base s k e)
+    → IsReady n p (data_naming n fired) base s None (pos 0) k e)
     (all_bits : (e : NetExpr) → names_no_alg e ≡ true → IsSafe (setting_of n s (pos 0)) e → HasBits (value_at (setting_of n s (pos 0)) e))
     (all_truths : (e : NetExpr) → names_no_alg e ≡ true → fits n None bool_kind e ≡ true → IsTrue (in_range (range_of ty.Bool) (value_at (setting_of n s (pos 0)) e))) where
   abbrev w : Naming
@@ -137,16 +137,16 @@ module _ (n : Net) (p : Program) (base low count : ℕ) (s : State) (is_state : 
         let same = long m typed in
         let q : Prepares p.vars w x base k e t m =
         kept.prepares e k t m
-        (λ o beside. is.1 o (state-others m o (λ l no_r no_t i path. beside (place_of p.vars (name_for l i path)) (λ above. let b = beyond l no_t i path low (count - low) (omega arith) (omega (arith, few)) above in omega (arith, b, few))) st))
+        (λ o beside. is.1 o (state-others m o (λ l no_r no_t i path. beside (place_of p.vars (name_for l i path)) (λ above. let b = beyond l no_t i path low (count - low) (omega arith) (omega (arith, few)) above in omega (arith, b, few))) st) tt)
         (omega (arith, room, same)) is.0 from top in
         let others : (l : Letter) → (l ≡ letter.T → ⊥) → (i : ℕ) (path : Text) → slice_get q.after (place_of p.vars (name_for l i path)) ≡ slice_get m (place_of p.vars (name_for l i path)) =
         λ l other i path. q.beside.others (place_of p.vars (name_for l i path)) (λ above. beyond l other i path k (temps e) from top above) in
         record {
           after = q.after;
           ends = q.runs;
-          typed = is.2 t m typed (is.1 m st) q;
+          typed = is.2 t m typed (is.1 m st tt) q;
           others = others;
-          value = kept.valued e k q.after (is.1 q.after (state-others m q.after (λ l no_r no_t i path. others l no_t i path) st)) is.0 q.held;
+          value = kept.valued e k q.after (is.1 q.after (state-others m q.after (λ l no_r no_t i path. others l no_t i path) st) tt) is.0 q.held;
         }
 
     record Shown (i k : ℕ) (a : NetAlg) (m : Memory) : Type 0 where
@@ -236,11 +236,10 @@ module _ (n : Net) (cs : List NetChoice) (U C : ℕ) (parts : HasParts n cs U C)
 
   r-declared : AllDeclared (data_program n cs U C).vars letter.R class.Output 0 (map alg_face (map alg_face_of n.algs))
   r-declared =
-      algs-declared n (all_own n cs) (map asked (data_parts n cs)) (shown_part n (shown_first n cs)).body U C net (none-of n.invariants (and-left _ _ parts.silent)) (own-letters n cs U C parts.few_own)
+      algs-declared n (all_own n cs) (map asked (data_parts n cs)) (shown_part n (shown_first n cs)).body U C net (none-of n.invariants parts.silent) (own-letters n cs U C parts.few_own)
 
-  -- what such an expression names is there
-  named : (k : Kind) (e : NetExpr) → fits n None k e ≡ true → names_no_alg e ≡ true → AllByRecursion (IsNamed n) (names_in e)
-  named k e fit passes = named-there n (names_in e) (there n None k e fit passes)
+  none-typed : (u : Ty) → None ≡ Some u → in_range (type_range u) (pos 0) ≡ true
+  none-typed u h = absurd (none-some u h)
 
   pub algs-shown : ShowsAlgs n (data_program n cs U C) (shown_part n (shown_first n cs)).body
   algs-shown t m s st =
@@ -251,12 +250,14 @@ module _ (n : Net) (cs : List NetChoice) (U C : ℕ) (parts : HasParts n cs U C)
       let inside = vars-length n cs U C parts.few_own in
       let few = facts.few_algs in
       let stand = own-places p.vars w (first_place n) low types (length types) refl own (algs-free n n.algs) in
-      let told = bool-by n None in
+      let length_is = λ (r : Option Ty) (e : NetExpr). types-length n r e in
+      let told = λ (r : Option Ty) (k : Kind) (e : NetExpr) (fit : fits n r k e ≡ true) (passes : names_no_alg e ≡ true). bool-by n r k e fit passes in
+      let named = λ (r : Option Ty) (k : Kind) (e : NetExpr) (fit : fits n r k e ≡ true) (passes : names_no_alg e ≡ true). there n r k e fit passes in
       let r = ran n p (first_place n) low count s st.state.is_state (omega arith) (λ k from below. stand.place k from below) (omega (arith, last, inside))
       (promised p.vars w (setting_of n s (pos 0)) (first_place n) low count (omega arith) (own-places p.vars w (first_place n) low types (count - low) (omega arith) own (algs-free n n.algs)))
       (λ kind k e d fit passes safe.
-      ready-expr n facts parts.small_variables parts.small_inputs p fired (first_place n) (types-length n None) told named s st.state.is_state kind k e d fit (passes, safe))
-      (λ e passes safe. bits n facts parts.small_variables parts.small_inputs p fired (first_place n) (types-length n None) told named s st.state.is_state e passes safe)
-      (λ e passes fit. truths n facts parts.small_variables parts.small_inputs p fired (first_place n) (types-length n None) told named s st.state.is_state e passes fit)
+      ready-expr n facts parts.small_variables parts.small_inputs p fired (first_place n) length_is told named s st.state.is_state None (pos 0) refl none-typed kind k e d fit (passes, safe))
+      (λ e passes safe. bits n facts parts.small_variables parts.small_inputs p fired (first_place n) length_is told named s st.state.is_state None (pos 0) refl none-typed e passes safe)
+      (λ e passes fit. truths n facts parts.small_variables parts.small_inputs p fired (first_place n) length_is told named s st.state.is_state None (pos 0) refl none-typed e passes fit)
       t 0 low n.algs m (all-defined n parts.plain) r-declared own (omega arith) (omega arith) (omega (arith, few)) st.typed st.state in
       (r.after, r.ends, r.typed, r.others, r.shows)

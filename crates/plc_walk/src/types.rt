@@ -1,6 +1,6 @@
 //! The types of the variables that the text of an expression has for itself.
 
-ghost use Rattle.std.specs.Prelude.{◌≡◌, ◌++◌, None, OnOk, option_map, slice_get};
+ghost use Rattle.std.specs.Prelude.{◌≡◌, ◌++◌, OnOk, option_map, slice_get};
 ghost use Rattle.cif_base.specs.declared.types.Ty.{Ty};
 ghost use Rattle.cif_term.specs.View.{view, view_branches, view_exprs, view_factors, view_form, view_terms};
 ghost use Rattle.cif_net.specs.View.{net_tree, input_tree, var_tree};
@@ -36,17 +36,27 @@ fn input_is_boolean(net: &Net, number: u32) -> bool
     }
 }
 
-/// Whether an expression is true or false, and not a number. Nothing is received.
-#[cycle(kinds)]
-fn is_boolean(expr: &NetExpr, net: &Net) -> bool
-    ensures { result ≡ s.is_boolean (net_tree net.now) None (view expr.now) }
+/// Whether what is received is true or false.
+fn received_is_boolean(received: Option<Ty>) -> bool
+    ensures { result ≡ s.received_boolean received }
 {
-    is_boolean_form(&expr.form, net)
+    match received {
+        Some(ty) => is_bool(ty),
+        None => false,
+    }
+}
+
+/// Whether an expression is true or false, and not a number, where a value of a type is received.
+#[cycle(kinds)]
+fn is_boolean(expr: &NetExpr, net: &Net, received: Option<Ty>) -> bool
+    ensures { result ≡ s.is_boolean (net_tree net.now) received (view expr.now) }
+{
+    is_boolean_form(&expr.form, net, received)
 }
 
 #[cycle(kinds)]
-fn is_boolean_form(form: &NetForm, net: &Net) -> bool
-    ensures { result ≡ s.form_boolean (net_tree net.now) None (view_form form.now) }
+fn is_boolean_form(form: &NetForm, net: &Net, received: Option<Ty>) -> bool
+    ensures { result ≡ s.form_boolean (net_tree net.now) received (view_form form.now) }
 {
     match form {
         NetForm::Bool(_) | NetForm::Loc { auto: _, place: _ } | NetForm::Not(_) => true,
@@ -59,106 +69,142 @@ fn is_boolean_form(form: &NetForm, net: &Net) -> bool
         NetForm::Implies(_, _) | NetForm::Iff(_, _) => true,
         NetForm::Var(number) => variable_is_boolean(net, *number),
         NetForm::Input(number) => input_is_boolean(net, *number),
-        NetForm::If { branches: _, other } => is_boolean(other.get(), net),
+        NetForm::If { branches: _, other } => is_boolean(other.get(), net, received),
+        NetForm::Received => received_is_boolean(received),
         _ => false,
     }
 }
 
 /// The type of the variable of an `if` whose last value this is.
-fn type_of(other: &NetExpr, net: &Net) -> StTy
-    ensures { result ≡ s.type_by (s.is_boolean (net_tree net.now) None (view other.now)) }
+fn type_of(other: &NetExpr, net: &Net, received: Option<Ty>) -> StTy
+    ensures { result ≡ s.type_by (s.is_boolean (net_tree net.now) received (view other.now)) }
 {
-    if is_boolean(other, net) {
+    if is_boolean(other, net, received) {
         StTy::Bool
     } else {
         StTy::Lint
     }
 }
 
-/// Adds the types of the own variables of an expression, in the order of their numbers: there is one for each `if`. Nothing is
-/// received.
+/// Adds the types of the own variables of an expression, in the order of their numbers: there is one for each `if`. A value of
+/// a type may be received.
 #[cycle(types)]
-pub fn own_types_of(expr: &NetExpr, net: &Net, types: &mut Items<StTy>) -> Result<(), Memory>
-    ensures { OnOk result (types.new ≡ types.old ++ s.own_types (net_tree net.now) None (view expr.now)) }
+pub fn own_types_of(
+    expr: &NetExpr,
+    net: &Net,
+    received: Option<Ty>,
+    types: &mut Items<StTy>,
+) -> Result<(), Memory>
+    ensures { OnOk result (types.new ≡ types.old ++ s.own_types (net_tree net.now) received (view expr.now)) }
 {
-    form_types(&expr.form, net, types)
+    form_types(&expr.form, net, received, types)
 }
 
 #[cycle(types)]
-fn form_types(form: &NetForm, net: &Net, types: &mut Items<StTy>) -> Result<(), Memory>
-    ensures { OnOk result (types.new ≡ types.old ++ s.form_types (net_tree net.now) None (view_form form.now)) }
+fn form_types(
+    form: &NetForm,
+    net: &Net,
+    received: Option<Ty>,
+    types: &mut Items<StTy>,
+) -> Result<(), Memory>
+    ensures { OnOk result (types.new ≡ types.old ++ s.form_types (net_tree net.now) received (view_form form.now)) }
 {
     match form {
         NetForm::Neg(e) | NetForm::Plus(e) | NetForm::Not(e) | NetForm::Abs(e) => {
-            own_types_of(e.get(), net, types)
+            own_types_of(e.get(), net, received, types)
         }
         NetForm::Min(a, b) | NetForm::Max(a, b) => {
-            own_types_of(a.get(), net, types)?;
-            own_types_of(b.get(), net, types)
+            own_types_of(a.get(), net, received, types)?;
+            own_types_of(b.get(), net, received, types)
         }
         NetForm::Implies(a, b) | NetForm::Iff(a, b) => {
-            own_types_of(a.get(), net, types)?;
-            own_types_of(b.get(), net, types)
+            own_types_of(a.get(), net, received, types)?;
+            own_types_of(b.get(), net, received, types)
         }
         NetForm::Compare { left, op: _, right } => {
-            own_types_of(left.get(), net, types)?;
-            own_types_of(right.get(), net, types)
+            own_types_of(left.get(), net, received, types)?;
+            own_types_of(right.get(), net, received, types)
         }
         NetForm::Sum { first, rest } => {
-            own_types_of(first.get(), net, types)?;
-            terms_types(rest.as_slice(), net, types)
+            own_types_of(first.get(), net, received, types)?;
+            terms_types(rest.as_slice(), net, received, types)
         }
         NetForm::Product { first, rest } => {
-            own_types_of(first.get(), net, types)?;
-            factors_types(rest.as_slice(), net, types)
+            own_types_of(first.get(), net, received, types)?;
+            factors_types(rest.as_slice(), net, received, types)
         }
-        NetForm::And(parts) | NetForm::Or(parts) => list_types(parts.as_slice(), net, types),
+        NetForm::And(parts) | NetForm::Or(parts) => list_types(
+            parts.as_slice(),
+            net,
+            received,
+            types,
+        ),
         NetForm::If { branches, other } => {
-            types.push(type_of(other.get(), net))?;
-            branches_types(branches.as_slice(), net, types)?;
-            own_types_of(other.get(), net, types)
+            types.push(type_of(other.get(), net, received))?;
+            branches_types(branches.as_slice(), net, received, types)?;
+            own_types_of(other.get(), net, received, types)
         }
         _ => Ok(()),
     }
 }
 
 #[cycle(types)]
-fn terms_types(parts: &[NetTerm], net: &Net, types: &mut Items<StTy>) -> Result<(), Memory>
-    ensures { OnOk result (types.new ≡ types.old ++ s.terms_types (net_tree net.now) None (view_terms parts.now)) }
+fn terms_types(
+    parts: &[NetTerm],
+    net: &Net,
+    received: Option<Ty>,
+    types: &mut Items<StTy>,
+) -> Result<(), Memory>
+    ensures { OnOk result (types.new ≡ types.old ++ s.terms_types (net_tree net.now) received (view_terms parts.now)) }
 {
     for part in parts {
-        own_types_of(&part.value, net, types)?;
+        own_types_of(&part.value, net, received, types)?;
     }
     Ok(())
 }
 
 #[cycle(types)]
-fn factors_types(parts: &[NetFactor], net: &Net, types: &mut Items<StTy>) -> Result<(), Memory>
-    ensures { OnOk result (types.new ≡ types.old ++ s.factors_types (net_tree net.now) None (view_factors parts.now)) }
+fn factors_types(
+    parts: &[NetFactor],
+    net: &Net,
+    received: Option<Ty>,
+    types: &mut Items<StTy>,
+) -> Result<(), Memory>
+    ensures { OnOk result (types.new ≡ types.old ++ s.factors_types (net_tree net.now) received (view_factors parts.now)) }
 {
     for part in parts {
-        own_types_of(&part.value, net, types)?;
+        own_types_of(&part.value, net, received, types)?;
     }
     Ok(())
 }
 
 #[cycle(types)]
-fn list_types(parts: &[NetExpr], net: &Net, types: &mut Items<StTy>) -> Result<(), Memory>
-    ensures { OnOk result (types.new ≡ types.old ++ s.list_types (net_tree net.now) None (view_exprs parts.now)) }
+fn list_types(
+    parts: &[NetExpr],
+    net: &Net,
+    received: Option<Ty>,
+    types: &mut Items<StTy>,
+) -> Result<(), Memory>
+    ensures { OnOk result (types.new ≡ types.old ++ s.list_types (net_tree net.now) received (view_exprs parts.now)) }
 {
     for part in parts {
-        own_types_of(part, net, types)?;
+        own_types_of(part, net, received, types)?;
     }
     Ok(())
 }
 
 #[cycle(types)]
-fn branches_types(branches: &[NetBranch], net: &Net, types: &mut Items<StTy>) -> Result<(), Memory>
-    ensures { OnOk result (types.new ≡ types.old ++ s.branches_types (net_tree net.now) None (view_branches branches.now)) }
+fn branches_types(
+    branches: &[NetBranch],
+    net: &Net,
+    received: Option<Ty>,
+    types: &mut Items<StTy>,
+) -> Result<(), Memory>
+    ensures { OnOk result (types.new ≡ types.old ++ s.branches_types (net_tree net.now) received (view_branches branches.now)) }
 {
     for branch in branches {
-        own_types_of(&branch.cond, net, types)?;
-        own_types_of(&branch.value, net, types)?;
+        own_types_of(&branch.cond, net, received, types)?;
+        own_types_of(&branch.value, net, received, types)?;
     }
     Ok(())
 }

@@ -2,10 +2,11 @@ use Rattle.std.proofs.Common.{rules, ◌<◌, ◌+◌, List, ◌∷◌, [], ◌+
 use Rattle.std.specs.Prelude.{flat_map}
 use Rattle.cif_ast.specs.declared.edges.Loc.{Loc}
 use Rattle.cif_source.specs.Components.{body_of}
-use Rattle.cif_source.specs.Objects.{components_of}
+use Rattle.cif_source.specs.Objects.{components_of, events}
 use Rattle.cif_source.specs.Source.{automaton_tree, location_tree}
 use Rattle.cif_scope.specs.Written.{inside_of}
-use Rattle.cif_inst.specs.Alphabets.{location_events, automaton_alphabet, body_alphabets, rows_alphabets, automaton_lacks, body_lacks, rows_lacks, tells, AreMarks}
+use Rattle.cif_inst.specs.Alphabets.{location_used, automaton_alphabet, body_alphabets, rows_alphabets, automaton_lacks, body_lacks, rows_lacks, tells}
+use Rattle.cif_inst.specs.Marks.{AreMarks}
 use Rattle.cif_translate.specs.Looking.{source_for, component_at}
 use Rattle.cif_inst.specs.Views.{row_tree}
 use Rattle.cif_inst.specs.declared.alphabets.Alphabet.{Alphabet}
@@ -18,11 +19,11 @@ pub loop-place-init : goal.loop-place-init
 loop-place-init c = record {
   found = search rules;
   within = refl;
-  marks = first_marks c.args.looking.now c.args.events c.in_ok-marks.marks c.requires.events c.in_ok-marks.ensures;
+  marks = first_marks (length (events (source_for c.args.looking.now))) c.args.events c.in_ok-marks.marks c.requires.events c.in_ok-marks.ensures;
 }
 
-pub used_events-requires-clause-component : goal.used_events-requires-clause-component
-used_events-requires-clause-component c =
+pub all_used-requires-clause-component : goal.all_used-requires-clause-component
+all_used-requires-clause-component c =
     let below : c.loop-place.place < length (components_of (source_for c.args.looking.now)) = row_below (source_for c.args.looking.now) c.args.rows.now c.requires.rows c.loop-place.place c.loop-place-test.true in
     subst (λ k. k < length (components_of (source_for c.args.looking.now))) (sym (c.in_ok-number.ensures.is)) below
 
@@ -38,7 +39,7 @@ alphabet_of-requires-clause-written c =
     ∙ ap inside_of c.in-Automaton.is
 
 pub alphabet_of-requires-clause-used : goal.alphabet_of-requires-clause-used
-alphabet_of-requires-clause-used c = c.in_ok-used.ensures ∙ ap (λ (ls : List Loc). flat_map (location_events c.args.looking.now c.in_ok-number.field-0) (map location_tree ls)) c.as_slice.ensures
+alphabet_of-requires-clause-used c = c.in_ok-used.ensures ∙ ap (λ (ls : List Loc). flat_map (location_used c.args.looking.now c.in_ok-number.field-0) (map location_tree ls)) c.as_slice.ensures
 
 pub returns-in_err-alphabet_of-clause-told : goal.returns-in_err-alphabet_of-clause-told
 returns-in_err-alphabet_of-clause-told c =
@@ -70,7 +71,7 @@ loop-place-preserved c =
             ∙ sym (ap (λ k. automaton_lacks c.args.looking.now k (automaton_tree w.in-Automaton.body.now)) w.in_ok-number.ensures.is)
             ∙ w.in_ok-alphabet_of.ensures.within)
             c.loop-place.invariant.within;
-        marks = subst (AreMarks c.args.looking.now (c.loop-place.place + 1)) (sym w.marks-is) (subst (λ k. AreMarks c.args.looking.now k w.alphabet_of.new.marks) w.in_ok-number-2.ensures.is w.in_ok-alphabet_of.ensures.after);
+        marks = subst (AreMarks (length (events (source_for c.args.looking.now))) (c.loop-place.place + 1)) (sym w.marks-is) (subst (λ k. AreMarks (length (events (source_for c.args.looking.now))) k w.alphabet_of.new.marks) w.in_ok-number-2.ensures.is w.in_ok-alphabet_of.ensures.after);
       }
       | in_default w ↦ record {
         found =
@@ -84,6 +85,6 @@ loop-place-preserved c =
             (rows_lacks c.args.looking.now 0 (map row_tree c.args.rows.now))
             (ap (λ b. body_lacks c.args.looking.now c.loop-place.place (inside_of b)) w.in_default.is)
             c.loop-place.invariant.within;
-        marks = subst (AreMarks c.args.looking.now (c.loop-place.place + 1)) (sym w.marks-is) (later_marks c.args.looking.now c.loop-place.place c.loop-place.marks c.loop-place.invariant.marks);
+        marks = subst (AreMarks (length (events (source_for c.args.looking.now))) (c.loop-place.place + 1)) (sym w.marks-is) (later_marks (length (events (source_for c.args.looking.now))) c.loop-place.place c.loop-place.marks c.loop-place.invariant.marks);
       }
     ]

@@ -1,57 +1,20 @@
-use Rattle.std.proofs.Common.{List, map, ◌∙◌, ap}
-use Rattle.cif_net.specs.View.{event_tree}
-use Rattle.cif_net.specs.declared.events.Event.{Event}
-use Rattle.cif_inst.specs.Views.{row_tree}
-use Rattle.cif_inst.specs.declared.rows.Row.{Row}
-use Rattle.cif_inst.proofs.NetLaws.{IsMade, built_names, fits_with, represents_with}
+use Rattle.std.proofs.Common.{List, map, Option, Bor, ◌∙◌, ap}
+use Rattle.cif_ast.specs.declared.declarations.Decl.{Decl}
+use Rattle.cif_constants.specs.Slots.{row_of}
+use Rattle.cif_translate.specs.Looking.{source_for}
+use Rattle.cif_inst.proofs.RuleLaws.{bounds_kept}
 use Rattle.cif_inst.proofs.instantiating.net_of.Goals as goal
 
-pub alphabets_of-requires-clause-rows : goal.alphabets_of-requires-clause-rows
-alphabets_of-requires-clause-rows c = ap (λ (rs : List Row). map row_tree rs) c.as_slice-rows.ensures.value ∙ c.in_ok-components.ensures
-
-pub alphabets_of-requires-clause-events : goal.alphabets_of-requires-clause-events
-alphabets_of-requires-clause-events c = ap (λ (es : List Event). map event_tree es) c.as_slice.ensures ∙ c.in_ok-events.ensures
-
-pub all_autos-requires-clause-rows : goal.all_autos-requires-clause-rows
-all_autos-requires-clause-rows c = ap (λ (rs : List Row). map row_tree rs) c.as_slice-rows.ensures.value ∙ c.in_ok-components.ensures
-
-pub all_autos-requires-clause-alphabets : goal.all_autos-requires-clause-alphabets
-all_autos-requires-clause-alphabets c = c.as_slice-2.ensures ∙ c.in_ok-alphabets.ensures.found
-
-pub objects_of-requires-clause-rows : goal.objects_of-requires-clause-rows
-objects_of-requires-clause-rows c = ap (λ (rs : List Row). map row_tree rs) c.as_slice-rows.ensures.value ∙ c.in_ok-components.ensures
-
-pub invariant_of-result : goal.invariant_of-result
-invariant_of-result c =
-    let made : IsMade c.args.looking.now (map row_tree c.as_slice-rows.result.now) c.in_ok-autos.autos c.in_ok-events.events c.in_ok-objects.objects.inputs c.in_ok-objects.objects.vars c.in_ok-objects.objects.algs = record {
-      names = built_names c.args.looking.now c.requires.names c.requires.forms c.requires.kinds;
-      kinds = c.requires.kinds;
-      kept = c.in_ok-alphabets.ensures.none;
-      of_source = ap (λ (rs : List Row). map row_tree rs) c.as_slice-rows.ensures.value ∙ c.in_ok-components.ensures;
-      made = c.in_ok-autos.ensures;
-      declared = c.in_ok-events.ensures;
-      read = c.in_ok-objects.ensures.inputs;
-      stored = c.in_ok-objects.ensures.variables;
-      defined = c.in_ok-objects.ensures.algebraic;
-    } in
-    record {
-      fits = fits_with c.args.looking.now (map row_tree c.as_slice-rows.result.now) c.in_ok-autos.autos c.in_ok-events.events c.in_ok-objects.objects.inputs c.in_ok-objects.objects.vars c.in_ok-objects.objects.algs made c.new.result c.new-2.result
-          c.new.ensures c.new-2.ensures c.nets_of_sources_are_nets.ensures
-          (c.counted_trees_have_small_parts.ensures c.args.looking.now.spec.now c.requires.countable c.requires.small) (c.trees_have_small_arguments.ensures c.args.looking.now.spec.now c.requires.small);
-    }
-
-pub returns-clause-represents : goal.returns-clause-represents
-returns-clause-represents c =
-    let made : IsMade c.args.looking.now (map row_tree c.as_slice-rows.result.now) c.in_ok-autos.autos c.in_ok-events.events c.in_ok-objects.objects.inputs c.in_ok-objects.objects.vars c.in_ok-objects.objects.algs = record {
-      names = built_names c.args.looking.now c.requires.names c.requires.forms c.requires.kinds;
-      kinds = c.requires.kinds;
-      kept = c.in_ok-alphabets.ensures.none;
-      of_source = ap (λ (rs : List Row). map row_tree rs) c.as_slice-rows.ensures.value ∙ c.in_ok-components.ensures;
-      made = c.in_ok-autos.ensures;
-      declared = c.in_ok-events.ensures;
-      read = c.in_ok-objects.ensures.inputs;
-      stored = c.in_ok-objects.ensures.variables;
-      defined = c.in_ok-objects.ensures.algebraic;
-    } in
-    represents_with c.args.looking.now (map row_tree c.as_slice-rows.result.now) c.in_ok-autos.autos c.in_ok-events.events c.in_ok-objects.objects.inputs c.in_ok-objects.objects.vars c.in_ok-objects.objects.algs made c.new.result c.new-2.result
-    c.new.ensures c.new-2.ensures c.nets_represent_their_sources.ensures
+pub made_net-requires-clause-types : goal.made_net-requires-clause-types
+made_net-requires-clause-types c = record {
+  names = c.requires.names;
+  typed = record {
+    numbers = c.requires.names.scopes.numbers;
+    few = c.requires.names.components.few;
+    constancy = c.requires.kinds.constant;
+    values = c.requires.values;
+    bounded = bounds_kept (source_for c.args.looking.now) c.requires.ranges;
+    rows = ap (λ (rs : List (List (Option (Bor Decl)))). map row_of rs) c.as_slice.ensures ∙ c.in_ok-declared.ensures;
+    counted = c.in_ok-turns.ensures;
+  };
+}

@@ -21,11 +21,11 @@ pub updates-requires : goal.updates-requires
 updates-requires c = knows _ (whole-ready c.args.looking c.requires.names c.args.arguments c.requires.arguments c.args.component c.requires.component)
 
 pub returns : goal.returns
-returns c from u role =
+returns c u nothing =
     let m : Measurer = record { looking = c.args.looking; arguments = c.args.arguments; component = c.args.component } in
     let own = home-number (source_for c.args.looking.now) c.args.component c.requires.component in
     c.updates.ensures
     ∙ ap-two (λ a us. updates_counted (names_by m) a (view_updates us))
     (c.conditions-guard.ensures ∙ ap (λ es. conditions_counted (names_by m) (view_exprs es)) c.as_slice.ensures) c.as_slice-2.ensures
     ∙ ap (λ (f : Name → Measure). updates_counted f (conditions_counted f (view_exprs c.args.edge.now.guards)) (view_updates c.args.edge.now.updates)) (names-open m)
-    ∙ edge-measured (home m) (name_measure (home m)) (names-of c.args.looking.now c.requires.names c.args.component (home m) own) c.args.edge.now from u role
+    ∙ edge-measured (home m) (name_measure (home m)) (names-of c.args.looking.now c.requires.names c.args.component (home m) own) c.args.edge.now u nothing

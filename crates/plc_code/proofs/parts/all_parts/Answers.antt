@@ -37,8 +37,9 @@ loop-event-preserved c =
     let before : event < length n.events =
     let below = c.loop-event-test.true in let end = c.len-event-end.ensures in let events = map-length event_tree c.args.net.now.events in omega (arith, below, end, events) in
     record {
-      parts = parts-more n all here later event next c.loop-event.invariant.ascending here_is later_is part c.in_ok-part.ensures done pushed (length n.events) c.in_ok-next.next pushed_is more_is before ∙ c.loop-event.invariant.parts;
+      parts = parts-more n all here later event next c.loop-event.invariant.ascending here_is later_is part c.in_ok-part.ensures.part done pushed (length n.events) c.in_ok-next.next pushed_is more_is before ∙ c.loop-event.invariant.parts;
       named = subst (AllByRecursion named) (sym later_is) (all-later named count all c.loop-event.invariant.named);
       ascending = still-ascends n all here later event next c.loop-event.invariant.ascending here_is later_is;
+      names = c.in_ok-part.ensures.still_names;
       next = own-more done pushed part next c.in_ok-next.next pushed_is c.loop-event.invariant.next more_is;
     }

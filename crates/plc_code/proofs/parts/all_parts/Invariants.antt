@@ -3,7 +3,7 @@ use Rattle.std.specs.List.{AllByRecursion, range_with_len}
 use Rattle.cif_net.specs.View.{choice_tree, net_tree}
 use Rattle.plc_gen.specs.Given.{own_variables, part_tree}
 use Rattle.plc_parts.specs.Parts.{data_parts, parts_from}
-use Rattle.plc_code.specs.Named.{IsNamedChoice}
+use Rattle.plc_code.specs.Named.{AreNames, IsNamedChoice}
 use Rattle.plc_code.specs.Order.{Ascending}
 use Rattle.plc_code.proofs.parts.all_parts.Given as goal
 
@@ -13,5 +13,6 @@ invariant-loop-event l = record {
   parts : map part_tree l.parts ++ parts_from (net_tree l.net) (map choice_tree l.rest) l.next (range_with_len l.event (length (net_tree l.net).events - l.event)) ≡ data_parts (net_tree l.net) (map choice_tree l.choices);
   named : AllByRecursion (IsNamedChoice (net_tree l.net)) (map choice_tree l.rest);
   ascending : Ascending l.event (map choice_tree l.rest);
+  names : AreNames (net_tree l.net) l.names;
   next : l.next ≡ 2 + length (own_variables (map part_tree l.parts));
 }

@@ -12,19 +12,20 @@ use Rattle.plc_code.proofs.Marking.{stand-once}
 use Rattle.plc_code.proofs.Parting.{part-is}
 use Rattle.plc_code.proofs.parts.data_part_of.Goals as goal
 
-pub declared-requires : goal.declared-requires
-declared-requires c =
+pub declared-requires-clause-once : goal.declared-requires-clause-once
+declared-requires-clause-once c =
     subst StandOnce (sym c.in_ok-outline.ensures.vars) (stand-once (flat_map (λ (d : NetChoice). targets d.writes) (map choice_tree c.args.choices.now)))
 
-pub returns : goal.returns
-returns c =
+pub returns-clause-part : goal.returns-clause-part
+returns-clause-part c =
     let n = net_tree c.args.net.now in
     let cs = map choice_tree c.args.choices.now in
     let made : Part = record { own = c.in_ok-variables.field-0.variables; body = c.in_ok-body.body } in
     IfOk-weaker c.new.result (λ (part : Part). part ≡ made) (λ (part : Part). part_tree part ≡ part_for n c.args.first cs)
     (λ part is.
     ap part_tree is
-    ∙ part-is n cs c.args.first c.in_ok-outline.outline c.args.names.now c.declared.new.new c.in_ok-outline.ensures c.requires.names c.requires.named c.in_ok-variables.ensures.names c.in_ok-variables.ensures.in_range
+    ∙ part-is n cs c.args.first c.in_ok-outline.outline c.declared.new.names c.declared.new.new c.in_ok-outline.ensures c.in_ok-variables.ensures.still_names c.requires.named c.in_ok-variables.ensures.names c.in_ok-variables.ensures.in_range
+    c.in_ok-variables.ensures.received
     c.in_ok-variables.field-0.ifs c.in_ok-marks.marks.done c.in_ok-variables.field-0.variables (view_stmts c.in_ok-body.body) c.in_ok-variables.ensures.ifs c.in_ok-marks.ensures.done
     c.in_ok-variables.ensures.variables c.in_ok-body.ensures)
     c.new.ensures

@@ -11,7 +11,7 @@ use Rattle.plc_code.proofs.program.emit_fitting.Goals as goal
 
 pub all_parts-requires-clause-named : goal.all_parts-requires-clause-named
 all_parts-requires-clause-named c =
-    subst (λ (cs : List Choice). AllByRecursion (IsNamedChoice (net_tree c.args.guarded.now.plain.net)) (map choice_tree cs)) (sym c.as_slice.ensures) (all-there c.args.guarded.now c.requires.silent)
+    subst (λ (cs : List Choice). AllByRecursion (IsNamedChoice (net_tree c.args.guarded.now.plain.net)) (map choice_tree cs)) (sym c.as_slice.ensures) (all-there c.args.guarded.now)
 
 pub all_parts-requires-clause-ascending : goal.all_parts-requires-clause-ascending
 all_parts-requires-clause-ascending c = subst (λ (cs : List Choice). Ascending 0 (map choice_tree cs)) (sym c.as_slice.ensures) (in-order c.args.guarded.now)

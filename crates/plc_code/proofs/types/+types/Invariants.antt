@@ -1,4 +1,4 @@
-use Rattle.std.proofs.Common.{◌≡◌, ◌++◌, None, drop}
+use Rattle.std.proofs.Common.{◌≡◌, ◌++◌, drop}
 use Rattle.cif_term.specs.View.{view_update_branches, view_updates}
 use Rattle.cif_net.specs.View.{net_tree}
 use Rattle.plc_act.specs.Own as o
@@ -6,8 +6,8 @@ use Rattle.plc_code.proofs.types.+types.Given as goal
 
 -- those of the last updates
 abbrev pub invariant-updates_types-loop-at : goal.invariant-updates_types-loop-at
-invariant-updates_types-loop-at l = l.types ≡ l.fn.types ++ o.updates_types (net_tree l.net) None (view_updates (drop l.at l.updates))
+invariant-updates_types-loop-at l = l.types ≡ l.fn.types ++ o.updates_types (net_tree l.net) l.received (view_updates (drop l.at l.updates))
 
 abbrev pub invariant-bodies_types-loop-branch : goal.invariant-bodies_types-loop-branch
 invariant-bodies_types-loop-branch l =
-    l.types ++ o.bodies_types (net_tree l.net) None (view_update_branches (drop l.branch-index l.branches)) ≡ l.fn.types ++ o.bodies_types (net_tree l.net) None (view_update_branches l.branches)
+    l.types ++ o.bodies_types (net_tree l.net) l.received (view_update_branches (drop l.branch-index l.branches)) ≡ l.fn.types ++ o.bodies_types (net_tree l.net) l.received (view_update_branches l.branches)

@@ -1,0 +1,62 @@
+use Rattle.std.proofs.Common.{List, map, ◌∙◌, ap}
+use Rattle.cif_net.specs.View.{event_tree}
+use Rattle.cif_net.specs.declared.events.Event.{Event}
+use Rattle.cif_inst.specs.Views.{row_tree}
+use Rattle.cif_inst.specs.declared.rows.Row.{Row}
+use Rattle.cif_inst.proofs.NetLaws.{IsMade, matched_names, fits_with, represents_with}
+use Rattle.cif_inst.proofs.instantiating.made_net.Goals as goal
+
+pub all_events-requires-clause-rows : goal.all_events-requires-clause-rows
+all_events-requires-clause-rows c = ap (λ (rs : List Row). map row_tree rs) c.as_slice-rows.ensures.value ∙ c.in_ok-components.ensures
+
+pub alphabets_of-requires-clause-rows : goal.alphabets_of-requires-clause-rows
+alphabets_of-requires-clause-rows c = ap (λ (rs : List Row). map row_tree rs) c.as_slice-rows.ensures.value ∙ c.in_ok-components.ensures
+
+pub alphabets_of-requires-clause-events : goal.alphabets_of-requires-clause-events
+alphabets_of-requires-clause-events c = ap (λ (es : List Event). map event_tree es) c.as_slice.ensures ∙ c.in_ok-events.ensures
+
+pub all_autos-requires-clause-rows : goal.all_autos-requires-clause-rows
+all_autos-requires-clause-rows c = ap (λ (rs : List Row). map row_tree rs) c.as_slice-rows.ensures.value ∙ c.in_ok-components.ensures
+
+pub all_autos-requires-clause-alphabets : goal.all_autos-requires-clause-alphabets
+all_autos-requires-clause-alphabets c = c.as_slice-2.ensures ∙ c.in_ok-alphabets.ensures.found
+
+pub objects_of-requires-clause-rows : goal.objects_of-requires-clause-rows
+objects_of-requires-clause-rows c = ap (λ (rs : List Row). map row_tree rs) c.as_slice-rows.ensures.value ∙ c.in_ok-components.ensures
+
+pub invariant_of-result : goal.invariant_of-result
+invariant_of-result c =
+    let made : IsMade c.args.typing.now.looking.now (map row_tree c.as_slice-rows.result.now) c.in_ok-autos.autos c.in_ok-events.events c.in_ok-objects.objects.inputs c.in_ok-objects.objects.vars c.in_ok-objects.objects.algs = record {
+      names = matched_names c.args.typing.now.looking.now c.requires.types.names c.requires.kinds;
+      built = c.requires.forms;
+      kinds = c.requires.kinds;
+      kept = c.in_ok-alphabets.ensures.none;
+      of_source = ap (λ (rs : List Row). map row_tree rs) c.as_slice-rows.ensures.value ∙ c.in_ok-components.ensures;
+      made = c.in_ok-autos.ensures;
+      declared = c.in_ok-events.ensures;
+      read = c.in_ok-objects.ensures.inputs;
+      stored = c.in_ok-objects.ensures.variables;
+      defined = c.in_ok-objects.ensures.algebraic;
+    } in
+    record {
+      fits = fits_with c.args.typing.now.looking.now (map row_tree c.as_slice-rows.result.now) c.in_ok-autos.autos c.in_ok-events.events c.in_ok-objects.objects.inputs c.in_ok-objects.objects.vars c.in_ok-objects.objects.algs made c.new.result c.new-2.result
+          c.new.ensures c.new-2.ensures c.nets_of_sources_are_nets.ensures
+          (c.counted_trees_have_small_parts.ensures c.args.typing.now.looking.now.spec.now c.requires.countable c.requires.small) (c.trees_have_small_arguments.ensures c.args.typing.now.looking.now.spec.now c.requires.small);
+    }
+
+pub returns-clause-represents : goal.returns-clause-represents
+returns-clause-represents c =
+    let made : IsMade c.args.typing.now.looking.now (map row_tree c.as_slice-rows.result.now) c.in_ok-autos.autos c.in_ok-events.events c.in_ok-objects.objects.inputs c.in_ok-objects.objects.vars c.in_ok-objects.objects.algs = record {
+      names = matched_names c.args.typing.now.looking.now c.requires.types.names c.requires.kinds;
+      built = c.requires.forms;
+      kinds = c.requires.kinds;
+      kept = c.in_ok-alphabets.ensures.none;
+      of_source = ap (λ (rs : List Row). map row_tree rs) c.as_slice-rows.ensures.value ∙ c.in_ok-components.ensures;
+      made = c.in_ok-autos.ensures;
+      declared = c.in_ok-events.ensures;
+      read = c.in_ok-objects.ensures.inputs;
+      stored = c.in_ok-objects.ensures.variables;
+      defined = c.in_ok-objects.ensures.algebraic;
+    } in
+    represents_with c.args.typing.now.looking.now (map row_tree c.as_slice-rows.result.now) c.in_ok-autos.autos c.in_ok-events.events c.in_ok-objects.objects.inputs c.in_ok-objects.objects.vars c.in_ok-objects.objects.algs made c.new.result c.new-2.result
+    c.new.ensures c.new-2.ensures c.nets_represent_their_sources.ensures
