@@ -137,6 +137,7 @@ class Writer:
         sort = self.choose.choice([EVENT_PARAMETER, ALG_PARAMETER, LOCATION_PARAMETER])
         if sort == EVENT_PARAMETER:
             self.put("event ")
+            self.channel(body)
         elif sort == LOCATION_PARAMETER:
             self.put("location ")
         else:
@@ -144,6 +145,14 @@ class Writer:
             self.type(body)
         body.parameters.append(sort)
         self.declare(body, sort)
+
+    def channel(self, body):
+        """Writes what is sent along an event, at times."""
+        kind = self.choose.random()
+        if kind < 0.3:
+            self.type(body)
+        elif kind < 0.4:
+            self.put("void ")
 
     def type(self, body):
         """Writes a type and a blank, and gives the names in it."""
@@ -164,7 +173,7 @@ class Writer:
     def value(self, body):
         kind = self.choose.randint(0, 5)
         if kind < 2:
-            self.put(str(self.choose.randint(0, 9)))
+            self.put("?" if self.choose.random() < 0.1 else str(self.choose.randint(0, 9)))
         elif kind == 2:
             self.put("(")
             self.use(body, "value", "2")
@@ -178,8 +187,7 @@ class Writer:
         self.put({"invariant": "invariant "}.get(kind, kind + " "))
         before = len(body.uses)
         if kind == "event":
-            if self.choose.random() < 0.3:
-                self.type(body)
+            self.channel(body)
             self.declare(body, EVENT)
         elif kind == "type":
             slot = self.declare(body, TYPE)
@@ -285,8 +293,9 @@ class Writer:
     def edge(self, body):
         self.put("edge ")
         self.use(body, "event")
-        if self.choose.random() < 0.2:
-            self.put("!")
+        role = self.choose.random()
+        self.put("!" if role < 0.3 else "?" if role < 0.45 else "")
+        if role < 0.2:
             self.value(body)
         if self.choose.random() < 0.4:
             self.put(" when ")

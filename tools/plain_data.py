@@ -5,6 +5,7 @@ about bodies as written, values and ranges about components. A refusal is due at
 """
 from collections import namedtuple
 
+from plain_channels import NOTHING, carried, carried_by, of_uses, received, sent_asked
 from plain_expressions import GREATEST, LEAST, Argument, Expr, branches_of, conjunction_of, evaluated, names_in
 from plain_names import (
     ALG, ALG_PARAMETER, CONSTANT, DISC, EVENT_PARAMETER, INPUT, LITERAL, LOCATION, LOCATION_PARAMETER, denoted, found_from, found_slot)
@@ -79,34 +80,39 @@ class Data:
             return tuple(slot.enum.literals)
         return BOOL if slot.sort in (LOCATION, LOCATION_PARAMETER) else self.kind_of_type(slot.home, slot.type)
 
-    def kind(self, body, expr):
+    def kind(self, body, expr, given=NOTHING):
+        """The kind of an expression, where `?` has the given one."""
         if expr.form == "name":
             return self.kind_of_slot(self.slot(body, expr.more))
+        if expr.form == "received":
+            return given
         if expr.form == "paren":
-            return self.kind(body, expr.parts[0])
+            return self.kind(body, expr.parts[0], given)
         if expr.form == "if":
-            return self.kind(body, branches_of(expr)[0][1])
+            return self.kind(body, branches_of(expr)[0][1], given)
         return BOOL if expr.form in TRUTH_FORMS else INT
 
-    def mismatches(self, body, expr, asked):
-        """The places where an expression, or a part of it, has another kind than asked; nothing is asked by None."""
-        if asked is not None and self.kind(body, expr) != asked:
+    def mismatches(self, body, expr, asked, given=NOTHING):
+        """The places where an expression, or a part of it, has another kind than asked, and those of each `?` where nothing is received.
+        Nothing is asked by None, and what has no kind is asked for none that it could have."""
+        is_asked = asked is not None or expr.form == "received"
+        kind = self.kind(body, expr, given) if is_asked else None
+        if kind == NOTHING or asked not in (None, kind):
             yield expr.at
-        for part, wanted in self.asked_parts(body, expr):
-            yield from self.mismatches(body, part, wanted)
+        for part, wanted in self.asked_parts(body, expr, given):
+            yield from self.mismatches(body, part, wanted, given)
 
-    def asked_parts(self, body, expr):
+    def asked_parts(self, body, expr, given):
         """The operands of an expression, each with the kind that is asked of it."""
         if expr.form == "if":
             branches = branches_of(expr)
             for conditions, _ in branches:
                 yield from ((condition, BOOL) for condition in conditions)
             values = [value for _, value in branches] + [expr.parts[-1]]
-            yield values[0], None
-            yield from ((value, self.kind(body, values[0])) for value in values[1:])
+            yield from ((value, self.kind(body, values[0], given)) for value in values)
         elif expr.form == "compare" and expr.more in ("=", "!="):
             yield expr.parts[0], None
-            yield expr.parts[1], self.kind(body, expr.parts[0])
+            yield expr.parts[1], self.kind(body, expr.parts[0], given)
         else:
             asked = None if expr.form == "paren" else BOOL if expr.form in ("not", "and", "or", "implies", "iff") else INT
             yield from ((part, asked) for part in expr.parts)
@@ -114,8 +120,9 @@ class Data:
     def of_kinds(self):
         """9: all expressions of the source, with the kinds that their positions ask for."""
         for body, expr, asked in self.asked():
-            for at in self.mismatches(body, expr, asked):
-                yield ("Mismatch", ("at", at))
+            yield from (("Mismatch", ("at", at)) for at in self.mismatches(body, expr, asked))
+        for body, expr, asked, given in self.asked_of_updates():
+            yield from (("Mismatch", ("at", at)) for at in self.mismatches(body, expr, asked, given))
 
     def asked(self):
         source = self.source
@@ -131,11 +138,17 @@ class Data:
             yield body, expr, self.kind_of_slot(parameter) if parameter.sort == ALG_PARAMETER else None
         for automaton in source.automata:
             for edge in automaton.edges:
-                conditions = [edge.guards] + list(conditions_in(edge.updates))
-                yield from ((automaton.body, expr, BOOL) for exprs in conditions for expr in exprs)
+                yield from ((automaton.body, expr, BOOL) for expr in edge.guards)
+                yield from ((automaton.body, expr, asked) for expr, asked in sent_asked(self, automaton.body, edge.use))
+
+    def asked_of_updates(self):
+        """What stands in updates, with the kind of `?` there."""
+        for automaton in self.source.automata:
+            for edge in automaton.edges:
+                given = received(self, automaton.body, edge.together)
+                yield from ((automaton.body, expr, BOOL, given) for exprs in conditions_in(edge.updates) for expr in exprs)
                 for update in updates_in(edge.updates):
-                    kind = self.kind_of_slot(self.slot(automaton.body, update.target))
-                    yield automaton.body, update.value, kind
+                    yield automaton.body, update.value, self.kind_of_slot(self.slot(automaton.body, update.target)), given
 
     # ---- arguments
 
@@ -147,13 +160,17 @@ class Data:
                 yield from ((body, expr, parameter) for expr, parameter in zip(instance.exprs, definition.body.slots))
 
     def of_arguments(self):
-        """9: an event or a location is a bare name, and an event has the class that its parameter asks."""
+        """9: an event or a location is a bare name, and an event has the class that its parameter asks, and carries the same."""
         for body, expr, parameter in self.arguments():
-            if parameter.sort != ALG_PARAMETER and (expr.form != "name" or self.lacks_class(body, expr.more, parameter)):
+            if parameter.sort != ALG_PARAMETER and (expr.form != "name" or self.is_other(body, expr.more, parameter)):
                 yield ("Mismatch", ("at", expr.at))
 
-    def lacks_class(self, body, use, parameter):
-        return parameter.sort == EVENT_PARAMETER and parameter.word != "event" and self.slot(body, use).word != parameter.word
+    def is_other(self, body, use, parameter):
+        """Whether an event is another one than the parameter asks for."""
+        if parameter.sort != EVENT_PARAMETER:
+            return False
+        is_classless = parameter.word != "event" and self.slot(body, use).word != parameter.word
+        return is_classless or carried(self, body, use) != carried_by(self, parameter)
 
     # ---- what may stand in constants, and what may be assigned
 
@@ -322,3 +339,4 @@ def assigned(updates, state):
 def kinds_due(data):
     for rule in (data.of_kinds, data.of_arguments, data.of_constants, data.of_targets, data.of_twice):
         yield from rule()
+    yield from of_uses(data)

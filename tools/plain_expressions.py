@@ -14,7 +14,7 @@ TRUTHS = ("not", "and", "or", "implies", "iff", "compare", "truth", "place")
 # their values, `name` with its use, `paren`, sums and products with their signs, `compare` with its sign, and `if` with how many
 # conditions each branch has. What stands in a net has no parentheses, one condition for each branch, and for names `number`,
 # `var` with its place in a state, `place` with that of an automaton and the location, `given` with an argument, and `alg` with an
-# algebraic variable.
+# algebraic variable. `received` is `?`, whose value is the last of a state with which something is received.
 Expr = namedtuple("Expr", "form parts more at")
 # Sizes are told up to here, which is far more than any rule takes.
 MOST_SIZE = 10**9
@@ -112,6 +112,8 @@ class ExpressionReader(Cursor):
         at = self.place()
         if self.is_next("ID", "."):
             return Expr("name", (), self.name(), at)
+        if self.skipped("?"):
+            return Expr("received", (), None, at)
         token = self.take("true", "false", "NUMBER", "(", "abs", "min", "max", "if")
         if token.kind in ("true", "false"):
             return Expr("truth", (), int(token.kind == "true"), at)
@@ -192,8 +194,8 @@ def evaluated(expr, state=(), meets=None):
     while expr.form in ("given", "alg"):
         expr = expr.more.meant(state)
     form, more = expr.form, expr.more
-    if form in ("number", "var", "place"):
-        value = more if form == "number" else state[more] if form == "var" else int(state[more[0]] == more[1])
+    if form in ("number", "var", "place", "received"):
+        value = simple_value(form, more, state)
     elif form in ("sum", "product"):
         value = chained(expr, state, meets)
     else:
@@ -201,6 +203,12 @@ def evaluated(expr, state=(), meets=None):
     if meets:
         meets(value)
     return value
+
+
+def simple_value(form, more, state):
+    if form == "place":
+        return int(state[more[0]] == more[1])
+    return more if form == "number" else state[-1 if form == "received" else more]
 
 
 def chained(expr, state, meets):
@@ -245,8 +253,9 @@ def joined(sign, one, other):
 
 
 def interval(expr, ranges, due):
-    """The interval of an expression of a net, over the ranges by places of a state. What rules on widths it breaks is added to
-    `due`. What is due at an argument as a whole is due where the argument stands, or the parentheses round its parameter."""
+    """The interval of an expression of a net, over the ranges by places of a state, that of `?` being the last. What rules on widths
+    it breaks is added to `due`. What is due at an argument as a whole is due where the argument stands, or the parentheses round its
+    parameter."""
     if expr.form == "alg":
         # what is due in its definitions is due there
         return in_64_bits(expr.more.told("interval", lambda: joined_interval(expr.more.values, ranges, set())), expr, due)
@@ -281,8 +290,8 @@ def simple_interval(expr, parts, ranges):
     form = expr.form
     if form in TRUTHS:
         return 0, 1
-    if form in ("number", "var"):
-        return (expr.more, expr.more) if form == "number" else ranges[expr.more]
+    if form in ("number", "var", "received"):
+        return (expr.more, expr.more) if form == "number" else ranges[-1 if form == "received" else expr.more]
     if form == "if":
         values = parts[1:-1:2] + parts[-1:]
         return min(lo for lo, _ in values), max(hi for _, hi in values)

@@ -1,351 +1,25 @@
-"""Reads sources of automata with data and definitions, and says what they mean: which rules they break, their choices and scans.
+"""Says what sources of automata with data and definitions mean: which rules they break, their choices and scans.
 
 Plain and slow on purpose, and shares nothing with the program: the CIF 3 language reference ("Syntax", "Scoping", "Component
-definition and instantiation", "Synchronization", "Monitoring", "Updates", "Algebraic variables", "Input variables") and the rules that
-README and `docs/DEFINITIONS.md` print, written down once more. A parameter is followed to its argument wherever it is named, and an
-algebraic variable to its definition, and nothing is put in its place. Channels and invariants are not read here.
+definition and instantiation", "Synchronization", "Channels", "Monitoring", "Updates", "Algebraic variables", "Input variables") and the
+rules that README and `docs/DEFINITIONS.md` print, written down once more. A parameter is followed to its argument wherever it is named,
+and an algebraic variable to its definition, and nothing is put in its place. Invariants are not read here.
 """
 import itertools
 import re
 import sys
-from collections import namedtuple
+from collections import defaultdict, namedtuple
 
-from plain_algebra import Definition, definitions_of, in_order, of_cycles, of_equations
-from plain_data import Data, If, Set, Type, Values, assigned, exprs_of, kinds_due
-from plain_expressions import Algebraic, Expr, ExpressionReader, depth, evaluated, interval, joined_interval, names_in, size
-from plain_names import (
-    ALG, ALG_PARAMETER, COMPONENT, CONSTANT, DEFINITION, DISC, EVENT, EVENT_PARAMETER, INPUT, INSTANCE, LITERAL, LOCATION,
-    LOCATION_PARAMETER, TYPE, Body, Frame, Instance, Slot, denoted, due as names_due)
-from plain_tokens import Unread
+from plain_algebra import definitions_of, in_order, of_cycles, of_equations
+from plain_channels import RECEIVES, SENDS, SYNCS, VOID
+from plain_data import Data, Values, assigned, exprs_of, kinds_due
+from plain_expressions import Algebraic, Expr, depth, evaluated, interval, joined_interval, size
+from plain_names import ALG, CONSTANT, DISC, EVENT, INPUT, LOCATION, TYPE, Frame, denoted, due as names_due
 
 # Arguments that name parameters nest as deep as instances do.
 sys.setrecursionlimit(4000)
 
-CLASSES = ("event", "controllable", "uncontrollable")
-AUTOMATON_WORDS = ("automaton", "plant", "requirement", "supervisor")
 MOST_OBJECTS, MOST_NODES, MOST_DEPTH, MOST_CHOICES = 100000, 1000000, 100, 16384
-
-# An edge as written, one for each of its event uses; the target is None where there is no `goto`.
-Edge = namedtuple("Edge", "use origin target guards updates")
-# An automaton as written, which may be a definition; alphabet and monitors are lists of uses, or None.
-Automaton = namedtuple("Automaton", "at body alphabet monitors places initials edges")
-
-
-# ---- the reader
-
-class Source(ExpressionReader):
-    """What a text declares: bodies as written, those of definitions too, in text order.
-
-    Also all automata, and all types with the bodies in which they stand, the slots that have a value, and the predicates of
-    declarations and locations. A body has its own types and slots with values, the number of its marking predicates, its definitions of
-    algebraic variables and the number of equations among its declarations, and its automaton, or None. A slot of a type, a constant, a
-    variable or a parameter has its body as `home`, and its `type` and `value`; one of an event or an event parameter has the `word` of
-    its class, one of an enumeration the names of its `literals`, and one of a literal the slot `enum`.
-    """
-
-    def __init__(self, text):
-        super().__init__(text)
-        self.bodies, self.automata = [], []
-        self.types, self.valued, self.marks, self.frames = [], [], [], None
-        self.root = self.body_in(None, False)
-        while self.next < len(self.tokens):
-            self.item(self.root)
-        for body in self.bodies:
-            body.is_whole()
-
-    def body_in(self, outer, is_automaton):
-        body = Body(outer, is_automaton)
-        body.types, body.valued, body.mark_count, body.definitions, body.equation_count, body.automaton = [], [], 0, [], 0, None
-        self.bodies.append(body)
-        return body
-
-    # declarations
-
-    def declare(self, body, sort):
-        token = self.take("ID")
-        slot = Slot(token.text, token.at, sort)
-        slot.home, slot.type, slot.value, slot.literals, slot.word = body, None, None, [], None
-        body.slots.append(slot)
-        return slot
-
-    def events(self, body):
-        word = self.take(*CLASSES).kind
-        for slot in self.listed(lambda: self.declare(body, EVENT)):
-            slot.word = word
-        self.take(";")
-
-    def expression_in(self, body):
-        """An expression, whose names are used in the body."""
-        expr = self.expression()
-        body.uses += [(use.name, use.at, "value") for use in names_in(expr)]
-        return expr
-
-    def type_in(self, body):
-        if self.is_next("bool", "int"):
-            type_ = Type(self.take("bool", "int").kind, None)
-            if type_.form == "int" and self.skipped("["):
-                lo = self.expression_in(body)
-                self.take("..")
-                type_ = Type("range", (lo, self.expression_in(body)))
-                self.take("]")
-        else:
-            type_ = Type("name", self.name())
-            body.uses.append((type_.more.name, type_.more.at, "type"))
-        self.types.append((body, type_))
-        body.types.append(type_)
-        return type_
-
-    def type_names(self, body):
-        self.take("type")
-
-        def one():
-            slot = self.declare(body, TYPE)
-            self.take("=")
-            slot.type = self.type_in(body)
-            note_needs(slot)
-        self.listed(one)
-        self.take(";")
-
-    def enumeration(self, body):
-        self.take("enum")
-        slot = self.declare(body, TYPE)
-        self.take("=")
-        for literal in self.listed(lambda: self.declare(body, LITERAL)):
-            literal.enum = slot
-            slot.literals.append(literal.name)
-        self.take(";")
-
-    def typed(self, body, word, sort, needs_value):
-        """Constants or variables of one type."""
-        self.take(word)
-        type_ = self.type_in(body)
-
-        def one():
-            slot = self.declare(body, sort)
-            slot.type = type_
-            if self.is_next("=") or needs_value:
-                self.take("=")
-                slot.value = self.expression_in(body)
-                self.valued.append(slot)
-                body.valued.append(slot)
-            note_needs(slot)
-        self.listed(one)
-        self.take(";")
-
-    def inputs(self, body):
-        self.take("input")
-        type_ = self.type_in(body)
-        for slot in self.listed(lambda: self.declare(body, INPUT)):
-            slot.type = type_
-        self.take(";")
-
-    def algebraic(self, body):
-        """Algebraic variables of one type, each with its definition or without."""
-        self.take("alg")
-        type_ = self.type_in(body)
-
-        def one():
-            slot = self.declare(body, ALG)
-            slot.type = type_
-            if self.skipped("="):
-                body.definitions.append(Definition(slot.name, None, self.expression_in(body)))
-        self.listed(one)
-        self.take(";")
-
-    def equation(self, body, place=None):
-        self.take("equation")
-        token = self.take("ID")
-        body.own.append((token.text, token.at, ALG))
-        self.take("=")
-        body.definitions.append(Definition(token.text, place, self.expression_in(body)))
-        body.equation_count += place is None
-        self.take(";")
-
-    def predicates(self, body):
-        """Marking predicates."""
-        self.take("marked")
-        found = self.listed(lambda: self.expression_in(body))
-        self.marks += [(body, expr) for expr in found]
-        self.take(";")
-        return len(found)
-
-    def declaration(self, body):
-        """Whether a declaration comes next, which is taken then."""
-        if self.is_next(*CLASSES):
-            self.events(body)
-        elif self.is_next("type"):
-            self.type_names(body)
-        elif self.is_next("enum"):
-            self.enumeration(body)
-        elif self.is_next("const"):
-            self.typed(body, "const", CONSTANT, True)
-        elif self.is_next("marked"):
-            body.mark_count += self.predicates(body)
-        elif self.is_next("input"):
-            self.inputs(body)
-        elif self.is_next("alg"):
-            self.algebraic(body)
-        elif self.is_next("equation"):
-            self.equation(body)
-        else:
-            return False
-        return True
-
-    def item(self, body):
-        if self.declaration(body):
-            return
-        if self.is_next("ID"):
-            self.instance(body)
-            return
-        is_automaton = not self.is_next("group")
-        if self.take("group", *AUTOMATON_WORDS).kind not in ("group", "automaton"):
-            self.skipped("automaton")
-        slot = self.declare(body, DEFINITION if self.skipped("def") else COMPONENT)
-        slot.body = self.body_in(body, is_automaton)
-        if slot.sort == DEFINITION:
-            self.parameters(slot.body)
-        else:
-            body.inner.append(slot.body)
-        self.take(":")
-        if is_automaton:
-            self.automaton(slot)
-        else:
-            while not self.is_next("end"):
-                self.item(slot.body)
-        self.take("end")
-
-    # definitions and instances
-
-    def parameters(self, body):
-        self.take("(")
-        has_more = not self.is_next(")")
-        while has_more:
-            self.parameter(body)
-            has_more = self.skipped(";")
-        self.take(")")
-
-    def parameter(self, body):
-        """Parameters of one sort."""
-        word = self.take("alg", "location", *CLASSES).kind
-        sort = {"alg": ALG_PARAMETER, "location": LOCATION_PARAMETER}.get(word, EVENT_PARAMETER)
-        type_ = self.type_in(body) if word == "alg" else None
-        for slot in self.listed(lambda: self.declare(body, sort)):
-            slot.type, slot.word = type_, word
-            body.parameters.append(sort)
-
-    def instance(self, body):
-        slot = self.declare(body, INSTANCE)
-        self.take(":")
-        definition = self.name()
-        body.uses.append((definition.name, definition.at, "definition"))
-        slot.instance = Instance(body, slot.name, slot.at, definition.name, [])
-        body.instances.append(slot.instance)
-        self.take("(")
-        if not self.is_next(")"):
-            self.listed(lambda: self.argument(body, slot.instance))
-        self.take(")")
-        self.take(";")
-
-    def argument(self, body, instance):
-        expr = self.expression()
-        instance.exprs.append(expr)
-        if expr.form == "name":
-            instance.arguments.append((expr.more.name, expr.at, True))
-        else:
-            instance.arguments.append((None, expr.at, False))
-            body.uses += [(use.name, use.at, "value") for use in names_in(expr)]
-
-    # automata
-
-    def automaton(self, slot):
-        body, clauses, found = slot.body, {}, Automaton(slot.at, slot.body, None, None, [], [], [])
-        while not self.is_next("location"):
-            if self.is_next("disc"):
-                self.typed(body, "disc", DISC, False)
-            elif not self.declaration(body):
-                word = self.take("alphabet", "monitor").kind
-                if word in clauses:
-                    raise Unread()
-                clauses[word] = [] if self.is_next(";") else self.listed(lambda: self.event_use(body))
-                self.take(";")
-        while self.is_next("location"):
-            self.location(found)
-        if None in found.places and len(found.places) > 1:
-            raise Unread()
-        body.automaton = found._replace(alphabet=clauses.get("alphabet"), monitors=clauses.get("monitor"))
-        self.automata.append(body.automaton)
-
-    def event_use(self, body):
-        use = self.name()
-        body.uses.append((use.name, use.at, "event"))
-        return use
-
-    def location(self, automaton):
-        self.take("location")
-        automaton.places.append(self.declare(automaton.body, LOCATION).name if self.is_next("ID") else None)
-        if self.take(";", ":").kind == ";":
-            return
-        while self.is_next("initial", "marked", "equation", "edge"):
-            if self.is_next("edge"):
-                self.edge(automaton)
-            elif self.is_next("equation"):
-                self.equation(automaton.body, len(automaton.places) - 1)
-            elif self.is_next("initial"):
-                self.take("initial")
-                automaton.initials.append(len(automaton.places) - 1)
-                self.skipped("true")
-                self.take(";")
-            else:
-                self.marking(automaton.body)
-
-    def marking(self, body):
-        """`marked;`, or with predicates."""
-        if [token.kind for token in self.tokens[self.next:self.next + 2]] == ["marked", ";"]:
-            self.next += 2
-        else:
-            self.predicates(body)
-
-    def edge(self, automaton):
-        body, number = automaton.body, len(automaton.places) - 1
-        self.take("edge")
-        uses, target = self.listed(lambda: self.event_use(body)), None
-        guards = self.listed(lambda: self.expression_in(body)) if self.skipped("when") else []
-        updates = self.listed(lambda: self.update(body)) if self.skipped("do") else []
-        if self.skipped("goto"):
-            token = self.take("ID")
-            target = token.text
-            body.own.append((token.text, token.at, LOCATION))
-        self.take(";")
-        automaton.edges.extend(Edge(use, number, target, guards, updates) for use in uses)
-
-    def update(self, body):
-        if not self.is_next("if"):
-            target = self.name()
-            body.uses.append((target.name, target.at, "variable"))
-            self.take(":=")
-            return Set(target, self.expression_in(body))
-        self.take("if")
-        branches, other, has_more = [], [], True
-        while has_more:
-            conditions = self.listed(lambda: self.expression_in(body))
-            self.take(":")
-            branches.append((conditions, self.listed(lambda: self.update(body))))
-            has_more = self.skipped("elif")
-        if self.skipped("else"):
-            other = self.listed(lambda: self.update(body))
-        self.take("end")
-        return If(branches, other)
-
-
-def note_needs(slot):
-    """Notes what a type or a constant needs: the names in its type and value."""
-    if slot.sort not in (TYPE, CONSTANT):
-        return
-    exprs = list(slot.type.more) if slot.type.form == "range" else []
-    uses = [slot.type.more] if slot.type.form == "name" else []
-    for expr in exprs + ([] if slot.value is None else [slot.value]):
-        uses += names_in(expr)
-    slot.names = [(use.name, use.at, None) for use in uses]
 
 
 # ---- the rules up to numbers
@@ -395,18 +69,33 @@ def event_of(frame, use):
 
 
 def alphabet_of(frame):
-    """The events that are declared as its alphabet, or else found on its edges."""
+    """The events that are declared as its alphabet, or else found on its edges, but for those that send or receive."""
     automaton = frame.body.automaton
-    uses = [edge.use for edge in automaton.edges] if automaton.alphabet is None else automaton.alphabet
+    uses = synchronised(automaton) if automaton.alphabet is None else automaton.alphabet
     return {event_of(frame, use) for use in uses}
+
+
+def synchronised(automaton):
+    """The uses of events on the edges that neither send nor receive."""
+    return [edge.use for edge in automaton.edges if edge.use.role == SYNCS]
 
 
 def of_alphabets(frames):
     for frame in automata_in(frames):
         automaton, alphabet = frame.body.automaton, alphabet_of(frame)
-        for use in [edge.use for edge in automaton.edges] + (automaton.monitors or []):
+        for use in synchronised(automaton) + (automaton.monitors or []):
             if event_of(frame, use) not in alphabet:
                 yield ("AlphabetLacks", ("at", use.at))
+
+
+def of_roles(frames):
+    """15: an automaton synchronises on an event, or sends on it, or receives on it."""
+    for frame in automata_in(frames):
+        automaton = frame.body.automaton
+        roles = {(event, SYNCS) for event in alphabet_of(frame)}
+        roles |= {(event_of(frame, edge.use), edge.use.role) for edge in automaton.edges if edge.use.role != SYNCS}
+        if len({event for event, _ in roles}) < len(roles):
+            yield ("RoleMixed", ("at", automaton.at))
 
 
 def of_ranges(frames):
@@ -417,9 +106,10 @@ def of_ranges(frames):
 
 # ---- nets: automata, events and variables by their numbers
 
-Event = namedtuple("Event", "path word")
-# An edge of a net: the numbers of its event and of its places, its guard, and its updates.
-Arc = namedtuple("Arc", "event origin target guard updates")
+# An event of a net: its channel is the range of what is sent along it, VOID, or None.
+Event = namedtuple("Event", "path word channel")
+# An edge of a net: the number of its event and its role, the numbers of its places, its guard, what it sends, or None, and its updates.
+Arc = namedtuple("Arc", "event role origin target guard sent updates")
 Party = namedtuple("Party", "path places first alphabet monitors arcs")
 Variable = namedtuple("Variable", "path kind range first")
 STAYS = None
@@ -431,12 +121,13 @@ class Net:
 
     def __init__(self, source):
         frames, _ = components_of(source)
+        self.forms = source.forms
         self.data, automata, events = Data(source), automata_in(frames), declared_in(frames, EVENT)
         variables, inputs = declared_in(frames, DISC), declared_in(frames, INPUT)
         self.numbers = {event: number for number, event in enumerate(events)}
         algebraic = {it: Algebraic(dotted(*it), self.data.kind_of_slot(it[1])) for it in declared_in(frames, ALG)}
         self.values = Values({**self.meanings(automata, variables + inputs), **algebraic})
-        self.events = [Event(dotted(frame, slot), slot.word) for frame, slot in events]
+        self.events = [self.event(frame, slot) for frame, slot in events]
         self.variables = [self.variable(frame, slot) for frame, slot in variables]
         self.inputs = [self.variable(frame, slot) for frame, slot in inputs]
         self.define(algebraic, automata)
@@ -444,10 +135,16 @@ class Net:
         self.ordered = in_order(self.algebraic)
         self.parties = [self.party(frame) for frame in automata]
         self.ranges = [(0, party.places - 1) for party in self.parties] + [it.range for it in self.variables + self.inputs]
-        self.ways, self.listed, self.steps = [[] for _ in events], {}, {}
+        self.ways, self.listed, self.steps = defaultdict(list), {}, {}
         for number, party in enumerate(self.parties):
             for event in party.alphabet:
-                self.ways[event].append((number, self.ways_of(party, event)))
+                self.ways[event, SYNCS].append((number, self.ways_of(party, event)))
+            for event, role in {(arc.event, arc.role) for arc in party.arcs if arc.role != SYNCS}:
+                self.ways[event, role].append((number, self.ways_of(party, event)))
+
+    def event(self, frame, slot):
+        channel = slot.channel if slot.channel in (None, VOID) else self.values.range_of(frame, slot.channel)
+        return Event(dotted(frame, slot), slot.word, channel)
 
     def variable(self, frame, slot):
         first = self.values.first_value(frame, slot)
@@ -485,19 +182,22 @@ class Net:
     def arc(self, frame, edge):
         target = edge.origin if edge.target is None else frame.body.automaton.places.index(edge.target)
         guard = self.values.conjunction(frame, edge.guards) if edge.guards else Expr("number", (), 1, edge.use.at)
+        sent = None if edge.use.sent is None else self.values.resolved(frame, edge.use.sent)
         updates = self.values.resolved_updates(frame, edge.updates)
-        return Arc(self.number(frame, edge.use), edge.origin, target, guard, updates)
+        return Arc(self.number(frame, edge.use), edge.use.role, edge.origin, target, guard, sent, updates)
 
     def initial(self):
         return tuple([party.first for party in self.parties] + [it.first for it in self.variables + self.inputs])
 
     def exprs(self):
-        """The guards, conditions and right sides of all edges, and the definitions of algebraic variables."""
-        for party in self.parties:
-            for arc in party.arcs:
-                yield from exprs_of_arc(arc)
+        """The guards, sent values, conditions and right sides of all edges, and the definitions of algebraic variables."""
+        for arc in self.arcs():
+            yield from exprs_of_arc(arc)
         for it in self.algebraic:
             yield from it.values
+
+    def arcs(self):
+        return (arc for party in self.parties for arc in party.arcs)
 
     # the rules on algebraic variables, widths and sizes
 
@@ -508,8 +208,11 @@ class Net:
         due = set()
         for it in self.ordered:
             it.told("interval", lambda: joined_interval(it.values, self.ranges, due))
-        for expr in self.exprs():
-            interval(expr, self.ranges, due)
+        for arc in self.arcs():
+            channel = self.events[arc.event].channel
+            ranges = self.ranges if channel in (None, VOID) else self.ranges + [channel]
+            for expr in exprs_of_arc(arc):
+                interval(expr, ranges, due)
         return due
 
     def nodes(self):
@@ -526,31 +229,27 @@ class Net:
         """What a party of the event may do: take one of its edges for it, in text order, or at last stay."""
         return [arc for arc in party.arcs if arc.event == event] + ([STAYS] if event in party.monitors else [])
 
-    def options(self, event):
-        """For each party of the event its number and its ways, in ascending number."""
-        return self.ways[event]
+    def groups(self, event):
+        """Those that make a step of the event together, each with its number and its ways, in ascending number. Of a channel there is a
+        group for each sender and each other receiver, in the order of the senders and then of the receivers."""
+        syncing = self.ways[event, SYNCS]
+        if self.events[event].channel is None:
+            return [syncing] if syncing else []
+        pairs = itertools.product(self.ways[event, SENDS], self.ways[event, RECEIVES])
+        return [sorted([sender, receiver] + syncing, key=lambda it: it[0]) for sender, receiver in pairs if sender[0] != receiver[0]]
 
     def count(self, event):
         """How many choices the event has."""
-        options, product = self.options(event), 1
-        for _, ways in options:
-            product *= len(ways)
-        return product if options else 0
+        return sum(map(count_of, self.groups(event)))
 
     def weight(self, event):
         """What all choices of the event count: each one, its parties, and the sizes of what the edges that it takes evaluate."""
-        options, count = self.options(event), self.count(event)
-        if count == 0:
-            return 0
-        moves = sum(count // len(ways) * sum(sum(map(size, exprs_of_arc(way))) for way in ways if way is not STAYS) for _, ways in options)
-        return count * (1 + len(options)) + moves
+        return sum(map(weight_of, self.groups(event)))
 
     def choices(self, event):
         """The choices in their order, each a list of (party, edge or STAYS)."""
         if event not in self.listed:
-            numbers = [number for number, _ in self.options(event)]
-            products = itertools.product(*[ways for _, ways in self.options(event)]) if numbers else []
-            self.listed[event] = [list(zip(numbers, product)) for product in products]
+            self.listed[event] = [choice for group in self.groups(event) for choice in choices_of(group)]
         return self.listed[event]
 
     # steps
@@ -565,16 +264,23 @@ class Net:
                 return False
         return True
 
-    def after(self, choice, state):
-        """The state after a choice that agrees, or None where a value leaves its range. All that is read is the state before."""
-        after = list(state)
+    def sent(self, choice, event, state):
+        """What is sent in a choice that agrees, as a list of at most one, or None where it leaves the range of its channel."""
+        found = sent_values(choice, state)
+        return found if all(is_within(value, self.events[event].channel) for value in found) else None
+
+    def after(self, choice, event, state):
+        """The state after a choice that agrees, or None where a value leaves its range. All that is read is the state before, and what
+        is sent."""
+        sent, after = self.sent(choice, event, state), list(state)
+        if sent is None:
+            return None
         for number, arc in choice:
             if arc is STAYS:
                 continue
             after[number] = arc.target
-            for place, value in assigned(arc.updates, state):
-                lo, hi = self.ranges[place]
-                if not lo <= value <= hi:
+            for place, value in assigned(arc.updates, state + tuple(sent)):
+                if not is_within(value, self.ranges[place]):
                     return None
                 after[place] = value
         return tuple(after)
@@ -582,7 +288,7 @@ class Net:
     def moves(self, event, state):
         """The states after a step of the event, by its choices in their order."""
         for choice in self.choices(event):
-            after = self.after(choice, state) if self.agrees(choice, event, state) else None
+            after = self.after(choice, event, state) if self.agrees(choice, event, state) else None
             if after is not None:
                 yield after
 
@@ -647,8 +353,39 @@ def is_ready(arc, number, state):
     return arc.origin == state[number] and evaluated(arc.guard, state) == 1
 
 
+def sent_values(choice, state):
+    return [evaluated(arc.sent, state) for _, arc in choice if arc is not STAYS and arc.sent is not None]
+
+
+def is_within(value, bounds):
+    return bounds[0] <= value <= bounds[1]
+
+
 def exprs_of_arc(arc):
-    return [arc.guard] + list(exprs_of(arc.updates))
+    return [arc.guard] + [arc.sent] * (arc.sent is not None) + list(exprs_of(arc.updates))
+
+
+# ---- the choices of a group: numbers of automata with their ways
+
+def choices_of(group):
+    """The choices in their order, each a list of (party, edge or STAYS)."""
+    numbers = [number for number, _ in group]
+    return [list(zip(numbers, product)) for product in itertools.product(*[ways for _, ways in group])]
+
+
+def count_of(group):
+    product = 1
+    for _, ways in group:
+        product *= len(ways)
+    return product
+
+
+def weight_of(group):
+    count = count_of(group)
+    if count == 0:
+        return 0
+    moves = sum(count // len(ways) * sum(sum(map(size, exprs_of_arc(way))) for way in ways if way is not STAYS) for _, ways in group)
+    return count * (1 + len(group)) + moves
 
 
 def names_of(letter, things):
@@ -665,8 +402,8 @@ def tidied(path):
 
 NUMBERS = {"BadByte": 1, "NumberTooBig": 2, "OpenComment": 3, "NotRead": 4, "Unknown": 5, "Duplicate": 6, "WrongKind": 7,
            "DefinitionCycle": 8, "Mismatch": 9, "NotConstant": 10, "Initials": 11, "NotOwn": 12, "AssignedTwice": 13, "AlphabetLacks": 14,
-           "Equations": 16, "TooManyObjects": 17, "ConstantRange": 18, "AlgCycle": 19, "ZeroDivisor": 20, "TooWide": 21, "TooLarge": 24,
-           "TooManyChoices": 25, "Unclassed": 28, "NotBuilt": 30}
+           "RoleMixed": 15, "Equations": 16, "TooManyObjects": 17, "ConstantRange": 18, "AlgCycle": 19, "ZeroDivisor": 20, "TooWide": 21,
+           "TooLarge": 24, "TooManyChoices": 25, "Unclassed": 28, "NotBuilt": 30}
 
 
 def line_of(refusal):
@@ -681,6 +418,7 @@ def of_components(source):
     if objects > MOST_OBJECTS:
         yield ("TooManyObjects", ("count", MOST_OBJECTS + 1))
     yield from of_alphabets(frames)
+    yield from of_roles(frames)
     yield from of_ranges(frames)
 
 

@@ -22,6 +22,8 @@ class DataMaker:
                 self.enumeration()
             for _ in range(self.choose.choice([0, 0, 1, 2])):
                 self.type_name()
+        if "channel" in self.forms:
+            self.declare_channels()
         if self.has_definitions:
             self.declare_parameters()
         if not self.has_data:
@@ -143,6 +145,8 @@ class DataMaker:
         """A name of something of that kind, or None."""
         if self.fails("name"):
             return self.spelled(self.odd_name())
+        if kind is not None and (kind == self.received and self.maybe(0.4) or self.fails("received")):
+            return "?"
         slots = {slot for slot in known if slot.kind == kind}
         found = [thing for thing in self.things(body) if thing.slot in slots]
         own = [thing for thing in found if thing.slot.sort in FAVOURED]
@@ -250,13 +254,15 @@ class DataMaker:
             known = self.everything()
         return [self.truth(body, self.choose.choice([0, 1, 1, 2, 3]), known) for _ in range(count)]
 
-    def end_of_edge(self, scope):
-        """Guards and updates of an edge, of either sometimes none."""
+    def end_of_edge(self, scope, received):
+        """Guards and updates of an edge, of either sometimes none. In updates `?` has the kind that is received, if there is one."""
         text, own = "", [slot for slot in self.variables if slot.scope is scope]
         if self.has_data and self.maybe(0.6 if scope.definition or self.inputs or self.algebraics else 0.35):
             text += " when " + ", ".join(self.conditions(scope.body))
-        if own and self.maybe(0.75):
+        if own and self.maybe(0.9 if received else 0.75):
+            self.received = received
             text += " do " + self.updates(scope.body, own, 2)
+            self.received = None
         return text
 
     def updates(self, body, own, depth):
@@ -283,6 +289,8 @@ class DataMaker:
         if self.fails("own"):
             slot = self.choose.choice(self.variables + self.inputs + self.algebraics)
         target = self.named(body, None, []) or self.exact(body, slot, not self.fails("own"))
+        if slot.kind == self.received and self.maybe(0.6):
+            return "%s := %s" % (target, self.of_received(self.exact(body, slot)) if slot.kind == "int" else "?")
         if slot.kind == "int" and self.maybe(0.6):
             name = self.exact(body, slot)
             return "%s := %s" % (target, self.choose.choice(["%s + 1", "%s - 1", "(%s + 1) mod 4", "1 - %s", "min(%s + 2, 5)"]) % name)

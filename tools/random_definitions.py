@@ -103,9 +103,11 @@ class DefinitionMaker:
         slot = self.declared(scope, sort, "bool")
         slot.word, slot.chosen = "location", None
         if sort == EVENT_PARAMETER:
-            slot.word = self.choose.choice(CLASSES + ["event"])
+            slot.word, slot.channel = self.choose.choice(CLASSES + ["event"]), None
+            if "channel" in self.forms and self.maybe(0.5):
+                self.channel_of_parameter(scope, slot)
             word = self.choose.choice(CLASSES) if slot.word == "event" else slot.word
-            if not any(event.word == word and event.scope is self.root for event in self.events):
+            if not any(fits(event, slot) and event.scope is self.root for event in self.events):
                 self.event(self.root, word)
         elif sort == ALG_PARAMETER:
             slot.word, slot.chosen = "alg", TRUTH if self.maybe(0.4) else self.some_type(scope)
@@ -118,13 +120,14 @@ class DefinitionMaker:
         """The parameters as they are written, those of one sort sometimes together."""
         text, last = "", None
         for slot in scope.body.slots[:len(scope.body.parameters)]:
-            if last and (slot.word, slot.chosen) == (last.word, last.chosen) and self.maybe(0.5):
+            chosen = slot.channel if slot.sort == EVENT_PARAMETER else slot.chosen
+            if last and (slot.word, chosen) == last and self.maybe(0.5):
                 text += ", "
             else:
-                type_ = slot.chosen.write(scope.body) + " " if slot.chosen else ""
+                type_ = chosen.write(scope.body) + " " if chosen else ""
                 text += ("; " if last else "") + slot.word + " " + type_
             text += self.spelled([slot.name])
-            last = slot
+            last = slot.word, chosen
         return text
 
     # ---- arguments
@@ -150,7 +153,7 @@ class DefinitionMaker:
             found = self.named(body, parameter.kind, known) if self.maybe(0.7) else None
             return found or self.value(body, parameter.kind, self.choose.choice([0, 1, 1, 2]), self.everything())
         sorts = EVENTS if parameter.sort == EVENT_PARAMETER else LOCATIONS
-        found = [thing for thing in self.things(body) if thing.slot.sort in sorts and has_class(thing.slot, parameter)]
+        found = [thing for thing in self.things(body) if thing.slot.sort in sorts and fits(thing.slot, parameter)]
         if not found:
             raise Unreached
         own = [thing for thing in found if thing.slot.sort in (EVENT_PARAMETER, LOCATION_PARAMETER)]
@@ -176,8 +179,14 @@ class DefinitionMaker:
         return "(%s)" % self.value(body, self.choose.choice(kinds), 1, self.everything())
 
 
-def has_class(slot, parameter):
-    return parameter.sort != EVENT_PARAMETER or parameter.word in ("event", slot.word)
+def carried_by(slot):
+    """What is sent along an event: None where it is no channel or no event, and else a kind, which is VOID without a value."""
+    return slot.channel.kind if slot.sort in EVENTS and slot.channel else None
+
+
+def fits(slot, parameter):
+    """Whether an event has the class of an event parameter, and carries the same."""
+    return parameter.sort != EVENT_PARAMETER or parameter.word in ("event", slot.word) and carried_by(slot) == carried_by(parameter)
 
 
 def around(scope):

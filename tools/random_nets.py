@@ -1,12 +1,14 @@
-"""Makes random sources of automata that synchronise, with data, inputs, algebraic variables and definitions, and without, sound ones and,
-where faults are asked for, others.
+"""Makes random sources of automata that synchronise, with data, inputs, algebraic variables, channels and definitions, and without, sound
+ones and, where faults are asked for, others.
 
 Names come from a few for each source, so that they shadow one another, and stand as dotted names, through instances too, and as names
 from the root.
 """
+from plain_channels import SYNCS
 from plain_names import COMPONENT, DEFINITION, EVENT, INSTANCE, LOCATION, PARAMETERS, Body, Slot, found_slot
 from plain_tokens import RESERVED, lexed
 from random_algebra import AlgebraMaker
+from random_channels import ChannelMaker
 from random_data import DataMaker
 from random_definitions import EVENTS, DefinitionMaker, Thing, Unreached
 
@@ -17,15 +19,17 @@ NAMES = ["a", "b", "e", "x", "A", "E", "Lamp", "on", "_", "__", "_k1", "__a__b",
          "n" * 39 + "_tail", "m" * 60]
 HEADS = ["automaton", "plant", "requirement", "supervisor", "plant automaton", "supervisor automaton"]
 BLANKS = [[""], [" "], ["\n"], [" ", " ", "\n", "\n  "], ["", " ", "\t", "\r\n", " /* edge $ @ ** */ ", " // c /* \n", "/**/"]]
-# Forms of other sources: declarations, what stands in automata alone, in locations, and behind the uses of an edge.
-LATER_ITEMS = ["const int k = ?;", "type t = int[0..?];", "input int[?..1] i;", "alg bool b = ?;", "equation k = ?;", "invariant true;",
-               "requirement a needs true;", "plant invariant true;", "marked true, ?;", "group def d(event void m): end",
-               "automaton def d(location l; controllable bool m): location; end", "group def d(alg int[0..?] k): end", "x: d(?);",
-               "x: d(a, 1 + ?);", "event void m;", "event bool m;", "event a b;", "controllable int[0..3] m;"]
-LATER_PARTS = ["disc int n = ?;", "disc int[0..abs(?)] n;"]
-LATER_ELEMENTS = ["marked not ?;", "equation k = 1 + ?;", "marked a, ?;"]
-LATER_ENDS = ["when ?", "do n := ?", "when a, b do n := 1 + ?", "do if ?: n := 1 end"]
-LATER_ROLES = ["!", "! 1", "?"]
+# Forms of other sources.
+LATER_ITEMS = ["invariant true;", "requirement a needs true;", "plant invariant true;"]
+# Where `?` may not stand, and channels of any sort: declarations, what stands in automata alone, in locations, and behind the uses of
+# an edge.
+ODD_ITEMS = ["const int k = ?;", "type t = int[0..?];", "input int[?..1] i;", "alg bool b = ?;", "equation k = ?;", "marked true, ?;",
+             "group def d(event void m): end", "automaton def d(location l; controllable bool m): location; end",
+             "group def d(alg int[0..?] k): end", "x: d(?);", "x: d(a, 1 + ?);", "event void m;", "event bool m;", "event a b;",
+             "controllable int[0..3] m;", "event int[3..0] m;"]
+ODD_PARTS = ["disc int n = ?;", "disc int[0..abs(?)] n;"]
+ODD_ELEMENTS = ["marked not ?;", "equation k = 1 + ?;", "marked a, ?;"]
+ODD_ENDS = ["when ?", "do n := ?", "when a, b do n := 1 + ?", "do if ?: n := 1 end"]
 
 
 # The most parts of a name, but for the mark of the root.
@@ -49,18 +53,19 @@ def spelled_name(parts):
     return ".".join(words)
 
 
-class Maker(DefinitionMaker, DataMaker, AlgebraMaker):
+class Maker(DefinitionMaker, DataMaker, AlgebraMaker, ChannelMaker):
     """Makes one source. Faults are chances by what is to be wrong: "name", "twice" for one declared twice, "goto", "initials" for
     the initial locations, "alphabet" for it and what is monitored, "class" for an event without one, "later" for a form of other
     sources; "kind" of an expression, "constant" for one that names what is none, "own" for a variable of another automaton, "doubly"
     for one assigned twice, "range" for constants, "divisor" and "wide"; "equations" for the number of definitions of an algebraic
     variable, "loop" for one that may need itself; "cycle" of definitions, "count" of arguments, "argument" for any one, and "unfit" for
-    one of another kind or class. With data `forms` may have "input" and "alg". Unreached is raised where what is wanted has no name."""
+    one of another kind or class; "role" for a use that fits no channel, "mixed" for several roles, "received" for `?` where it may not
+    stand. `forms` may have "channel", and with data "input" and "alg". Unreached is raised where what is wanted has no name."""
 
     def __init__(self, choose, faults=None, has_data=False, has_definitions=False, forms=()):
         self.choose, self.faults, self.has_data, self.has_definitions, self.forms = choose, faults or {}, has_data, has_definitions, forms
         self.enums, self.types, self.constants, self.variables, self.locations, self.parameters = [], [], [], [], [], []
-        self.inputs, self.algebraics = [], []
+        self.inputs, self.algebraics, self.roles = [], [], {}
         self.names = choose.sample(NAMES, choose.randint(5, 12))
         self.root = Scope(None, None, False)
         self.groups, self.automata, self.events, self.definitions, self.instances = [self.root], [], [], [], []
@@ -95,7 +100,7 @@ class Maker(DefinitionMaker, DataMaker, AlgebraMaker):
 
     def event(self, scope, word):
         slot = self.declared(scope, EVENT)
-        slot.word = word
+        slot.word, slot.channel = word, None
         scope.items.append(slot)
         self.events.append(slot)
 
@@ -118,9 +123,9 @@ class Maker(DefinitionMaker, DataMaker, AlgebraMaker):
             self.name_definitions()
         for scope in self.groups + self.automata:
             self.choose.shuffle(scope.items)
-            if self.fails("later"):
-                later = LATER_ITEMS + LATER_PARTS * 4 if scope.is_automaton else LATER_ITEMS
-                scope.items.insert(self.choose.randint(0, len(scope.items)), self.choose.choice(later))
+            for fault, items in (("later", LATER_ITEMS), ("received", ODD_ITEMS + ODD_PARTS * 4 * scope.is_automaton)):
+                if self.fails(fault):
+                    scope.items.insert(self.choose.randint(0, len(scope.items)), self.choose.choice(items))
 
     def declare_places(self, automaton):
         count = self.choose.choice([1, 1, 2, 2, 3, 4])
@@ -206,14 +211,15 @@ class Maker(DefinitionMaker, DataMaker, AlgebraMaker):
 
     def items(self, scope):
         """What stands in a scope, events of one class sometimes in one declaration."""
-        text, word = "", None
+        text, last = "", None
         for item in scope.items + [None]:
             is_event = isinstance(item, Slot) and item.sort == EVENT
-            if word is not None and not (is_event and item.word == word and self.maybe(0.5)):
-                text, word = text + "; ", None
+            if last is not None and not (is_event and (item.word, item.channel) == last and self.maybe(0.5)):
+                text, last = text + "; ", None
             if is_event:
-                text += ("%s " % item.word if word is None else ", ") + spelled_name([item.name])
-                word = item.word
+                head = "%s %s" % (item.word, item.channel.write(scope.body) + " " if item.channel else "")
+                text += (head if last is None else ", ") + spelled_name([item.name])
+                last = item.word, item.channel
             elif isinstance(item, Scope):
                 text += self.component(item)
             elif isinstance(item, Slot):
@@ -238,7 +244,7 @@ class Maker(DefinitionMaker, DataMaker, AlgebraMaker):
             if self.has_data and self.maybe(0.05):
                 elements.append("marked %s;" % ", ".join(self.conditions(scope.body)))
             elements += self.equations_at(scope)
-            elements += ["marked;"] * self.maybe(0.2) + [self.choose.choice(LATER_ELEMENTS)] * self.fails("later")
+            elements += ["marked;"] * self.maybe(0.2) + [self.choose.choice(ODD_ELEMENTS)] * self.fails("received")
             elements += [self.edge(scope, used, found) for _ in range(self.choose.choice([0, 1, 1, 2, 2, 3])) if used]
             if self.maybe(0.2):
                 self.choose.shuffle(elements)
@@ -253,7 +259,9 @@ class Maker(DefinitionMaker, DataMaker, AlgebraMaker):
         own = [thing for thing in events if thing.slot.sort in PARAMETERS and self.maybe(0.8)]
         others = [thing for thing in events if thing.slot.sort not in PARAMETERS and (not thing.through or self.maybe(0.3))]
         count = self.choose.choice([0, 1, 1] if own else [1, 2, 2, 3, 4])
-        return own + self.choose.sample(others, min(len(others), count))
+        channels = [thing for thing in others if thing.slot.channel and self.maybe(0.4)]
+        others = [thing for thing in others if thing not in channels]
+        return own + channels + self.choose.sample(others, min(len(others), count))
 
     def mixed(self, declarations, clauses):
         """The declarations of an automaton and its clauses, in some order."""
@@ -263,16 +271,18 @@ class Maker(DefinitionMaker, DataMaker, AlgebraMaker):
 
     def edge(self, scope, used, found):
         """An edge; what its names find is added to what is found."""
-        uses = []
+        uses, roles = [], []
         for _ in range(self.choose.choice([1, 1, 1, 1, 2, 3])):
             name, thing = self.event_name(scope.body, self.choose.choice(used))
-            found.append(thing)
-            uses.append(name + (" " + self.choose.choice(LATER_ROLES) if self.fails("later") else ""))
+            role = self.role(scope, thing)
+            uses.append(self.use(scope, name, role, thing))
+            roles.append((role, thing))
+        found += [thing for role, thing in roles if role == SYNCS]
         text = "edge " + ", ".join(uses)
-        if self.fails("later"):
-            text += " " + self.choose.choice(LATER_ENDS)
+        if self.fails("received"):
+            text += " " + self.choose.choice(ODD_ENDS)
         else:
-            text += self.end_of_edge(scope)
+            text += self.end_of_edge(scope, self.received_by(roles))
         targets = [place for place in scope.places if place is not None]
         if self.fails("goto"):
             targets = self.names
@@ -285,7 +295,8 @@ class Maker(DefinitionMaker, DataMaker, AlgebraMaker):
         clauses, alphabet = [], list({(thing.slot, thing.through): thing for thing in found}.values())
         events = [thing for thing in self.things(scope.body) if thing.slot.sort in EVENTS]
         if self.maybe(0.4):
-            alphabet += [thing for thing in events if thing not in alphabet and self.maybe(0.1 if thing.through else 0.2)]
+            more = [thing for thing in events if thing not in alphabet and not self.has_role(scope, thing)]
+            alphabet += [thing for thing in more if self.maybe(0.1 if thing.through else 0.2)]
             if self.fails("alphabet"):
                 alphabet = [thing for thing in events if self.maybe(0.5)]
             alphabet += [thing for thing in alphabet if self.maybe(0.05)]
