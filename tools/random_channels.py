@@ -86,7 +86,7 @@ class ChannelMaker:
         found = self.named(body, "int", self.variables) if self.maybe(0.5) else None
         number = self.choose.randint(*channel.sure)
         return self.choose.choice([found, "%s + 1" % found, "max(%s, %d)" % (found, number)]) if found else str(
-            self.choose.choice([number, number, number, channel.sure[1] + 1]))
+            self.choose.choice([number, number, number, min(channel.sure[1] + 1, 2147483647)]))
 
     def received_by(self, uses):
         """The kind of `?` in the updates of an edge with these roles and events, or None."""
