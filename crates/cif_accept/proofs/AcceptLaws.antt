@@ -11,11 +11,13 @@ use Rattle.cif_run.specs.declared.ended.Ended.{Ended}
 use Rattle.cif_run.specs.Groups.{group_of, IsUnlessMemory}
 use Rattle.cif_run.specs.Works.{Comes, Content, Failed, Holds, Input, IsLonger, Overlong, Reading, StopsIn, Unread, Work, Writing}
 use Rattle.cif_run.proofs.CallLaws.{IsWithin, answers, came_how, ended_so, finished}
-use Rattle.cif_accept.specs.Built.{Built, HasTooMany, IsRefused, ReadsAsBuilt}
+use Rattle.cif_source.specs.Source.{Source}
+use Rattle.cif_front.specs.Loads.{ReadsAsSource}
+use Rattle.cif_accept.specs.Refused.{HasTooMany, IsRefused}
 use Rattle.cif_net.specs.declared.guarded.Guarded.{Guarded}
 use Rattle.cif_front.specs.Loads.{Loads}
-use Rattle.cif_accept.specs.Accepts.{BuiltEnds, FileRefused, IsLoaded, SourceEnds, SourceHas, SourceHasTooMany, SourceIs, SourceRefused, silent_work, source_limit, source_work}
-use Rattle.cif_accept.proofs.SourceLaws.{one_built, refused_of, refused_reads_none, too_many_none}
+use Rattle.cif_accept.specs.Accepts.{CommandEnds, FileRefused, IsLoaded, SourceEnds, SourceHas, SourceHasTooMany, SourceIs, SourceRefused, silent_work, source_limit, source_work}
+use Rattle.cif_accept.proofs.SourceLaws.{one_source, refused_of, refused_reads_none, too_many_none}
 
 -- ---- the reader
 
@@ -35,7 +37,7 @@ pub file_loaded : (content : Content) (file bytes : Text) (g : Guarded) → Hold
 file_loaded content file bytes g holds short l = (l.0, (bytes, holds, short, l.1), l.2)
 
 -- a command over the source may end as one that writes nothing
-pub silent_within : (content : Content) (file : Text) (P : Built → Text → Type 0) (E : BuiltEnds) → IsWithin (silent_work content file) (source_work content file P E)
+pub silent_within : (content : Content) (file : Text) (P : Source → Text → Type 0) (E : CommandEnds) → IsWithin (silent_work content file) (source_work content file P E)
 silent_within content file P E = record {
   asks = λ i h. h;
   writes = λ text h. absurd h.2;
@@ -55,12 +57,12 @@ refused_as content file (status.OutsideProfile (profile.TooManyChoices count)) n
 refused_as content file (status.OutsideProfile (profile.Unclassed event)) name h = absurd h
 refused_as content file _ name h = absurd h
 
--- a command tells of what a source is built into by statuses of its own
-pub record TellsItsOwn (E : BuiltEnds) : Type 0 where
-  pub refused : (t : Built) (why : Refusal) (name : Text) → E t (status.Refused why) name → ⊥
-  pub many : (t : Built) (count : ℕ) (name : Text) → E t (status.OutsideProfile (profile.TooManyChoices count)) name → ⊥
+-- a command tells of a source that breaks no rule by statuses of its own
+pub record TellsItsOwn (E : CommandEnds) : Type 0 where
+  pub refused : (t : Source) (why : Refusal) (name : Text) → E t (status.Refused why) name → ⊥
+  pub many : (t : Source) (count : ℕ) (name : Text) → E t (status.OutsideProfile (profile.TooManyChoices count)) name → ⊥
 
-module _ (file : Text) (P : Built → Text → Type 0) (E : BuiltEnds) (c : Reading) (o : Writing) (e : Ended)
+module _ (file : Text) (P : Source → Text → Type 0) (E : CommandEnds) (c : Reading) (o : Writing) (e : Ended)
     (came : Comes (source_work c.content file P E) c o e) (r : Status) (same : IsUnlessMemory r e.status) where
   abbrev work : Work
   work = source_work c.content file P E
@@ -103,9 +105,9 @@ module _ (file : Text) (P : Built → Text → Type 0) (E : BuiltEnds) (c : Read
             | inl q ↦ absurd (not_short (λ b. IsRefused b q.0) q.2)
             | inr q ↦ absurd (not_short (λ b. HasTooMany b q.0) q.2)
           ]
-          | inr x ↦ absurd (not_short (λ b. ReadsAsBuilt b x.0) x.1)
+          | inr x ↦ absurd (not_short (λ b. ReadsAsSource b x.0) x.1)
         ])
-        (λ text h w. absurd (not_short (λ b. ReadsAsBuilt b h.0) h.1))
+        (λ text h w. absurd (not_short (λ b. ReadsAsSource b h.0) h.1))
         (λ m. inr m)
       where
         not_short : (Q : Text → Type 0) → SourceHas c.content file Q → ⊥
@@ -115,7 +117,7 @@ module _ (file : Text) (P : Built → Text → Type 0) (E : BuiltEnds) (c : Read
       not_long : (k : ℕ) → Overlong work c k → ⊥
       not_long k h = let q = (long k h).1 in absurd (omega (arith, q, short))
 
-      pub other_text_is_refused : ((t : Built) → ReadsAsBuilt bytes t → ⊥)
+      pub other_text_is_refused : ((t : Source) → ReadsAsSource bytes t → ⊥)
           → ((why : Refusal) × (r ≡ status.Refused why)) ⊎ ((count : ℕ) × (r ≡ status.OutsideProfile (profile.TooManyChoices count))) ⊎ (r ≡ status.Memory)
       other_text_is_refused none =
           came_how work c o e came r same (((why : Refusal) × (r ≡ status.Refused why)) ⊎ ((count : ℕ) × (r ≡ status.OutsideProfile (profile.TooManyChoices count))) ⊎ (r ≡ status.Memory))
@@ -126,25 +128,25 @@ module _ (file : Text) (P : Built → Text → Type 0) (E : BuiltEnds) (c : Read
               | inl q ↦ elim (answers work c o e came r same (status.Refused q.0) q.1) [ inl z ↦ inl (q.0, z) | inr z ↦ inr (inr z) ]
               | inr q ↦ elim (answers work c o e came r same (status.OutsideProfile (profile.TooManyChoices q.0)) q.1) [ inl z ↦ inr (inl (q.0, z)) | inr z ↦ inr (inr z) ]
             ]
-            | inr x ↦ absurd (none x.0 (of_bytes (λ b. ReadsAsBuilt b x.0) x.1))
+            | inr x ↦ absurd (none x.0 (of_bytes (λ b. ReadsAsSource b x.0) x.1))
           ])
-          (λ text h w. absurd (none h.0 (of_bytes (λ b. ReadsAsBuilt b h.0) h.1)))
+          (λ text h w. absurd (none h.0 (of_bytes (λ b. ReadsAsSource b h.0) h.1)))
           (λ m. inr (inr m))
 
-      module _ (t : Built) (reads : ReadsAsBuilt bytes t) where
+      module _ (t : Source) (reads : ReadsAsSource bytes t) where
         not_refused : FileRefused c.content file e.status e.variable → ⊥
         not_refused x = elim (refused_as c.content file e.status e.variable x) [
           | inl q ↦ refused_reads_none bytes t reads q.0 (of_bytes (λ b. IsRefused b q.0) q.2)
           | inr q ↦ too_many_none bytes t reads q.0 (of_bytes (λ b. HasTooMany b q.0) q.2)
         ]
 
-        this : (u : Built) → SourceIs c.content file u → u ≡ t
-        this u h = one_built bytes u t (of_bytes (λ b. ReadsAsBuilt b u) h) reads
+        this : (u : Source) → SourceIs c.content file u → u ≡ t
+        this u h = one_source bytes u t (of_bytes (λ b. ReadsAsSource b u) h) reads
 
-        -- a source that is built has its text, or the command tells of it
-        pub of_built : (B : Type 0) → (E t e.status e.variable → B) → ((text : Text) → P t text → (Rose o.faults o.faults_after → ⊥) → IsUnlessMemory r status.Done → B)
+        -- a source that breaks no rule has its text, or the command tells of it
+        pub of_source : (B : Type 0) → (E t e.status e.variable → B) → ((text : Text) → P t text → (Rose o.faults o.faults_after → ⊥) → IsUnlessMemory r status.Done → B)
             → (Rose o.faults o.faults_after → ⊥) → (r ≡ status.Memory → B) → B
-        of_built B ends wrote quiet memory = came_how work c o e came r same B
+        of_source B ends wrote quiet memory = came_how work c o e came r same B
             (λ k h. absurd (read k h))
             (λ k is h. absurd (not_long k h))
             (λ h. elim h [
@@ -154,8 +156,8 @@ module _ (file : Text) (P : Built → Text → Type 0) (E : BuiltEnds) (c : Read
             (λ text h w. wrote text (subst (λ u. P u text) (this h.0 h.1) h.2) quiet (finished work c o e came r same quiet text e.status refl w))
             memory
 
-        pub built_is_done : (Rose o.faults o.faults_after → ⊥) → ((s : Status) (name : Text) → E t s name → ⊥) → IsUnlessMemory r status.Done
-        built_is_done quiet none = of_built (IsUnlessMemory r status.Done) (λ h. absurd (none e.status e.variable h)) (λ text p q d. d) quiet (λ m. inr m)
+        pub source_is_done : (Rose o.faults o.faults_after → ⊥) → ((s : Status) (name : Text) → E t s name → ⊥) → IsUnlessMemory r status.Done
+        source_is_done quiet none = of_source (IsUnlessMemory r status.Done) (λ h. absurd (none e.status e.variable h)) (λ text p q d. d) quiet (λ m. inr m)
 
         -- what has no text is told by the command, whether the output fails or not
         pub told_of : (B : Type 0) → (E t e.status e.variable → B) → ((text : Text) → P t text → ⊥) → (r ≡ status.Memory → B) → B

@@ -1,4 +1,4 @@
--- Why a source is not loaded, by the status, and that a text that is refused reads as nothing that is built.
+-- Why a source is not loaded, by the status, and that a text that is refused reads as no source that breaks no rule.
 use Rattle.std.proofs.Common.{◌≡◌, ℕ, sym, ◌∙◌, ap, subst}
 use Rattle.grammar.specs.Pieces.{Text}
 use Rattle.cif_lex.specs.declared.error.LexErr.{LexErr}
@@ -7,7 +7,6 @@ use Rattle.cif_lex.proofs.TokenLaws.{refused_has_none}
 use Rattle.cif_parse.specs.declared.error.ParseErr.{ParseErr}
 use Rattle.cif_parse.specs.declared.error.ParseErr.TheVariants as parse
 use Rattle.cif_parse.proofs.Whole.{reads_one}
-use Rattle.cif_system.proofs.Lists.{false-true}
 use Rattle.cif_scope.specs.declared.error.ScopeErr.{ScopeErr}
 use Rattle.cif_scope.specs.declared.error.ScopeErr.TheVariants as scope
 use Rattle.cif_types.specs.declared.error.TypeErr.{TypeErr}
@@ -18,8 +17,7 @@ use Rattle.cif_alg.specs.declared.error.AlgErr.{AlgErr}
 use Rattle.cif_alg.specs.declared.error.AlgErr.TheVariants as alg
 use Rattle.cif_lin.specs.declared.error.LinErr.{LinErr}
 use Rattle.cif_lin.specs.declared.error.LinErr.TheVariants as lin
-use Rattle.cif_source.specs.Source.{source_of}
-use Rattle.cif_built.specs.Built.{is_built}
+use Rattle.cif_source.specs.Source.{Source, source_of}
 use Rattle.cif_image.specs.WellFormed as rule
 use Rattle.cif_image.specs.WellFormed.{Broken}
 use Rattle.cif_front.specs.Paths.{NamesIn}
@@ -29,7 +27,8 @@ use Rattle.cif_front.specs.declared.refusal.Refusal.TheVariants as front
 use Rattle.cif_run.specs.declared.status.Status.{Status}
 use Rattle.cif_run.specs.declared.status.Refusal.{Refusal}
 use Rattle.cif_run.specs.declared.status.Refusal.TheVariants as refusal
-use Rattle.cif_accept.specs.Built.{Built, HasTooMany, IsRefused, IsRefusedAs, ReadsAsBuilt}
+use Rattle.cif_front.specs.Loads.{ReadsAsSource}
+use Rattle.cif_accept.specs.Refused.{HasTooMany, IsRefused, IsRefusedAs}
 use Rattle.cif_accept.specs.Accepts.{SourceEnds}
 use Rattle.cif_accept.specs.Refusals.{lex_status_of, parse_status_of, scope_status_of, type_status_of, inst_status_of, alg_status_of, lin_status_of, status_of}
 
@@ -74,6 +73,8 @@ module _ (text name : Text) where
   alg_ends (alg.Cycle number) h p = (h, p)
   alg_ends (alg.ZeroDivisor at) h p = h
   alg_ends (alg.TooWide at) h p = h
+  alg_ends (alg.InvariantReadsInput at) h p = h
+  alg_ends (alg.InvariantFalse at) h p = h
   alg_ends (alg.TooLarge nodes depth) h p = h
   alg_ends alg.Memory h p = absurd h
 
@@ -84,7 +85,6 @@ module _ (text name : Text) where
   ends : (e : Unloaded) → IsDue text e → NamesIn text e name → SourceEnds text (status_of e) name
   ends (front.Lex e) h p = lex_ends e h
   ends (front.Parse e) h p = parse_ends e h
-  ends (front.NotBuilt at) h p = h
   ends (front.Scope e) h p = scope_ends e h
   ends (front.Types e) h p = type_ends e h
   ends (front.Inst e) h p = inst_ends e h
@@ -95,9 +95,9 @@ module _ (text name : Text) where
 pub due_ends : (text name : Text) (e : Unloaded) (s : Status) → s ≡ status_of e → IsDue text e → NamesIn text e name → SourceEnds text s name
 due_ends text name e s is h p = subst (λ x. SourceEnds text x name) (sym is) (ends text name e h p)
 
--- ---- a text that is refused reads as nothing that is built
+-- ---- a text that is refused reads as no source that breaks no rule
 
-module _ (text : Text) (t : Built) (reads : ReadsAsBuilt text t) where
+module _ (text : Text) (t : Source) (reads : ReadsAsSource text t) where
   pub source_keeps : (r : rule.Refusal) → SourceDue text r → ⊥
   source_keeps r h =
       let same : source_of reads.tree ≡ source_of h.tree = ap source_of (reads_one text reads.tree h.tree reads.read h.read) in
@@ -111,9 +111,6 @@ module _ (text : Text) (t : Built) (reads : ReadsAsBuilt text t) where
   refused_reads_none (refusal.NumberTooBig at) h = refused_has_none text (lex.NumberTooBig at) h (λ e. cc) reads.read.tokens reads.read.are_tokens
   refused_reads_none (refusal.OpenComment at) h = refused_has_none text (lex.OpenComment at) h (λ e. cc) reads.read.tokens reads.read.are_tokens
   refused_reads_none (refusal.NotRead at) h = h.no_tree reads.tree reads.read
-  refused_reads_none (refusal.NotBuilt at) h =
-      let same : source_of reads.tree ≡ source_of h.tree = ap source_of (reads_one text reads.tree h.tree reads.read h.read) in
-      false-true h.other (sym (ap is_built (reads.is ∙ same)) ∙ reads.built)
   refused_reads_none (refusal.Unknown at) h = source_keeps (rule.unknown at) h
   refused_reads_none (refusal.Duplicate at first) h = source_keeps (rule.duplicate at first) h
   refused_reads_none (refusal.WrongKind at) h = source_keeps (rule.wrong_kind at) h
@@ -131,11 +128,13 @@ module _ (text : Text) (t : Built) (reads : ReadsAsBuilt text t) where
   refused_reads_none (refusal.AlgCycle number) h = source_keeps (rule.alg_cycle number) h
   refused_reads_none (refusal.ZeroDivisor at) h = source_keeps (rule.zero_divisor at) h
   refused_reads_none (refusal.TooWide at) h = source_keeps (rule.too_wide at) h
+  refused_reads_none (refusal.InvariantReadsInput at) h = source_keeps (rule.invariant_reads_input at) h
+  refused_reads_none (refusal.InvariantFalse at) h = source_keeps (rule.invariant_false at) h
   refused_reads_none (refusal.TooLarge nodes depth) h = source_keeps (rule.too_large nodes depth) h
 
 -- a text reads as one source at most
-pub one_built : (text : Text) (t u : Built) → ReadsAsBuilt text t → ReadsAsBuilt text u → t ≡ u
-one_built text t u h g = h.is ∙ ap source_of (reads_one text h.tree g.tree h.read g.read) ∙ sym g.is
+pub one_source : (text : Text) (t u : Source) → ReadsAsSource text t → ReadsAsSource text u → t ≡ u
+one_source text t u h g = h.is ∙ ap source_of (reads_one text h.tree g.tree h.read g.read) ∙ sym g.is
 
 -- what is told of something by its name is due
 pub refused_of : (text : Text) (why : Refusal) (name : Text) → IsRefusedAs text why name → IsRefused text why

@@ -9,7 +9,9 @@ use Rattle.cif_run.specs.Works.{Content, Holds, Input, Work}
 use Rattle.cif_net.specs.declared.guarded.Guarded.{Guarded}
 use Rattle.cif_net.specs.View.{net_tree}
 use Rattle.cif_front.specs.Loads.{Stands}
-use Rattle.cif_accept.specs.Built.{Built, ReadsAsBuilt, IsRefused, IsRefusedAs, HasTooMany}
+use Rattle.cif_source.specs.Source.{Source}
+use Rattle.cif_front.specs.Loads.{ReadsAsSource}
+use Rattle.cif_accept.specs.Refused.{IsRefused, IsRefusedAs, HasTooMany}
 
 -- the most bytes of a source
 abbrev pub source_limit : ℕ
@@ -32,12 +34,12 @@ abbrev pub SourceHasTooMany : Content → Text → (count : ℕ) → Type 0
 SourceHasTooMany content file count = SourceHas content file (λ bytes. HasTooMany bytes count)
 
 -- the file holds a source that reads as this
-abbrev pub SourceIs : Content → Text → Built → Type 0
-SourceIs content file t = SourceHas content file (λ bytes. ReadsAsBuilt bytes t)
+abbrev pub SourceIs : Content → Text → Source → Type 0
+SourceIs content file t = SourceHas content file (λ bytes. ReadsAsSource bytes t)
 
 -- the net is that of the source in the file
 abbrev pub IsLoaded : Content → Text → Guarded → Type 0
-IsLoaded content file g = (t : Built) × SourceIs content file t × Stands (net_tree g.plain.net) t
+IsLoaded content file g = (t : Source) × SourceIs content file t × Stands (net_tree g.plain.net) t
 
 -- why a source gives nothing, by the status, where that tells of something of this name
 abbrev pub SourceEnds : Text → Status → (name : Text) → Type 0
@@ -52,19 +54,19 @@ FileRefused content file (status.Refused why) name = SourceHas content file (λ 
 FileRefused content file (status.OutsideProfile (profile.TooManyChoices count)) name = SourceHasTooMany content file count
 FileRefused content file _ name = ⊥
 
--- how a command may end over what the source is built into, where the status tells of something of this name
-abbrev pub BuiltEnds : Type 1
-BuiltEnds = Built → Status → Text → Type 0
+-- how a command may end over a source that breaks no rule, where the status tells of something of this name
+abbrev pub CommandEnds : Type 1
+CommandEnds = Source → Status → Text → Type 0
 
-abbrev pub no_ends : BuiltEnds
+abbrev pub no_ends : CommandEnds
 no_ends t s name = ⊥
 
--- a command that may write these texts of what the source in this file is built into, and end so
-abbrev pub source_work : Content → Text → (Built → Text → Type 0) → BuiltEnds → Work
+-- a command that may write these texts of the source in this file, and end so
+abbrev pub source_work : Content → Text → (Source → Text → Type 0) → CommandEnds → Work
 source_work content file P E = record {
   asks = λ i. i ≡ source_input file;
-  writes = λ text. (t : Built) × SourceIs content file t × P t text;
-  ends = λ s name. FileRefused content file s name ⊎ ((t : Built) × SourceIs content file t × E t s name);
+  writes = λ text. (t : Source) × SourceIs content file t × P t text;
+  ends = λ s name. FileRefused content file s name ⊎ ((t : Source) × SourceIs content file t × E t s name);
 }
 
 -- the same of one that writes none

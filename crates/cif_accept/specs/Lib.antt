@@ -1,3 +1,3 @@
-pub mod Built
+pub mod Refused
 pub mod Accepts
 pub mod Refusals

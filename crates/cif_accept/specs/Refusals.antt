@@ -58,6 +58,8 @@ abbrev pub alg_status_of : AlgErr → Status
 alg_status_of (alg.Cycle number) = status.Refused (refusal.AlgCycle number)
 alg_status_of (alg.ZeroDivisor at) = status.Refused (refusal.ZeroDivisor at)
 alg_status_of (alg.TooWide at) = status.Refused (refusal.TooWide at)
+alg_status_of (alg.InvariantReadsInput at) = status.Refused (refusal.InvariantReadsInput at)
+alg_status_of (alg.InvariantFalse at) = status.Refused (refusal.InvariantFalse at)
 alg_status_of (alg.TooLarge nodes depth) = status.Refused (refusal.TooLarge nodes depth)
 alg_status_of alg.Memory = status.Memory
 
@@ -68,7 +70,6 @@ lin_status_of lin.Memory = status.Memory
 abbrev pub status_of : Refusal → Status
 status_of (front.Lex e) = lex_status_of e
 status_of (front.Parse e) = parse_status_of e
-status_of (front.NotBuilt at) = status.Refused (refusal.NotBuilt at)
 status_of (front.Scope e) = scope_status_of e
 status_of (front.Types e) = type_status_of e
 status_of (front.Inst e) = inst_status_of e

@@ -84,6 +84,8 @@ fn alg_status(error: AlgErr) -> Status
         AlgErr::Cycle { alg } => Refusal::AlgCycle { alg },
         AlgErr::ZeroDivisor { at } => Refusal::ZeroDivisor { at },
         AlgErr::TooWide { at } => Refusal::TooWide { at },
+        AlgErr::InvariantReadsInput { at } => Refusal::InvariantReadsInput { at },
+        AlgErr::InvariantFalse { at } => Refusal::InvariantFalse { at },
         AlgErr::TooLarge { nodes, depth } => Refusal::TooLarge { nodes, depth },
         AlgErr::Memory => return Status::Memory,
     };
@@ -108,9 +110,6 @@ pub fn status_of(refusal: cif_front::Refusal) -> Status
     match refusal {
         cif_front::Refusal::Lex(error) => lex_status(error),
         cif_front::Refusal::Parse(error) => parse_status(error),
-        cif_front::Refusal::NotBuilt { at } => Status::Refused {
-            why: Refusal::NotBuilt { at },
-        },
         cif_front::Refusal::Scope(error) => scope_status(error),
         cif_front::Refusal::Types(error) => type_status(error),
         cif_front::Refusal::Inst(error) => inst_status(error),

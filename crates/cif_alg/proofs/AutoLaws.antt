@@ -1,18 +1,18 @@
 -- What is counted for all events, automaton by automaton.
-use Rattle.std.proofs.Common.{◌≡◌, ℕ, suc, ◌+◌, ◌*◌, Bool, true, false, ◌||◌, List, [], ◌∷◌, ◌++◌, length, flat_map, sum_by, Some, None, slice_get, refl, sym, ◌∙◌, ap, if◌then◌else◌, arith}
+use Rattle.std.proofs.Common.{◌≡◌, ℕ, suc, ◌+◌, ◌*◌, Bool, true, false, ◌||◌, List, [], ◌∷◌, ◌++◌, length, flat_map, sum_by, replicate, Some, None, slice_get, refl, sym, ◌∙◌, ap, if◌then◌else◌, arith}
 use Rattle.std.specs.List.{list_any, range_with_len}
 use Rattle.std.proofs.Math.Nat.{mul_assoc, add-mul, mul-add}
 use Rattle.std.proofs.lemmas.List.{append-nil, append_assoc}
 use Rattle.std.proofs.lemmas.List.Sums.{sum_by-cons}
 use Rattle.cif_system.specs.System.{Role, sending, receiving}
 use Rattle.cif_system.specs.Choices.{product_by}
-use Rattle.cif_model.specs.Net.{NetEdge, NetAuto, NetEvent, NetExclusion}
+use Rattle.cif_model.specs.Net.{NetEdge, NetAuto, NetEvent, NetExclusion, NetInvariant}
 use Rattle.cif_model.specs.Listing.{syncs_on}
 use Rattle.cif_model.specs.Counts.{Measure}
 use Rattle.cif_alg.specs.declared.weighed.Weighed.{Weighed}
 use Rattle.cif_alg.specs.declared.tally.Tally.{Tally}
 use Rattle.cif_alg.specs.Weighed.{cut, weighed, paired, all_nodes}
-use Rattle.cif_alg.specs.Tallies.{nothing_met, opened, with_edge, with_stay, closed, with_besides, tally_nodes, edge_nodes, exclusion_nodes, edges_noted, stays_noted, closed_for, exclusions_noted, tallied, all_tallied, is_channel_event, tallies_nodes, counted}
+use Rattle.cif_alg.specs.Tallies.{met_with, opened, with_edge, with_stay, closed, with_besides, tally_nodes, edge_nodes, exclusion_nodes, invariants_nodes, edges_noted, stays_noted, closed_for, exclusions_noted, tallied, all_tallied, is_channel_event, tallies_nodes, counted}
 use Rattle.cif_alg.proofs.CutLaws.{pairs, all-weighed}
 use Rattle.cif_alg.proofs.TableLaws.{table, filled-table, each_at, each-table}
 use Rattle.cif_alg.proofs.NodeLaws.{own_edges}
@@ -87,30 +87,33 @@ module _ (v : NetEdge → ℕ) (u : NetExclusion → ℕ) where
   rows_nodes j [] = 0
   rows_nodes j (a ∷ autos) = addend j a * rows j autos + factor j a * rows_nodes j autos
 
-  -- what each choice has besides
-  abbrev pub besides : List NetExclusion → ℕ → ℕ
-  besides xs j = sum_by u (exclusions_for j xs)
+  -- what each choice has besides: b, and the exclusions of its event
+  abbrev pub besides : (b : ℕ) → List NetExclusion → ℕ → ℕ
+  besides b xs j = b + sum_by u (exclusions_for j xs)
 
   -- the nodes of all choices for an event
-  abbrev pub event_total : List NetAuto → List NetExclusion → Bool → ℕ → ℕ
-  event_total autos xs c j =
+  abbrev pub event_total : (b : ℕ) → List NetAuto → List NetExclusion → Bool → ℕ → ℕ
+  event_total b autos xs c j =
       if c then
-      length (role_edges sending j autos) * (length (role_edges receiving j autos) * rows j autos) * (1 + besides xs j)
+      length (role_edges sending j autos) * (length (role_edges receiving j autos) * rows j autos) * (1 + besides b xs j)
       + (sum_by v (role_edges sending j autos) * (length (role_edges receiving j autos) * rows j autos)
       + length (role_edges sending j autos) * (sum_by v (role_edges receiving j autos) * rows j autos + length (role_edges receiving j autos) * rows_nodes j autos))
-      else (if list_any (syncs_on j) autos then rows j autos * (1 + besides xs j) + rows_nodes j autos else 0)
+      else (if list_any (syncs_on j) autos then rows j autos * (1 + besides b xs j) + rows_nodes j autos else 0)
 
   -- one option without nodes changes nothing
-  same-resting : (r w : ℕ) (p : Bool) (ss rs : List NetEdge) → resting v (r * 1) (w * 1 + r * 0) (p || false) ss rs ≡ resting v r w p ss rs
-  same-resting r w p ss rs =
+  same-resting : (k r w : ℕ) (p : Bool) (ss rs : List NetEdge) → resting v k (r * 1) (w * 1 + r * 0) (p || false) ss rs ≡ resting v k r w p ss rs
+  same-resting k r w p ss rs =
       let e : r * 1 ≡ r = omega arith in
       let f : w * 1 + r * 0 ≡ w = omega arith in
-      λ i. resting v (e i) (f i) (or-false p i) ss rs
+      λ i. resting v k (e i) (f i) (or-false p i) ss rs
 
-  module _ (alg : ℕ → Measure) (edges : (x : NetEdge) → edge_nodes alg x ≡ cut (v x)) (exclusions : (x : NetExclusion) → exclusion_nodes alg x ≡ cut (u x)) where
+  module _ (alg : ℕ → Measure) (edges : (x : NetEdge) → edge_nodes alg x ≡ cut (v x)) (exclusions : (x : NetExclusion) → exclusion_nodes alg x ≡ cut (u x)) (b : ℕ) where
+    abbrev so_far : (r w : ℕ) → Bool → (ss rs : List NetEdge) → Tally
+    so_far r w p ss rs = resting v (cut b) r w p ss rs
+
     one-counted : (a : NetAuto) (j r w : ℕ) (p : Bool) (ss rs : List NetEdge)
-        → auto_at alg a j (resting v r w p ss rs) ≡ resting v (r * factor j a) (w * factor j a + r * addend j a) (p || syncs_on j a) (ss ++ own_edges sending j a.edges) (rs ++ own_edges receiving j a.edges)
-    one-counted a j r w p ss rs = auto-counted v alg edges a j r w p ss rs ∙ by (syncs_on j a) p
+        → auto_at alg a j (so_far r w p ss rs) ≡ so_far (r * factor j a) (w * factor j a + r * addend j a) (p || syncs_on j a) (ss ++ own_edges sending j a.edges) (rs ++ own_edges receiving j a.edges)
+    one-counted a j r w p ss rs = auto-counted v (cut b) alg edges a j r w p ss rs ∙ by (syncs_on j a) p
       where
         ts : List NetEdge
         ts = ss ++ own_edges sending j a.edges
@@ -118,15 +121,15 @@ module _ (v : NetEdge → ℕ) (u : NetExclusion → ℕ) where
         us : List NetEdge
         us = rs ++ own_edges receiving j a.edges
 
-        by : (b q : Bool) → (if b then resting v (r * option_count j a) (w * option_count j a + r * option_nodes v j a) true ts us else resting v r w q ts us)
-            ≡ resting v (r * (if b then option_count j a else 1)) (w * (if b then option_count j a else 1) + r * (if b then option_nodes v j a else 0)) (q || b) ts us
+        by : (c q : Bool) → (if c then so_far (r * option_count j a) (w * option_count j a + r * option_nodes v j a) true ts us else so_far r w q ts us)
+            ≡ so_far (r * (if c then option_count j a else 1)) (w * (if c then option_count j a else 1) + r * (if c then option_nodes v j a else 0)) (q || c) ts us
         by true true = refl
         by true false = refl
-        by false q = sym (same-resting r w q ts us)
+        by false q = sym (same-resting (cut b) r w q ts us)
 
     autos-counted : (autos : List NetAuto) (j r w : ℕ) (p : Bool) (ss rs : List NetEdge)
-        → autos_at alg autos j (resting v r w p ss rs) ≡ resting v (r * rows j autos) (w * rows j autos + r * rows_nodes j autos) (p || list_any (syncs_on j) autos) (ss ++ role_edges sending j autos) (rs ++ role_edges receiving j autos)
-    autos-counted [] j r w p ss rs = sym (same-resting r w p ss rs) ∙ λ i. resting v (r * 1) (w * 1 + r * 0) (p || false) (sym (append-nil ss) i) (sym (append-nil rs) i)
+        → autos_at alg autos j (so_far r w p ss rs) ≡ so_far (r * rows j autos) (w * rows j autos + r * rows_nodes j autos) (p || list_any (syncs_on j) autos) (ss ++ role_edges sending j autos) (rs ++ role_edges receiving j autos)
+    autos-counted [] j r w p ss rs = sym (same-resting (cut b) r w p ss rs) ∙ λ i. so_far (r * 1) (w * 1 + r * 0) (p || false) (sym (append-nil ss) i) (sym (append-nil rs) i)
     autos-counted (a ∷ autos) j r w p ss rs =
         let f : ℕ = factor j a in
         let d : ℕ = addend j a in
@@ -134,23 +137,21 @@ module _ (v : NetEdge → ℕ) (u : NetExclusion → ℕ) where
         let s : ℕ = rows_nodes j autos in
         ap (autos_at alg autos j) (one-counted a j r w p ss rs)
         ∙ autos-counted autos j (r * f) (w * f + r * d) (p || syncs_on j a) (ss ++ own_edges sending j a.edges) (rs ++ own_edges receiving j a.edges)
-        ∙ λ i. resting v (mul_assoc r f q i) (spread r w f d q s i) (or-assoc p (syncs_on j a) (list_any (syncs_on j) autos) i)
+        ∙ λ i. so_far (mul_assoc r f q i) (spread r w f d q s i) (or-assoc p (syncs_on j a) (list_any (syncs_on j) autos) i)
         (append_assoc ss (own_edges sending j a.edges) (role_edges sending j autos) i) (append_assoc rs (own_edges receiving j a.edges) (role_edges receiving j autos) i)
 
-    rests : (autos : List NetAuto) (j : ℕ) → autos_at alg autos j nothing_met ≡ resting v (rows j autos) (rows_nodes j autos) (list_any (syncs_on j) autos) (role_edges sending j autos) (role_edges receiving j autos)
+    rests : (autos : List NetAuto) (j : ℕ) → autos_at alg autos j (met_with (cut b)) ≡ so_far (rows j autos) (rows_nodes j autos) (list_any (syncs_on j) autos) (role_edges sending j autos) (role_edges receiving j autos)
     rests autos j =
         let e : 1 * rows j autos ≡ rows j autos = omega arith in
         let f : 0 * rows j autos + 1 * rows_nodes j autos ≡ rows_nodes j autos = omega arith in
         autos-counted autos j 1 0 false [] []
-        ∙ λ i. resting v (e i) (f i) (list_any (syncs_on j) autos) (role_edges sending j autos) (role_edges receiving j autos)
+        ∙ λ i. so_far (e i) (f i) (list_any (syncs_on j) autos) (role_edges sending j autos) (role_edges receiving j autos)
 
-    total-counted : (autos : List NetAuto) (xs : List NetExclusion) (c : Bool) (j : ℕ) → tally_nodes c (exclusions_at alg xs j (autos_at alg autos j nothing_met)) ≡ cut (event_total autos xs c j)
+    total-counted : (autos : List NetAuto) (xs : List NetExclusion) (c : Bool) (j : ℕ) → tally_nodes c (exclusions_at alg xs j (autos_at alg autos j (met_with (cut b)))) ≡ cut (event_total b autos xs c j)
     total-counted autos xs c j =
-        let t : Tally = resting v p q (list_any (syncs_on j) autos) ss rs in
-        let z : 0 + b ≡ b = omega arith in
+        let t : Tally = so_far p q (list_any (syncs_on j) autos) ss rs in
         ap (λ y. tally_nodes c (exclusions_at alg xs j y)) (rests autos j)
-        ∙ ap (tally_nodes c) (exclusions-counted alg u exclusions j t xs 0)
-        ∙ ap (λ y. tally_nodes c (beside t y)) z
+        ∙ ap (tally_nodes c) (exclusions-counted alg u exclusions j t xs b)
         ∙ by c (list_any (syncs_on j) autos)
       where
         p : ℕ
@@ -159,8 +160,8 @@ module _ (v : NetEdge → ℕ) (u : NetExclusion → ℕ) where
         q : ℕ
         q = rows_nodes j autos
 
-        b : ℕ
-        b = besides xs j
+        m : ℕ
+        m = besides b xs j
 
         ss : List NetEdge
         ss = role_edges sending j autos
@@ -168,23 +169,26 @@ module _ (v : NetEdge → ℕ) (u : NetExclusion → ℕ) where
         rs : List NetEdge
         rs = role_edges receiving j autos
 
-        by : (c any : Bool) → tally_nodes c (beside (resting v p q any ss rs) b)
-            ≡ cut (if c then length ss * (length rs * p) * (1 + b) + (sum_by v ss * (length rs * p) + length ss * (sum_by v rs * p + length rs * q)) else (if any then p * (1 + b) + q else 0))
+        by : (c any : Bool) → tally_nodes c (beside (so_far p q any ss rs) m)
+            ≡ cut (if c then length ss * (length rs * p) * (1 + m) + (sum_by v ss * (length rs * p) + length ss * (sum_by v rs * p + length rs * q)) else (if any then p * (1 + m) + q else 0))
         by true any =
-            ap (λ (o : Weighed). all_nodes (cut (1 + cut b)) (paired (weighed (length ss) (sum_by v ss)) o)) (pairs (length rs) (sum_by v rs) p q)
-            ∙ ap (all_nodes (cut (1 + cut b))) (pairs (length ss) (sum_by v ss) (length rs * p) (sum_by v rs * p + length rs * q))
-            ∙ all-weighed b (length ss * (length rs * p)) (sum_by v ss * (length rs * p) + length ss * (sum_by v rs * p + length rs * q))
-        by false true = all-weighed b p q
+            ap (λ (o : Weighed). all_nodes (cut (1 + cut m)) (paired (weighed (length ss) (sum_by v ss)) o)) (pairs (length rs) (sum_by v rs) p q)
+            ∙ ap (all_nodes (cut (1 + cut m))) (pairs (length ss) (sum_by v ss) (length rs * p) (sum_by v rs * p + length rs * q))
+            ∙ all-weighed m (length ss * (length rs * p)) (sum_by v ss * (length rs * p) + length ss * (sum_by v rs * p + length rs * q))
+        by false true = all-weighed m p q
         by false false = refl
 
-    pub counted_are : (autos : List NetAuto) (xs : List NetExclusion) (events : List NetEvent) → counted alg autos xs events ≡ cut (sum_by (λ j. event_total autos xs (is_channel_there events j) j) (range_with_len 0 (length events)))
-    counted_are autos xs events =
+    pub counted_are : (autos : List NetAuto) (xs : List NetExclusion) (is : List NetInvariant) (events : List NetEvent) → invariants_nodes alg is ≡ cut b
+        → counted alg autos xs is events ≡ cut (sum_by (λ j. event_total b autos xs (is_channel_there events j) j) (range_with_len 0 (length events)))
+    counted_are autos xs is events weigh =
         let n : ℕ = length events in
-        let f : ℕ → Tally = λ j. exclusions_at alg xs j (autos_at alg autos j nothing_met) in
-        let total : ℕ → ℕ = λ j. event_total autos xs (is_channel_there events j) j in
+        let begin : Tally = met_with (cut b) in
+        let f : ℕ → Tally = λ j. exclusions_at alg xs j (autos_at alg autos j begin) in
+        let total : ℕ → ℕ = λ j. event_total b autos xs (is_channel_there events j) j in
         let z : 0 + sum_by total (range_with_len 0 n) ≡ sum_by total (range_with_len 0 n) = omega arith in
-        ap (λ ts. tallies_nodes 0 events (exclusions_noted alg xs (all_tallied alg autos ts))) (filled-table nothing_met 0 n)
-        ∙ ap (λ ts. tallies_nodes 0 events (exclusions_noted alg xs ts)) (all-table alg autos n (λ j. nothing_met))
-        ∙ ap (tallies_nodes 0 events) (each-table (λ (x : NetExclusion). x.event) (λ x. with_besides (exclusion_nodes alg x)) xs n (λ j. autos_at alg autos j nothing_met))
+        ap (λ k. tallies_nodes 0 events (exclusions_noted alg xs (all_tallied alg autos (replicate n (met_with k))))) weigh
+        ∙ ap (λ ts. tallies_nodes 0 events (exclusions_noted alg xs (all_tallied alg autos ts))) (filled-table begin 0 n)
+        ∙ ap (λ ts. tallies_nodes 0 events (exclusions_noted alg xs ts)) (all-table alg autos n (λ j. begin))
+        ∙ ap (tallies_nodes 0 events) (each-table (λ (x : NetExclusion). x.event) (λ x. with_besides (exclusion_nodes alg x)) xs n (λ j. autos_at alg autos j begin))
         ∙ nodes-summed f (is_channel_there events) total (λ j. total-counted autos xs (is_channel_there events j) j) events 0 0 0 (λ d. let e : d ≡ 0 + d = omega arith in ap (is_channel_there events) e) refl
         ∙ ap cut z

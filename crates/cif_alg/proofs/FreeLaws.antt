@@ -21,7 +21,7 @@ use Rattle.cif_measure.specs.Sizes.{sizes_by}
 use Rattle.cif_measure.proofs.NameLaws.{evaluated-free}
 use Rattle.cif_algebraic.proofs.CountLaws.{measure-same}
 use Rattle.cif_alg.specs.Weighed.{cut}
-use Rattle.cif_alg.specs.Outlines.{counted_edge, counted_auto, counted_exclusion}
+use Rattle.cif_alg.specs.Outlines.{counted_edge, counted_auto, counted_exclusion, counted_invariant}
 
 map-alike : {A B : Type 0} (p q : A → B) (xs : List A) → ((x : A) → Member x xs → p x ≡ q x) → map p xs ≡ map q xs
 map-alike p q [] h = refl
@@ -50,6 +50,15 @@ module _ (n : Net) (none : n.algs ≡ []) (net : is_net n ≡ true) where
       (append-left x.pred (map (λ (y : NetExclusion). y.pred) n.exclusions) (map (λ (i : NetInvariant). i.pred) n.invariants ++ flat_map alg_exprs n.algs)
       (map-member (λ (y : NetExclusion). y.pred) x n.exclusions m))))
 
+  in-invariant : (i : NetInvariant) → Member i n.invariants → names_no_alg i.pred ≡ true
+  in-invariant i m =
+      evaluated-free n none net (at_truths i.pred)
+      (append-right (at_truths i.pred) (flat_map (edge_evaluated n) (all_edges n)) (map at_truths (other_exprs n))
+      (map-member at_truths i.pred (other_exprs n)
+      (append-right i.pred (map (λ (y : NetExclusion). y.pred) n.exclusions) (map (λ (j : NetInvariant). j.pred) n.invariants ++ flat_map alg_exprs n.algs)
+      (append-left i.pred (map (λ (j : NetInvariant). j.pred) n.invariants) (flat_map alg_exprs n.algs)
+      (map-member (λ (j : NetInvariant). j.pred) i n.invariants m)))))
+
   -- ---- and so each weighs the same
 
   module _ (f g : ℕ → counts.Measure) where
@@ -63,6 +72,9 @@ module _ (n : Net) (none : n.algs ≡ []) (net : is_net n ≡ true) where
         ∙ (λ i. (same-measure e (h e (inl refl)) i).size + same-sizes es (λ d m. h d (inr m)) i)
         ∙ sym (sum_by-cons (λ x. (measure_by g x).size) e es)
 
+    same-size : (e : NetExpr) → names_no_alg e ≡ true → sizes_by f (e ∷ []) ≡ sizes_by g (e ∷ [])
+    same-size e h = same-sizes (e ∷ []) (λ d k. elim k [ inl same ↦ ap names_no_alg same ∙ h | inr none ↦ absurd none ])
+
     same-edge : (a : NetAuto) → Member a n.autos → (x : NetEdge) → Member x a.edges → counted_edge f x ≡ counted_edge g x
     same-edge a m x k = λ i. record { event = x.event; role = x.role; size = cut (same-sizes (edge_exprs x) (in-edge a m x k) i) }
 
@@ -70,13 +82,19 @@ module _ (n : Net) (none : n.algs ≡ []) (net : is_net n ≡ true) where
     same-auto a m = λ i. record { alphabet = a.alphabet; monitors = a.monitors; edges = map-alike (counted_edge f) (counted_edge g) a.edges (same-edge a m) i }
 
     same-exclusion : (x : NetExclusion) → Member x n.exclusions → counted_exclusion f x ≡ counted_exclusion g x
-    same-exclusion x m = λ i. record { event = x.event; size = cut (same-sizes (x.pred ∷ []) (λ e k. elim k [ inl same ↦ ap names_no_alg same ∙ in-exclusion x m | inr none ↦ absurd none ]) i) }
+    same-exclusion x m = λ i. record { event = x.event; size = cut (same-size x.pred (in-exclusion x m) i) }
+
+    same-invariant : (x : NetInvariant) → Member x n.invariants → counted_invariant f x ≡ counted_invariant g x
+    same-invariant x m = ap cut (same-size x.pred (in-invariant x m))
 
     pub same-autos : map (counted_auto f) n.autos ≡ map (counted_auto g) n.autos
     same-autos = map-alike (counted_auto f) (counted_auto g) n.autos same-auto
 
     pub same-exclusions : map (counted_exclusion f) n.exclusions ≡ map (counted_exclusion g) n.exclusions
     same-exclusions = map-alike (counted_exclusion f) (counted_exclusion g) n.exclusions same-exclusion
+
+    pub same-invariants : map (counted_invariant f) n.invariants ≡ map (counted_invariant g) n.invariants
+    same-invariants = map-alike (counted_invariant f) (counted_invariant g) n.invariants same-invariant
 
     pub same-edge-measures : map (measure_by f) (flat_map edge_exprs (all_edges n)) ≡ map (measure_by g) (flat_map edge_exprs (all_edges n))
     same-edge-measures =
@@ -85,3 +103,9 @@ module _ (n : Net) (none : n.algs ≡ []) (net : is_net n ≡ true) where
         let x = member-flat_map edge_exprs e (all_edges n) m in
         let a = member-flat_map (λ (b : NetAuto). b.edges) x.0 n.autos x.1 in
         same-measure e (in-edge a.0 a.1 x.0 a.2 e x.2))
+
+    pub same-exclusion-measures : map (λ (x : NetExclusion). measure_by f x.pred) n.exclusions ≡ map (λ (x : NetExclusion). measure_by g x.pred) n.exclusions
+    same-exclusion-measures = map-alike (λ (x : NetExclusion). measure_by f x.pred) (λ (x : NetExclusion). measure_by g x.pred) n.exclusions (λ x m. same-measure x.pred (in-exclusion x m))
+
+    pub same-invariant-measures : map (λ (i : NetInvariant). measure_by f i.pred) n.invariants ≡ map (λ (i : NetInvariant). measure_by g i.pred) n.invariants
+    same-invariant-measures = map-alike (λ (i : NetInvariant). measure_by f i.pred) (λ (i : NetInvariant). measure_by g i.pred) n.invariants (λ i m. same-measure i.pred (in-invariant i m))

@@ -20,7 +20,7 @@ use Rattle.cif_measure.specs.Sizes.{sizes_by, AreMeasured, exprs_counted}
 use Rattle.cif_measure.proofs.SizeLaws.{size-told, size-of_net}
 use Rattle.cif_alg.specs.Weighed.{cut}
 use Rattle.cif_alg.specs.Sizes.{sizes_added}
-use Rattle.cif_alg.specs.Tallies.{edge_nodes, exclusion_nodes, counted}
+use Rattle.cif_alg.specs.Tallies.{edge_nodes, exclusion_nodes, invariants_nodes, counted}
 use Rattle.cif_alg.proofs.AddedLaws.{all-added}
 use Rattle.cif_alg.proofs.SumLaws.{sum-same, sum-mapped, spread, spread-weighed}
 use Rattle.cif_alg.proofs.TallyLaws.{exclusions_for}
@@ -88,23 +88,26 @@ module _ (x : n.Net) (e : ℕ) where
   edges-weighed : (p : Role) (autos : List n.NetAuto) → sum_by (λ w. w) (all_weights x e p autos) ≡ sum_by (edge_weight x) (role_edges p e autos)
   edges-weighed p autos = ap (sum_by (λ w. w)) (same-edges p autos) ∙ sum-mapped (λ w. w) (edge_weight x) (role_edges p e autos)
 
-module _ (x : n.Net) (ms : List Measure) (measured : AreMeasured ms x) (no-invariants : x.invariants ≡ []) (stands : is_net x ≡ true) where
-  abbrev exclusion_sum : ℕ → ℕ
-  exclusion_sum e = besides (edge_weight x) (exclusion_weight x) x.exclusions e
+module _ (x : n.Net) (ms : List Measure) (measured : AreMeasured ms x) (stands : is_net x ≡ true) where
+  -- all state invariants
+  abbrev invariants_weight : ℕ
+  invariants_weight = size_of x (invariant_exprs x)
+
+  abbrev beside_sum : ℕ → ℕ
+  beside_sum e = besides (edge_weight x) (exclusion_weight x) invariants_weight x.exclusions e
 
   abbrev total : Bool → ℕ → ℕ
-  total c e = event_total (edge_weight x) (exclusion_weight x) x.autos x.exclusions c e
+  total c e = event_total (edge_weight x) (exclusion_weight x) invariants_weight x.autos x.exclusions c e
 
   autos-stand : list_all (auto_stands x) x.autos ≡ true
   autos-stand = and-right _ _ (and-left _ _ (and-left _ _ (and-left _ _ (and-left _ _ stands))))
 
   -- ---- one event
 
-  base-is : (e : ℕ) → base x e ≡ 1 + exclusion_sum e
+  base-is : (e : ℕ) → base x e ≡ 1 + beside_sum e
   base-is e =
-      let i : size_of x (invariant_exprs x) ≡ 0 = ap (λ ys. size_of x (map (λ (y : n.NetInvariant). y.pred) ys)) no-invariants in
-      let s : size_of x (exclusions_of x e) ≡ exclusion_sum e = sum-mapped (λ g. (measure x g).size) (λ (y : n.NetExclusion). y.pred) (exclusions_for e x.exclusions) in
-      omega (arith, i, s)
+      let s : size_of x (exclusions_of x e) ≡ sum_by (exclusion_weight x) (exclusions_for e x.exclusions) = sum-mapped (λ g. (measure x g).size) (λ (y : n.NetExclusion). y.pred) (exclusions_for e x.exclusions) in
+      omega (arith, s)
 
   plain-is : (e : ℕ) → is_channel_there x.events e ≡ false → event_nodes x e ≡ total false e
   plain-is e h =
@@ -112,7 +115,7 @@ module _ (x : n.Net) (ms : List Measure) (measured : AreMeasured ms x) (no-invar
       ∙ ap (λ (b : Bool). let k : ℕ = if b then spread (base x e) (map (own_weights x e) x.autos) else 0 in k) (parties x e x.autos autos-stand h)
       ∙ by (list_any (syncs_on e) x.autos)
     where
-      by : (b : Bool) → (if b then spread (base x e) (map (own_weights x e) x.autos) else 0) ≡ (if b then rows e x.autos * (1 + exclusion_sum e) + rows_weight x e x.autos else 0)
+      by : (b : Bool) → (if b then spread (base x e) (map (own_weights x e) x.autos) else 0) ≡ (if b then rows e x.autos * (1 + beside_sum e) + rows_weight x e x.autos else 0)
       by true = spread-weighed (map (own_weights x e) x.autos) (base x e) ∙ λ i. same-rows x e x.autos i * base-is e i + same-nodes x e x.autos i
       by false = refl
 
@@ -161,8 +164,14 @@ module _ (x : n.Net) (ms : List Measure) (measured : AreMeasured ms x) (no-invar
   unfolding exclusion_nodes
   exclusion-weighs y = omega (arith, same-sizes (y.pred ∷ []), sum_by-cons (λ g. (measure x g).size) y.pred [])
 
-  choices-told : counted (table_measure ms) x.autos x.exclusions x.events ≡ cut choices_nodes
-  choices-told = counted_are (edge_weight x) (exclusion_weight x) (table_measure ms) edge-weighs exclusion-weighs x.autos x.exclusions x.events ∙ ap cut (sym choices-are)
+  invariants-weigh : invariants_nodes (table_measure ms) x.invariants ≡ cut invariants_weight
+  unfolding invariants_nodes
+  invariants-weigh = same-sizes (invariant_exprs x)
 
-  pub told : sizes_added (counted (table_measure ms) x.autos x.exclusions x.events) ms ≡ stopped most_nodes (nodes x)
+  choices-told : counted (table_measure ms) x.autos x.exclusions x.invariants x.events ≡ cut choices_nodes
+  choices-told =
+      counted_are (edge_weight x) (exclusion_weight x) (table_measure ms) edge-weighs exclusion-weighs invariants_weight x.autos x.exclusions x.invariants x.events invariants-weigh
+      ∙ ap cut (sym choices-are)
+
+  pub told : sizes_added (counted (table_measure ms) x.autos x.exclusions x.invariants x.events) ms ≡ stopped most_nodes (nodes x)
   told = ap (λ k. sizes_added k ms) choices-told ∙ all-added choices_nodes ms (alg_measures x) measured

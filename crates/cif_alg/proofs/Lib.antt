@@ -14,3 +14,5 @@ mod LimitLaws
 pub mod FreeLaws
 mod OutlineLaws
 mod Rows
+pub mod InvariantLaws
+pub mod SettleLaws

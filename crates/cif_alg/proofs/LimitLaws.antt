@@ -1,12 +1,12 @@
 -- What follows where a net is within the limits, and where it is not.
-use Rattle.std.proofs.Common.{◌≡◌, ℕ, ◌<◌, ◌^◌, Bool, true, false, ◌||◌, nat_lt, List, [], map, refl, sym, ◌∙◌, ap, subst, Result, Ok, Err, IfErr, arith}
+use Rattle.std.proofs.Common.{◌≡◌, ℕ, ◌<◌, ◌^◌, Bool, true, false, ◌||◌, nat_lt, List, map, refl, sym, ◌∙◌, ap, subst, Result, Ok, Err, IfErr, arith}
 use Rattle.std.specs.Result.{IsErrAnd}
 use Rattle.std.proofs.lemmas.Bool.Decides.{nat_tests}
 use Rattle.cif_model.specs.Net as n
 use Rattle.cif_model.specs.Counts.{nodes, depth, stopped, most_nodes, most_depth, is_too_large}
 use Rattle.cif_model.specs.Rules.{IsAcyclic, TooLarge}
 use Rattle.cif_net.specs.declared.net.Net.{Net}
-use Rattle.cif_net.specs.View.{net_tree, auto_tree, event_tree, exclusion_tree}
+use Rattle.cif_net.specs.View.{net_tree, auto_tree, event_tree, exclusion_tree, invariant_tree}
 use Rattle.cif_measure.specs.declared.measures.Measure.{Measure}
 use Rattle.cif_measure.specs.Meanings.{table_measure}
 use Rattle.cif_measure.specs.Sizes.{AreMeasured}
@@ -33,10 +33,10 @@ past m v =
     ] refl
 
 -- k nodes were counted
-module _ (net : Net) (ms : List Measure) (measured : AreMeasured ms (net_tree net)) (no-invariants : (net_tree net).invariants ≡ []) (k : ℕ)
-    (are : k ≡ sizes_added (counted (table_measure ms) (map auto_tree net.autos) (map exclusion_tree net.exclusions) (map event_tree net.events)) ms) where
+module _ (net : Net) (ms : List Measure) (measured : AreMeasured ms (net_tree net)) (k : ℕ)
+    (are : k ≡ sizes_added (counted (table_measure ms) (map auto_tree net.autos) (map exclusion_tree net.exclusions) (map invariant_tree net.invariants) (map event_tree net.events)) ms) where
   nodes-told : k ≡ stopped most_nodes (nodes (net_tree net))
-  nodes-told = are ∙ told (net_tree net) ms measured no-invariants net.fits
+  nodes-told = are ∙ told (net_tree net) ms measured net.fits
 
   pub nodes-fit : k < 2 ^ 32
   nodes-fit = omega (arith, nodes-told)

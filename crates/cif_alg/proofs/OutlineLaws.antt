@@ -1,17 +1,20 @@
--- Automata and exclusions of which the same is counted have as many nodes.
-use Rattle.std.proofs.Common.{◌≡◌, ℕ, ◌+◌, true, List, [], ◌∷◌, map, length, replicate, refl, sym, ◌∙◌, ap}
-use Rattle.cif_model.specs.Net.{NetEdge, NetAuto, NetEvent, NetExclusion, Net}
+-- Automata, exclusions and state invariants of which the same is counted have as many nodes.
+use Rattle.std.proofs.Common.{◌≡◌, ℕ, ◌+◌, true, List, [], ◌∷◌, map, length, replicate, sum_by, refl, sym, ◌∙◌, ap, arith}
+use Rattle.std.proofs.lemmas.List.Sums.{sum_by-cons}
+use Rattle.cif_model.specs.Net.{NetEdge, NetAuto, NetEvent, NetExclusion, NetInvariant, Net}
 use Rattle.cif_model.specs.Facts.{is_net}
-use Rattle.cif_model.specs.Counts.{nodes, stopped, most_nodes}
+use Rattle.cif_term.specs.Tree.{NetExpr}
+use Rattle.cif_model.specs.Counts.{measure_by, nodes, stopped, most_nodes}
 use Rattle.cif_model.specs.Counts as counts
 use Rattle.cif_measure.specs.declared.measures.Measure.{Measure}
 use Rattle.cif_measure.specs.Meanings.{table_measure}
+use Rattle.cif_measure.specs.Sizes.{sizes_by}
 use Rattle.cif_measure.proofs.SizeLaws.{none-measured}
 use Rattle.cif_alg.specs.declared.tally.Tally.{Tally}
 use Rattle.cif_alg.specs.Weighed.{cut}
-use Rattle.cif_alg.specs.Tallies.{nothing_met, with_edge, with_besides, edge_nodes, exclusion_nodes, changed, each_changed, opened_for, edges_noted, stays_noted, closed_for, exclusions_noted, all_tallied, tallies_nodes, counted}
-use Rattle.cif_alg.specs.Outlines.{CountedEdge, CountedAuto, CountedExclusion, counted_edge, counted_auto, counted_exclusion, AreAsLarge}
-use Rattle.cif_alg.proofs.FreeLaws.{same-autos, same-exclusions}
+use Rattle.cif_alg.specs.Tallies.{met_with, with_edge, with_besides, edge_nodes, exclusion_nodes, invariants_nodes, changed, each_changed, opened_for, edges_noted, stays_noted, closed_for, exclusions_noted, all_tallied, tallies_nodes, counted}
+use Rattle.cif_alg.specs.Outlines.{CountedEdge, CountedAuto, CountedExclusion, counted_edge, counted_auto, counted_exclusion, counted_invariant, AreAsLarge}
+use Rattle.cif_alg.proofs.FreeLaws.{same-autos, same-exclusions, same-invariants}
 use Rattle.cif_alg.proofs.InlineLaws.{told}
 
 -- ---- the same, by what is counted
@@ -29,8 +32,11 @@ autos_by (a ∷ autos) ts = autos_by autos (auto_by a ts)
 abbrev exclusions_by : List CountedExclusion → List Tally → List Tally
 exclusions_by xs ts = each_changed (λ (x : CountedExclusion). x.event) (λ x. with_besides x.size) xs ts
 
-abbrev counted_by : List CountedAuto → List CountedExclusion → List NetEvent → ℕ
-counted_by autos exclusions events = tallies_nodes 0 events (exclusions_by exclusions (autos_by autos (replicate (length events) nothing_met)))
+abbrev invariants_by : List ℕ → ℕ
+invariants_by sizes = cut (sum_by (λ k. k) sizes)
+
+abbrev counted_by : List CountedAuto → List CountedExclusion → (invariants : List ℕ) → List NetEvent → ℕ
+counted_by autos exclusions invariants events = tallies_nodes 0 events (exclusions_by exclusions (autos_by autos (replicate (length events) (met_with (invariants_by invariants)))))
 
 -- ---- nothing else is asked
 
@@ -53,19 +59,36 @@ module _ (alg : ℕ → counts.Measure) where
   unfolding exclusion_nodes
   exclusions-by xs ts = each-mapped (counted_exclusion alg) (λ (x : CountedExclusion). x.event) (λ x. with_besides x.size) xs ts
 
-  counted-by : (autos : List NetAuto) (exclusions : List NetExclusion) (events : List NetEvent)
-      → counted alg autos exclusions events ≡ counted_by (map (counted_auto alg) autos) (map (counted_exclusion alg) exclusions) events
-  counted-by autos exclusions events =
-      let none : List Tally = replicate (length events) nothing_met in
-      ap (λ ts. tallies_nodes 0 events (exclusions_noted alg exclusions ts)) (autos-by autos none)
-      ∙ ap (tallies_nodes 0 events) (exclusions-by exclusions (autos_by (map (counted_auto alg) autos) none))
+  sizes-by : (xs : List NetInvariant) → cut (sizes_by alg (map (λ (i : NetInvariant). i.pred) xs)) ≡ invariants_by (map (counted_invariant alg) xs)
+  sizes-by [] = refl
+  sizes-by (x ∷ xs) =
+      let size : NetExpr → ℕ = λ e. (measure_by alg e).size in
+      omega (
+        arith,
+        sum_by-cons size x.pred (map (λ (i : NetInvariant). i.pred) xs),
+        sum_by-cons size x.pred [],
+        sum_by-cons (λ (k : ℕ). k) (counted_invariant alg x) (map (counted_invariant alg) xs),
+        sizes-by xs,
+      )
 
-pub outlined : (n : Net) (algs : List Measure) (there : ℕ → counts.Measure) (autos : List NetAuto) (exclusions : List NetExclusion)
-    → n.algs ≡ [] → n.invariants ≡ [] → is_net n ≡ true → AreAsLarge algs there autos exclusions n
-    → counted (table_measure algs) autos exclusions n.events ≡ stopped most_nodes (nodes n)
-outlined n algs there autos exclusions no-algs no-invariants stands large =
-    counted-by (table_measure algs) autos exclusions n.events
-    ∙ (λ i. counted_by (large.autos_as i) (large.exclusions_as i) n.events)
-    ∙ (λ i. counted_by (same-autos n no-algs stands there (table_measure []) i) (same-exclusions n no-algs stands there (table_measure []) i) n.events)
-    ∙ sym (counted-by (table_measure []) n.autos n.exclusions n.events)
-    ∙ told n [] (none-measured n no-algs) no-invariants stands
+  invariants-by : (xs : List NetInvariant) → invariants_nodes alg xs ≡ invariants_by (map (counted_invariant alg) xs)
+  unfolding invariants_nodes
+  invariants-by xs = sizes-by xs
+
+  counted-by : (autos : List NetAuto) (exclusions : List NetExclusion) (invariants : List NetInvariant) (events : List NetEvent)
+      → counted alg autos exclusions invariants events ≡ counted_by (map (counted_auto alg) autos) (map (counted_exclusion alg) exclusions) (map (counted_invariant alg) invariants) events
+  counted-by autos exclusions invariants events =
+      let begin : List Tally = replicate (length events) (met_with (invariants_by (map (counted_invariant alg) invariants))) in
+      ap (λ k. tallies_nodes 0 events (exclusions_noted alg exclusions (all_tallied alg autos (replicate (length events) (met_with k))))) (invariants-by invariants)
+      ∙ ap (λ ts. tallies_nodes 0 events (exclusions_noted alg exclusions ts)) (autos-by autos begin)
+      ∙ ap (tallies_nodes 0 events) (exclusions-by exclusions (autos_by (map (counted_auto alg) autos) begin))
+
+pub outlined : (n : Net) (algs : List Measure) (there : ℕ → counts.Measure) (autos : List NetAuto) (exclusions : List NetExclusion) (invariants : List NetInvariant)
+    → n.algs ≡ [] → is_net n ≡ true → AreAsLarge algs there autos exclusions invariants n
+    → counted (table_measure algs) autos exclusions invariants n.events ≡ stopped most_nodes (nodes n)
+outlined n algs there autos exclusions invariants no-algs stands large =
+    counted-by (table_measure algs) autos exclusions invariants n.events
+    ∙ (λ i. counted_by (large.autos_as i) (large.exclusions_as i) (large.invariants_as i) n.events)
+    ∙ (λ i. counted_by (same-autos n no-algs stands there (table_measure []) i) (same-exclusions n no-algs stands there (table_measure []) i) (same-invariants n no-algs stands there (table_measure []) i) n.events)
+    ∙ sym (counted-by (table_measure []) n.autos n.exclusions n.invariants n.events)
+    ∙ told n [] (none-measured n no-algs) stands

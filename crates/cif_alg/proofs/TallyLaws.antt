@@ -108,105 +108,107 @@ module _ (v : NetEdge → ℕ) where
   abbrev with_edges : Busy → List NetEdge → Busy
   with_edges o xs = option_map (λ (q : List NetEdge × Bool). (q.0 ++ xs, q.1)) o
 
-  -- the choices so far, whether there is a party, the automaton that is gone through, and the edges that send and receive
-  abbrev met : Weighed → Bool → Busy → (sends receives : List NetEdge) → Tally
-  met ch p o ss rs = record { choices = ch; has_party = p; options = options_told o; sends = told ss; receives = told rs; besides = 0 }
+  -- where each choice has k nodes besides
+  module _ (k : ℕ) where
+    -- the choices so far, whether there is a party, the automaton that is gone through, and the edges that send and receive
+    abbrev met : Weighed → Bool → Busy → (sends receives : List NetEdge) → Tally
+    met ch p o ss rs = record { choices = ch; has_party = p; options = options_told o; sends = told ss; receives = told rs; besides = k }
 
-  -- between automata
-  abbrev pub resting : (choices nodes : ℕ) → Bool → (sends receives : List NetEdge) → Tally
-  resting r w p ss rs = met (weighed r w) p None ss rs
+    -- between automata
+    abbrev pub resting : (choices nodes : ℕ) → Bool → (sends receives : List NetEdge) → Tally
+    resting r w p ss rs = met (weighed r w) p None ss rs
 
-  closed-met : (r w : ℕ) (p s : Bool) (xs ss rs : List NetEdge)
-      → closed (met (weighed r w) p (Some (xs, s)) ss rs) ≡ resting (r * (length xs + (if s then 1 else 0))) (w * (length xs + (if s then 1 else 0)) + r * (sum_by v xs + (if s then 1 else 0))) true ss rs
-  closed-met r w p s xs ss rs =
-      ap (λ (o : Weighed). met (paired (weighed r w) o) true None ss rs) (all-options (length xs) (sum_by v xs) s)
-      ∙ ap (λ (o : Weighed). met o true None ss rs) (pairs r w (length xs + (if s then 1 else 0)) (sum_by v xs + (if s then 1 else 0)))
+    closed-met : (r w : ℕ) (p s : Bool) (xs ss rs : List NetEdge)
+        → closed (met (weighed r w) p (Some (xs, s)) ss rs) ≡ resting (r * (length xs + (if s then 1 else 0))) (w * (length xs + (if s then 1 else 0)) + r * (sum_by v xs + (if s then 1 else 0))) true ss rs
+    closed-met r w p s xs ss rs =
+        ap (λ (o : Weighed). met (paired (weighed r w) o) true None ss rs) (all-options (length xs) (sum_by v xs) s)
+        ∙ ap (λ (o : Weighed). met o true None ss rs) (pairs r w (length xs + (if s then 1 else 0)) (sum_by v xs + (if s then 1 else 0)))
 
-  stays-noted : (ch : Weighed) (p : Bool) (xs ss rs : List NetEdge) (ms : List ℕ) (j : ℕ) → each_at (λ e. e) (λ e. with_stay) ms j (met ch p (Some (xs, false)) ss rs) ≡ met ch p (Some (xs, list_any (nat_eq j) ms)) ss rs
-  stays-noted ch p xs ss rs ms j = each-once with_stay stay-twice ms j (met ch p (Some (xs, false)) ss rs) ∙ by (list_any (nat_eq j) ms)
-    where
-      by : (b : Bool) → (if b then with_stay (met ch p (Some (xs, false)) ss rs) else met ch p (Some (xs, false)) ss rs) ≡ met ch p (Some (xs, b)) ss rs
-      by true = refl
-      by false = refl
-
-  module _ (alg : ℕ → Measure) (weighs : (x : NetEdge) → edge_nodes alg x ≡ cut (v x)) where
-    one-told : (x : NetEdge) (xs : List NetEdge) → with_one (edge_nodes alg x) (told xs) ≡ told (xs ++ x ∷ [])
-    one-told x xs =
-        let n : length xs + 1 ≡ length (xs ++ x ∷ []) = omega (arith, length-append xs (x ∷ [])) in
-        let m : sum_by v xs + v x ≡ sum_by v (xs ++ x ∷ []) = omega (arith, sum_by-append v xs (x ∷ []), sum_by-cons v x []) in
-        ap (λ k. with_one k (told xs)) (weighs x) ∙ one_more (v x) (length xs) (sum_by v xs) ∙ λ i. weighed (n i) (m i)
-
-    edge-met : (ch : Weighed) (p : Bool) (x : NetEdge) (o : Busy) (ss rs : List NetEdge) → with_edge syncing (edge_nodes alg x) (met ch p o ss rs) ≡ met ch p (with_edges o (x ∷ [])) ss rs
-    edge-met ch p x None ss rs = refl
-    edge-met ch p x (Some (xs, s)) ss rs = ap (λ (w : Weighed). record { choices = ch; has_party = p; options = Some (record { edges = w; stays = s }); sends = told ss; receives = told rs; besides = 0 }) (one-told x xs)
-
-    joined : (o : Busy) (x : NetEdge) (xs : List NetEdge) → with_edges (with_edges o (x ∷ [])) xs ≡ with_edges o (x ∷ xs)
-    joined None x xs = refl
-    joined (Some (ys, s)) x xs = ap (λ (zs : List NetEdge). let q : Busy = Some (zs, s) in q) (append_assoc ys (x ∷ []) xs)
-
-    same-busy : (o : Busy) → o ≡ with_edges o []
-    same-busy None = refl
-    same-busy (Some (ys, s)) = ap (λ (zs : List NetEdge). let q : Busy = Some (zs, s) in q) (sym (append-nil ys))
-
-    edges-met : (ch : Weighed) (p : Bool) (j : ℕ) (xs : List NetEdge) (o : Busy) (ss rs : List NetEdge)
-        → edges_at alg xs j (met ch p o ss rs) ≡ met ch p (with_edges o (own_edges syncing j xs)) (ss ++ own_edges sending j xs) (rs ++ own_edges receiving j xs)
-    edges-met ch p j [] o ss rs = λ i. met ch p (same-busy o i) (sym (append-nil ss) i) (sym (append-nil rs) i)
-    edges-met ch p j (x ∷ xs) o ss rs = by x.role (nat_eq x.event j) (edges-met ch p j xs)
+    stays-noted : (ch : Weighed) (p : Bool) (xs ss rs : List NetEdge) (ms : List ℕ) (j : ℕ) → each_at (λ e. e) (λ e. with_stay) ms j (met ch p (Some (xs, false)) ss rs) ≡ met ch p (Some (xs, list_any (nat_eq j) ms)) ss rs
+    stays-noted ch p xs ss rs ms j = each-once with_stay stay-twice ms j (met ch p (Some (xs, false)) ss rs) ∙ by (list_any (nat_eq j) ms)
       where
-        own : List NetEdge
-        own = own_edges syncing j xs
+        by : (b : Bool) → (if b then with_stay (met ch p (Some (xs, false)) ss rs) else met ch p (Some (xs, false)) ss rs) ≡ met ch p (Some (xs, b)) ss rs
+        by true = refl
+        by false = refl
 
-        sent : List NetEdge
-        sent = own_edges sending j xs
+    module _ (alg : ℕ → Measure) (weighs : (x : NetEdge) → edge_nodes alg x ≡ cut (v x)) where
+      one-told : (x : NetEdge) (xs : List NetEdge) → with_one (edge_nodes alg x) (told xs) ≡ told (xs ++ x ∷ [])
+      one-told x xs =
+          let n : length xs + 1 ≡ length (xs ++ x ∷ []) = omega (arith, length-append xs (x ∷ [])) in
+          let m : sum_by v xs + v x ≡ sum_by v (xs ++ x ∷ []) = omega (arith, sum_by-append v xs (x ∷ []), sum_by-cons v x []) in
+          ap (λ c. with_one c (told xs)) (weighs x) ∙ one_more (v x) (length xs) (sum_by v xs) ∙ λ i. weighed (n i) (m i)
 
-        received : List NetEdge
-        received = own_edges receiving j xs
+      edge-met : (ch : Weighed) (p : Bool) (x : NetEdge) (o : Busy) (ss rs : List NetEdge) → with_edge syncing (edge_nodes alg x) (met ch p o ss rs) ≡ met ch p (with_edges o (x ∷ [])) ss rs
+      edge-met ch p x None ss rs = refl
+      edge-met ch p x (Some (xs, s)) ss rs = ap (λ (w : Weighed). record { choices = ch; has_party = p; options = Some (record { edges = w; stays = s }); sends = told ss; receives = told rs; besides = k }) (one-told x xs)
 
-        by : (r : Role) (b : Bool) → ((q : Busy) (ts us : List NetEdge) → edges_at alg xs j (met ch p q ts us) ≡ met ch p (with_edges q own) (ts ++ sent) (us ++ received))
-            → edges_at alg xs j (if b then with_edge r (edge_nodes alg x) (met ch p o ss rs) else met ch p o ss rs)
-            ≡ met ch p (with_edges o (if same_role syncing r && b then x ∷ own else own)) (ss ++ (if same_role sending r && b then x ∷ sent else sent)) (rs ++ (if same_role receiving r && b then x ∷ received else received))
-        by syncing true more = ap (edges_at alg xs j) (edge-met ch p x o ss rs) ∙ more (with_edges o (x ∷ [])) ss rs ∙ ap (λ (q : Busy). met ch p q (ss ++ sent) (rs ++ received)) (joined o x own)
-        by sending true more =
-            ap (λ (w : Weighed). edges_at alg xs j (record { choices = ch; has_party = p; options = options_told o; sends = w; receives = told rs; besides = 0 })) (one-told x ss)
-            ∙ more o (ss ++ x ∷ []) rs ∙ ap (λ ts. met ch p (with_edges o own) ts (rs ++ received)) (append_assoc ss (x ∷ []) sent)
-        by receiving true more =
-            ap (λ (w : Weighed). edges_at alg xs j (record { choices = ch; has_party = p; options = options_told o; sends = told ss; receives = w; besides = 0 })) (one-told x rs)
-            ∙ more o ss (rs ++ x ∷ []) ∙ ap (λ us. met ch p (with_edges o own) (ss ++ sent) us) (append_assoc rs (x ∷ []) received)
-        by syncing false more = more o ss rs
-        by sending false more = more o ss rs
-        by receiving false more = more o ss rs
+      joined : (o : Busy) (x : NetEdge) (xs : List NetEdge) → with_edges (with_edges o (x ∷ [])) xs ≡ with_edges o (x ∷ xs)
+      joined None x xs = refl
+      joined (Some (ys, s)) x xs = ap (λ (zs : List NetEdge). let q : Busy = Some (zs, s) in q) (append_assoc ys (x ∷ []) xs)
 
-    -- the tally after an automaton
-    pub auto-counted : (a : NetAuto) (j r w : ℕ) (p : Bool) (ss rs : List NetEdge)
-        → auto_at alg a j (resting r w p ss rs) ≡ (let ts : List NetEdge = ss ++ own_edges sending j a.edges in let us : List NetEdge = rs ++ own_edges receiving j a.edges in
-        if syncs_on j a then resting (r * option_count j a) (w * option_count j a + r * option_nodes j a) true ts us else resting r w p ts us)
-    auto-counted a j r w p ss rs =
-        ap (λ t. closing (staying (edges_at alg a.edges j t))) (each-once opened opened-twice a.alphabet j (resting r w p ss rs))
-        ∙ each-once closed closed-twice a.alphabet j (staying (edges_at alg a.edges j (if syncs_on j a then opened (resting r w p ss rs) else resting r w p ss rs)))
-        ∙ by (syncs_on j a)
-      where
-        staying : Tally → Tally
-        staying t = each_at (λ e. e) (λ e. with_stay) a.monitors j t
+      same-busy : (o : Busy) → o ≡ with_edges o []
+      same-busy None = refl
+      same-busy (Some (ys, s)) = ap (λ (zs : List NetEdge). let q : Busy = Some (zs, s) in q) (sym (append-nil ys))
 
-        closing : Tally → Tally
-        closing t = each_at (λ e. e) (λ e. closed) a.alphabet j t
+      edges-met : (ch : Weighed) (p : Bool) (j : ℕ) (xs : List NetEdge) (o : Busy) (ss rs : List NetEdge)
+          → edges_at alg xs j (met ch p o ss rs) ≡ met ch p (with_edges o (own_edges syncing j xs)) (ss ++ own_edges sending j xs) (rs ++ own_edges receiving j xs)
+      edges-met ch p j [] o ss rs = λ i. met ch p (same-busy o i) (sym (append-nil ss) i) (sym (append-nil rs) i)
+      edges-met ch p j (x ∷ xs) o ss rs = by x.role (nat_eq x.event j) (edges-met ch p j xs)
+        where
+          own : List NetEdge
+          own = own_edges syncing j xs
 
-        xs : List NetEdge
-        xs = own_edges syncing j a.edges
+          sent : List NetEdge
+          sent = own_edges sending j xs
 
-        ts : List NetEdge
-        ts = ss ++ own_edges sending j a.edges
+          received : List NetEdge
+          received = own_edges receiving j xs
 
-        us : List NetEdge
-        us = rs ++ own_edges receiving j a.edges
+          by : (r : Role) (b : Bool) → ((q : Busy) (ts us : List NetEdge) → edges_at alg xs j (met ch p q ts us) ≡ met ch p (with_edges q own) (ts ++ sent) (us ++ received))
+              → edges_at alg xs j (if b then with_edge r (edge_nodes alg x) (met ch p o ss rs) else met ch p o ss rs)
+              ≡ met ch p (with_edges o (if same_role syncing r && b then x ∷ own else own)) (ss ++ (if same_role sending r && b then x ∷ sent else sent)) (rs ++ (if same_role receiving r && b then x ∷ received else received))
+          by syncing true more = ap (edges_at alg xs j) (edge-met ch p x o ss rs) ∙ more (with_edges o (x ∷ [])) ss rs ∙ ap (λ (q : Busy). met ch p q (ss ++ sent) (rs ++ received)) (joined o x own)
+          by sending true more =
+              ap (λ (w : Weighed). edges_at alg xs j (record { choices = ch; has_party = p; options = options_told o; sends = w; receives = told rs; besides = k })) (one-told x ss)
+              ∙ more o (ss ++ x ∷ []) rs ∙ ap (λ ts. met ch p (with_edges o own) ts (rs ++ received)) (append_assoc ss (x ∷ []) sent)
+          by receiving true more =
+              ap (λ (w : Weighed). edges_at alg xs j (record { choices = ch; has_party = p; options = options_told o; sends = told ss; receives = w; besides = k })) (one-told x rs)
+              ∙ more o ss (rs ++ x ∷ []) ∙ ap (λ us. met ch p (with_edges o own) (ss ++ sent) us) (append_assoc rs (x ∷ []) received)
+          by syncing false more = more o ss rs
+          by sending false more = more o ss rs
+          by receiving false more = more o ss rs
 
-        by : (b : Bool) → (let t : Tally = staying (edges_at alg a.edges j (if b then opened (resting r w p ss rs) else resting r w p ss rs)) in if b then closed t else t)
-            ≡ (if b then resting (r * option_count j a) (w * option_count j a + r * option_nodes j a) true ts us else resting r w p ts us)
-        by true =
-            ap (λ t. closed (staying t)) (edges-met (weighed r w) p j a.edges (Some ([], false)) ss rs)
-            ∙ ap closed (stays-noted (weighed r w) p xs ts us a.monitors j)
-            ∙ closed-met r w p (list_any (nat_eq j) a.monitors) xs ts us
-        by false = ap staying (edges-met (weighed r w) p j a.edges None ss rs) ∙ each-ignored (λ e. e) (λ e. with_stay) a.monitors j (resting r w p ts us) (λ e. refl)
+      -- the tally after an automaton
+      pub auto-counted : (a : NetAuto) (j r w : ℕ) (p : Bool) (ss rs : List NetEdge)
+          → auto_at alg a j (resting r w p ss rs) ≡ (let ts : List NetEdge = ss ++ own_edges sending j a.edges in let us : List NetEdge = rs ++ own_edges receiving j a.edges in
+          if syncs_on j a then resting (r * option_count j a) (w * option_count j a + r * option_nodes j a) true ts us else resting r w p ts us)
+      auto-counted a j r w p ss rs =
+          ap (λ t. closing (staying (edges_at alg a.edges j t))) (each-once opened opened-twice a.alphabet j (resting r w p ss rs))
+          ∙ each-once closed closed-twice a.alphabet j (staying (edges_at alg a.edges j (if syncs_on j a then opened (resting r w p ss rs) else resting r w p ss rs)))
+          ∙ by (syncs_on j a)
+        where
+          staying : Tally → Tally
+          staying t = each_at (λ e. e) (λ e. with_stay) a.monitors j t
+
+          closing : Tally → Tally
+          closing t = each_at (λ e. e) (λ e. closed) a.alphabet j t
+
+          xs : List NetEdge
+          xs = own_edges syncing j a.edges
+
+          ts : List NetEdge
+          ts = ss ++ own_edges sending j a.edges
+
+          us : List NetEdge
+          us = rs ++ own_edges receiving j a.edges
+
+          by : (b : Bool) → (let t : Tally = staying (edges_at alg a.edges j (if b then opened (resting r w p ss rs) else resting r w p ss rs)) in if b then closed t else t)
+              ≡ (if b then resting (r * option_count j a) (w * option_count j a + r * option_nodes j a) true ts us else resting r w p ts us)
+          by true =
+              ap (λ t. closed (staying t)) (edges-met (weighed r w) p j a.edges (Some ([], false)) ss rs)
+              ∙ ap closed (stays-noted (weighed r w) p xs ts us a.monitors j)
+              ∙ closed-met r w p (list_any (nat_eq j) a.monitors) xs ts us
+          by false = ap staying (edges-met (weighed r w) p j a.edges None ss rs) ∙ each-ignored (λ e. e) (λ e. with_stay) a.monitors j (resting r w p ts us) (λ e. refl)
 
 -- ---- exclusions
 

@@ -4,3 +4,4 @@ pub mod Weighed
 pub mod Tallies
 pub mod Sizes
 pub mod Outlines
+pub mod Invariants

@@ -1,7 +1,7 @@
--- Automata and exclusions that may be counted in the place of others.
+-- Automata, exclusions and state invariants that may be counted in the place of others.
 use Rattle.std.specs.Prelude.{◌≡◌, ℕ, List, [], ◌∷◌, map}
 use Rattle.cif_system.specs.System.{Role}
-use Rattle.cif_model.specs.Net.{NetEdge, NetAuto, NetExclusion, Net}
+use Rattle.cif_model.specs.Net.{NetEdge, NetAuto, NetExclusion, NetInvariant, Net}
 use Rattle.cif_model.specs.Exprs.{edge_exprs}
 use Rattle.cif_model.specs.Counts as counts
 use Rattle.cif_measure.specs.declared.measures.Measure.{Measure}
@@ -33,8 +33,13 @@ counted_auto alg a = record { alphabet = a.alphabet; monitors = a.monitors; edge
 abbrev pub counted_exclusion : (alg : ℕ → counts.Measure) → NetExclusion → CountedExclusion
 counted_exclusion alg x = record { event = x.event; size = cut_size alg (x.pred ∷ []) }
 
+-- its size alone
+abbrev pub counted_invariant : (alg : ℕ → counts.Measure) → NetInvariant → ℕ
+counted_invariant alg i = cut_size alg (i.pred ∷ [])
+
 -- the same is counted of these, where an algebraic variable counts as the measure with its number, as of those of a net without
 -- algebraic variables, whatever one would count there
-pub record AreAsLarge (algs : List Measure) (there : ℕ → counts.Measure) (autos : List NetAuto) (exclusions : List NetExclusion) (n : Net) : Type 0 where
+pub record AreAsLarge (algs : List Measure) (there : ℕ → counts.Measure) (autos : List NetAuto) (exclusions : List NetExclusion) (invariants : List NetInvariant) (n : Net) : Type 0 where
   pub autos_as : map (counted_auto (table_measure algs)) autos ≡ map (counted_auto there) n.autos
   pub exclusions_as : map (counted_exclusion (table_measure algs)) exclusions ≡ map (counted_exclusion there) n.exclusions
+  pub invariants_as : map (counted_invariant (table_measure algs)) invariants ≡ map (counted_invariant there) n.invariants

@@ -1,8 +1,8 @@
 -- What is counted for each event, automaton by automaton.
-use Rattle.std.specs.Prelude.{ℕ, ◌+◌, Bool, true, false, List, [], ◌∷◌, length, Some, None, option_map, replicate, slice_get, slice_set, if◌then◌else◌}
+use Rattle.std.specs.Prelude.{ℕ, ◌+◌, Bool, true, false, List, [], ◌∷◌, length, map, Some, None, option_map, replicate, slice_get, slice_set, if◌then◌else◌}
 use Rattle.cif_system.specs.System.{Role, syncing, sending, receiving}
 use Rattle.cif_term.specs.Tree.{NetExpr}
-use Rattle.cif_model.specs.Net.{no_net_chan, NetEdge, NetAuto, NetEvent, NetExclusion}
+use Rattle.cif_model.specs.Net.{no_net_chan, NetEdge, NetAuto, NetEvent, NetExclusion, NetInvariant}
 use Rattle.cif_model.specs.Counts.{Measure}
 use Rattle.cif_model.specs.Exprs.{edge_exprs}
 use Rattle.cif_measure.specs.Sizes.{sizes_by}
@@ -13,8 +13,9 @@ use Rattle.cif_alg.specs.Weighed.{cut, nothing, with_one, paired, all_nodes}
 
 -- ---- one event
 
-abbrev pub nothing_met : Tally
-nothing_met = record { choices = record { count = 1; nodes = 0 }; has_party = false; options = None; sends = nothing; receives = nothing; besides = 0 }
+-- no automaton was met, and each choice has so many nodes besides
+abbrev pub met_with : (besides : ℕ) → Tally
+met_with b = record { choices = record { count = 1; nodes = 0 }; has_party = false; options = None; sends = nothing; receives = nothing; besides = b }
 
 -- an automaton that has the event begins
 abbrev pub opened : Tally → Tally
@@ -69,6 +70,10 @@ edge_nodes alg x = cut (1 + cut_size alg (edge_exprs x))
 unfoldable pub exclusion_nodes : (alg : ℕ → Measure) → NetExclusion → ℕ
 exclusion_nodes alg x = cut_size alg (x.pred ∷ [])
 
+-- all state invariants together
+unfoldable pub invariants_nodes : (alg : ℕ → Measure) → List NetInvariant → ℕ
+invariants_nodes alg xs = cut_size alg (map (λ (i : NetInvariant). i.pred) xs)
+
 -- ---- all events
 
 -- what stands at k is changed, where there is something
@@ -112,5 +117,7 @@ tallies_nodes n [] ts = n
 tallies_nodes n (e ∷ es) [] = n
 tallies_nodes n (e ∷ es) (t ∷ ts) = tallies_nodes (cut (n + tally_nodes (is_channel_event e) t)) es ts
 
-abbrev pub counted : (alg : ℕ → Measure) → List NetAuto → List NetExclusion → List NetEvent → ℕ
-counted alg autos exclusions events = tallies_nodes 0 events (exclusions_noted alg exclusions (all_tallied alg autos (replicate (length events) nothing_met)))
+-- each choice has the nodes of all state invariants, and of the exclusions of its event
+abbrev pub counted : (alg : ℕ → Measure) → List NetAuto → List NetExclusion → List NetInvariant → List NetEvent → ℕ
+counted alg autos exclusions invariants events =
+    tallies_nodes 0 events (exclusions_noted alg exclusions (all_tallied alg autos (replicate (length events) (met_with (invariants_nodes alg invariants)))))

@@ -1,15 +1,15 @@
 //! The rules on algebraic variables, intervals and sizes of a net.
 
-ghost use Rattle.std.specs.Prelude.{◌≡◌, nat_lt, true, false, ◌||◌, [], map, IfOk, IfErr};
+ghost use Rattle.std.specs.Prelude.{◌≡◌, nat_lt, true, false, ◌||◌, map, IfOk, IfErr};
 ghost use Rattle.std.specs.List.{list_all};
 ghost use Rattle.cif_model.specs.Counts.{most_nodes, most_depth, is_too_large};
 ghost use Rattle.cif_model.specs.Rules.{IsAcyclic, evaluated};
-ghost use Rattle.cif_net.specs.View.{net_tree, auto_tree, exclusion_tree, event_tree};
+ghost use Rattle.cif_net.specs.View.{net_tree, auto_tree, exclusion_tree, invariant_tree, event_tree};
 ghost use Rattle.cif_measure.specs.Meanings.{table_measure};
 ghost use Rattle.cif_measure.specs.Rules.{declared_divides, declared_is_narrow};
 ghost use Rattle.cif_measure.specs.Sizes.{AreMeasured};
 ghost use Rattle.cif_algebraic.specs.Orders.{IsOrderOf};
-ghost use Rattle.cif_alg.specs.Keeps.{KeepsAlgebraic, due};
+ghost use Rattle.cif_alg.specs.Keeps.{KeepsExpressions, due};
 ghost use Rattle.cif_alg.specs.Sizes.{sizes_added};
 ghost use Rattle.cif_alg.specs.Tallies.{counted};
 
@@ -29,12 +29,11 @@ use std::alloc::Global;
 /// expression is in 64 bits, and which is within the limits of sizes, with algebraic variables unfolded; or the first of these that
 /// fails: see `AlgErr`.
 pub fn check_net(alloc: Global, net: &Net) -> Result<Items<u32>, AlgErr>
-    requires { (net_tree net.now).invariants ≡ [] }
     ensures order { IfOk result (λ order. IsOrderOf (net_tree net.now) order) }
     ensures divides { IfOk result (λ order. list_all (declared_divides (net_tree net.now)) (evaluated (net_tree net.now)) ≡ true) }
     ensures narrow { IfOk result (λ order. list_all (declared_is_narrow (net_tree net.now)) (evaluated (net_tree net.now)) ≡ true) }
     ensures small { IfOk result (λ order. is_too_large (net_tree net.now) ≡ false) }
-    ensures keeps { IfOk result (λ order. KeepsAlgebraic (net_tree net.now)) }
+    ensures keeps { IfOk result (λ order. KeepsExpressions (net_tree net.now)) }
     ensures refused { IfErr result (λ e. due (net_tree net.now) e) }
 {
     let order = order_algebraic(alloc, net)?;
@@ -47,7 +46,6 @@ pub fn check_net(alloc: Global, net: &Net) -> Result<Items<u32>, AlgErr>
 /// no choice takes are too large to be made.
 fn check_counts(alloc: Global, net: &Net, order: &[u32]) -> Result<(), AlgErr>
     requires order { IsOrderOf (net_tree net.now) order.now }
-    requires invariants { (net_tree net.now).invariants ≡ [] }
     ensures small { IfOk result (λ done. is_too_large (net_tree net.now) ≡ false) }
     ensures refused { IfErr result (λ e. due (net_tree net.now) e) }
 {
@@ -65,7 +63,6 @@ fn check_counts(alloc: Global, net: &Net, order: &[u32]) -> Result<(), AlgErr>
 fn check_size(alloc: Global, net: &Net, algs: &[Measure]) -> Result<(), AlgErr>
     requires measured { AreMeasured algs.now (net_tree net.now) }
     requires acyclic { IsAcyclic (net_tree net.now) }
-    requires invariants { (net_tree net.now).invariants ≡ [] }
     ensures small { IfOk result (λ done. is_too_large (net_tree net.now) ≡ false) }
     ensures refused { IfErr result (λ e. due (net_tree net.now) e) }
 {
@@ -83,12 +80,13 @@ fn check_size(alloc: Global, net: &Net, algs: &[Measure]) -> Result<(), AlgErr>
 /// The nodes of the choices of a net and of its algebraic variables, where the count stops one past the limit.
 fn nodes_of(alloc: Global, net: &Net, algs: &[Measure]) -> Result<u64, Memory>
     ensures { IfOk result (λ nodes. nodes ≡ sizes_added (counted (table_measure algs.now) (map auto_tree net.now.autos)
-        (map exclusion_tree net.now.exclusions) (map event_tree net.now.events)) algs.now) }
+        (map exclusion_tree net.now.exclusions) (map invariant_tree net.now.invariants) (map event_tree net.now.events)) algs.now) }
 {
     let choices = choice_nodes(
         alloc,
         net.autos.as_slice(),
         net.exclusions.as_slice(),
+        net.invariants.as_slice(),
         net.events.as_slice(),
         algs,
     )?;

@@ -1,33 +1,35 @@
 //! The nodes of the choices of all events, without listing the choices.
 
 ghost use Rattle.std.specs.Prelude.{◌≡◌, map, IfOk};
-ghost use Rattle.cif_net.specs.View.{auto_tree, edge_tree, event_tree, exclusion_tree};
+ghost use Rattle.cif_net.specs.View.{auto_tree, edge_tree, event_tree, exclusion_tree, invariant_tree};
 ghost use Rattle.cif_measure.specs.Meanings.{table_measure};
-ghost use Rattle.cif_alg.specs.Tallies.{is_channel_event, tallies_nodes, edge_nodes, exclusion_nodes, opened_for, edges_noted, stays_noted, closed_for, tallied, all_tallied, exclusions_noted, counted};
+ghost use Rattle.cif_alg.specs.Tallies.{is_channel_event, tallies_nodes, edge_nodes, exclusion_nodes, invariants_nodes, opened_for, edges_noted, stays_noted, closed_for, tallied, all_tallied, exclusions_noted, counted};
 
 use crate::limit::sum;
 use crate::tally::Tally;
 use cif_base::{Items, Memory};
-use cif_measure::{Measure, edge_size, exclusion_size};
-use cif_net::{Auto, Event, Exclusion, NetChan, NetEdge};
+use cif_measure::{Measure, edge_size, exclusion_size, invariants_size};
+use cif_net::{Auto, Event, Exclusion, Invariant, NetChan, NetEdge};
 use std::alloc::Global;
 
-/// The nodes of the choices of all events, for the automata, exclusions and events of a net without state invariants. An algebraic
+/// The nodes of the choices of all events, for the automata, exclusions, state invariants and events of a net. An algebraic
 /// variable counts as the measure with its number in `algs`, and the count stops one past the limit. So the nodes of a net can be
 /// told from automata that have measures in the place of its expressions. The time is linear in what alphabets, monitors, edges,
-/// exclusions and events there are, with their expressions.
+/// exclusions, invariants and events there are, with their expressions.
 pub fn choice_nodes(
     alloc: Global,
     autos: &[Auto],
     exclusions: &[Exclusion],
+    invariants: &[Invariant],
     events: &[Event],
     algs: &[Measure],
 ) -> Result<u64, Memory>
     ensures { IfOk result
         (λ nodes. nodes ≡ counted (table_measure algs.now) (map auto_tree autos.now) (map exclusion_tree exclusions.now)
-        (map event_tree events.now)) }
+        (map invariant_tree invariants.now) (map event_tree events.now)) }
 {
-    let mut tallies = Items::filled(alloc, Tally::new(), events.len())?;
+    let besides = invariants_nodes(invariants, algs);
+    let mut tallies = Items::filled(alloc, Tally::new(besides), events.len())?;
     tally_all(&mut tallies, autos, algs);
     note_exclusions(&mut tallies, exclusions, algs);
     Ok(all_nodes(events, tallies.as_slice()))
@@ -141,4 +143,12 @@ fn exclusion_nodes(exclusion: &Exclusion, algs: &[Measure]) -> u64
     ensures { result ≡ exclusion_nodes (table_measure algs.now) (exclusion_tree exclusion.now) }
 {
     exclusion_size(algs, exclusion)
+}
+
+/// The nodes of all state invariants, those of their predicates.
+#[tactic(auto, unfolding(crate::specs::Tallies::invariants_nodes))]
+fn invariants_nodes(invariants: &[Invariant], algs: &[Measure]) -> u64
+    ensures { result ≡ invariants_nodes (table_measure algs.now) (map invariant_tree invariants.now) }
+{
+    invariants_size(algs, invariants)
 }

@@ -8,7 +8,8 @@ use cif_algebraic::AlgebraicErr;
 use cif_base::Memory;
 use cif_measure::{IntervalErr, WidthErr};
 
-/// Why a net is not made plain, or that memory ran out. `at` is the byte of the source where the divisor or the part begins.
+/// Why a net is not made plain, or that memory ran out. `at` is the byte of the source where the divisor, the part or the state
+/// invariant begins.
 #[derive(Clone, Copy, Debug, PartialEq, Eq)]
 pub enum AlgErr {
     /// The algebraic variable depends on itself, and none with a lower number does.
@@ -17,6 +18,10 @@ pub enum AlgErr {
     ZeroDivisor { at: u32 },
     /// The interval of the part of an expression leaves 64 bits.
     TooWide { at: u32 },
+    /// The state invariant reads an input, with algebraic variables unfolded.
+    InvariantReadsInput { at: u32 },
+    /// The state invariant reads no input, and does not hold in the initial state.
+    InvariantFalse { at: u32 },
     /// The choices of the net have more than 1,000,000 nodes, or an expression is deeper than 100. Each count stops one past
     /// its limit.
     TooLarge { nodes: u32, depth: u32 },

@@ -1,10 +1,11 @@
 //! Whether the net in which algebraic variables are replaced is small enough to be made. What is within the limit on the nodes of
-//! choices is, but for edges that no choice takes. No clause speaks of it: it tells only whether there is memory.
+//! choices is, but for edges that no choice takes, and for state invariants where there is no choice. No clause speaks of it: it tells
+//! only whether there is memory.
 
-use cif_measure::{MOST_NODES, Measure, edge_size, exclusion_size};
+use cif_measure::{MOST_NODES, Measure, edge_size, exclusion_size, invariants_size};
 use cif_net::{Auto, Exclusion, Net, NetEdge};
 
-/// The most forms that the edges of a net have together, of those that are made.
+/// The most forms that the expressions of a net have together, of those that are made.
 pub const MOST_FORMS: u64 = 4_000_000;
 
 /// The forms of something of this size. One that stopped past its limit stands for any number, and so for more than are made.
@@ -40,10 +41,11 @@ fn exclusions_forms(exclusions: &[Exclusion], algs: &[Measure]) -> u64 {
     found
 }
 
-/// Whether the edges and exclusions of a net have few enough forms, where an algebraic variable counts as the measure with its number.
-/// The time is linear in them.
+/// Whether the edges, exclusions and state invariants of a net have few enough forms, where an algebraic variable counts as the
+/// measure with its number. The time is linear in them.
 pub fn is_made(net: &Net, algs: &[Measure]) -> bool {
     let edges = autos_forms(net.autos.as_slice(), algs);
     let exclusions = exclusions_forms(net.exclusions.as_slice(), algs);
-    edges.saturating_add(exclusions) <= MOST_FORMS
+    let invariants = forms(invariants_size(algs, net.invariants.as_slice()));
+    edges.saturating_add(exclusions).saturating_add(invariants) <= MOST_FORMS
 }

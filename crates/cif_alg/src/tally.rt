@@ -3,7 +3,7 @@
 ghost use Rattle.std.specs.Prelude.{◌≡◌};
 ghost use Rattle.cif_system.specs.System.{syncing};
 ghost use Rattle.cif_net.specs.View.{role_of};
-ghost use Rattle.cif_alg.specs.Tallies.{nothing_met, opened, with_edge, with_stay, all_options, closed, with_besides, tally_nodes};
+ghost use Rattle.cif_alg.specs.Tallies.{met_with, opened, with_edge, with_stay, all_options, closed, with_besides, tally_nodes};
 
 use crate::limit::sum;
 use crate::weighed::Weighed;
@@ -11,7 +11,7 @@ use cif_net::NetRole;
 
 /// What the automata so far may do that synchronise on the event, and whether there is one. While one is gone through, `options`
 /// are its options. `sends` and `receives` are the edges of all automata that send and that receive. Each choice has the nodes
-/// `besides`, those of the exclusions of the event.
+/// `besides`, those of all state invariants and of the exclusions of the event.
 #[derive(Clone, Copy)]
 pub struct Tally {
     pub choices: Weighed,
@@ -43,9 +43,9 @@ impl Options {
 }
 
 impl Tally {
-    /// No automaton has been met.
-    pub fn new() -> Tally
-        ensures { result ≡ nothing_met }
+    /// No automaton has been met. Each choice has so many nodes besides.
+    pub fn new(besides: u64) -> Tally
+        ensures { result ≡ met_with besides }
     {
         Tally {
             choices: Weighed { count: 1, nodes: 0 },
@@ -53,7 +53,7 @@ impl Tally {
             options: None,
             sends: Weighed::none(),
             receives: Weighed::none(),
-            besides: 0,
+            besides,
         }
     }
 

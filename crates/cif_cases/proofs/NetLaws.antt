@@ -5,15 +5,10 @@ use Rattle.grammar.specs.Pieces.{Text}
 use Rattle.cif_net.specs.View.{net_tree}
 use Rattle.cif_net.specs.declared.guarded.Guarded.{Guarded}
 use Rattle.cif_nesting.specs.Nesting.{is_shallow}
-use Rattle.plc_parts.specs.Parts.{is_silent}
-use Rattle.cif_generate.proofs.ProgramLaws.{built-silent, read-shallow}
-use Rattle.cif_generate.proofs.UnfoldedLaws.{silent-unfolded, shallow-unfolded}
+use Rattle.cif_generate.proofs.ProgramLaws.{read-shallow}
+use Rattle.cif_generate.proofs.UnfoldedLaws.{shallow-unfolded}
 use Rattle.cif_front.specs.Loads.{Loads}
 use Rattle.cif_front.specs.declared.refusal.Refusal.{Refusal}
-
-pub loads_silent : (text : Text) (r : Result Guarded Refusal) → IfOk r (λ g. Loads text g) → IfOk r (λ g. is_silent (net_tree g.plain.net) ≡ true)
-loads_silent text (Ok g) l = silent-unfolded _ (net_tree g.plain.net) l.2.unfolds ∙ built-silent l.0 l.1.built
-loads_silent text (Err e) l = tt
 
 pub loads_shallow : (text : Text) (r : Result Guarded Refusal) → IfOk r (λ g. Loads text g) → IfOk r (λ g. is_shallow (net_tree g.plain.net) ≡ true)
 loads_shallow text (Ok g) l = shallow-unfolded _ (net_tree g.plain.net) l.2.unfolds ∙ read-shallow text l.0 l.1

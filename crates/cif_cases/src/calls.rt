@@ -2,7 +2,7 @@
 
 use crate::commands::tool_case;
 use crate::laws::laws_case;
-use crate::nets::{emit_case, form_case, frame_case, load_case, widths_case};
+use crate::nets::{emit_case, frame_case, load_case, widths_case};
 use crate::scopes::{find_case, scopes_case};
 use crate::sources::{copy_case, source_case};
 use crate::tokens::front_case;
@@ -17,7 +17,6 @@ impl Calls for CifCalls {
         match call {
             "tool" => tool_case(fields, page),
             "laws" => laws_case(page),
-            "form" => form_case(fields, page),
             "load" => load_case(fields, page),
             "emit" => emit_case(fields, page),
             "frame" => frame_case(fields, page),

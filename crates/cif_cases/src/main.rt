@@ -10,9 +10,9 @@
 //!   `parameters`: readers of the front of a CIF source;
 //! - `items`, `automaton`, `location`, `edge`, `choice`, `outline`, `shape`, `tree`, `copy`: the tree of a CIF source: its items,
 //!   the automaton that is the last of them, its first location and the first edge of that; the value of the last declaration;
-//! - `form TEXT`: whether a CIF source has the forms that are built so far; `load TEXT`: its net with the choices of all events and its
-//!   initial state, or why there is none; `emit TEXT | UNC CON`: its program; `frame TEXT | UNC CON`: the frame of rounds round no
-//!   event, for a source without events; `widths TEXT`: whether the expressions of its net divide by no 0 and stay in 64 bits;
+//! - `load TEXT`: the net of a CIF source with the choices of all events and its initial state, or why there is none;
+//!   `emit TEXT | UNC CON`: its program; `frame TEXT | UNC CON`: the frame of rounds round no event, for a source without events;
+//!   `widths TEXT`: whether the expressions of its net divide by no 0 and stay in 64 bits;
 //! - `uses TEXT`: the names that the items of a source write, each with what its position asks for;
 //! - `scopes TEXT`: how many names the scope of each body of a source declares; `resolve TEXT`: the same where the source keeps all
 //!   rules on scopes; `find BODY NAME | TEXT`: the instances that a name passes in the body with that number, and what it finds,

@@ -1,14 +1,11 @@
-//! Cases of nets: sources of the forms that are built, their nets with the choices of all events, and their programs.
+//! Cases of nets: sources, their nets with the choices of all events, and their programs.
 
 ghost use Rattle.std.specs.Prelude.{◌≡◌, ◌≤◌, [], map, true, length, IfOk};
 ghost use Rattle.cif_net.specs.View.{net_tree};
 ghost use Rattle.cif_nesting.specs.Nesting.{is_shallow};
-ghost use Rattle.plc_parts.specs.Parts.{is_silent};
 
-use crate::sources::{put_no_tree, spec_of};
 use case_text::{Fault, Fields, Put, put_lines, put_text};
 use cif_base::{Items, Memory, Text};
-use cif_form::misfit;
 use cif_front::{Refusal, load};
 use cif_measure::{check_intervals, depth_of};
 use cif_net::{Auto, Choice, Class, Event, Guarded, Move, Net, NetEdge, State};
@@ -24,18 +21,6 @@ const MOST_BYTES: usize = 4_194_304;
 /// The most rounds of a class in a scan.
 const MOST_ROUNDS: u32 = 10_000;
 
-/// `form TEXT`: whether a source has the forms that are built so far, or where the first thing stands that has none.
-pub fn form_case(fields: &Fields<'_>, page: &mut String) -> Result<(), Fault> {
-    let text = fields.text()?;
-    match spec_of(fields.alloc, text.as_slice()) {
-        Err(why) => put_no_tree(page, why),
-        Ok(spec) => match misfit(&spec) {
-            Some(at) => Ok(writeln!(page, "  another form at {at}")?),
-            None => Ok(page.push_str("  a built form\n")?),
-        },
-    }
-}
-
 /// `load TEXT`: the net of a source, or why there is none.
 pub fn load_case(fields: &Fields<'_>, page: &mut String) -> Result<(), Fault> {
     let text = fields.text()?;
@@ -45,9 +30,8 @@ pub fn load_case(fields: &Fields<'_>, page: &mut String) -> Result<(), Fault> {
     }
 }
 
-#[tactic(auto, using(crate::proofs::NetLaws::loads_silent, crate::proofs::NetLaws::loads_shallow))]
+#[tactic(auto, using(crate::proofs::NetLaws::loads_shallow))]
 fn loaded(alloc: Global, text: &[u8]) -> Result<Result<Guarded, Refusal>, Fault>
-    ensures silent { IfOk result (λ answer. IfOk answer (λ g. is_silent (net_tree g.plain.net) ≡ true)) }
     ensures shallow { IfOk result (λ answer. IfOk answer (λ g. is_shallow (net_tree g.plain.net) ≡ true)) }
 {
     if text.len() > MOST_BYTES {
@@ -208,7 +192,6 @@ pub fn frame_case(fields: &Fields<'_>, page: &mut String) -> Result<(), Fault> {
 /// The text of the frame of a net without events and algebraic variables.
 #[tactic(auto, using(crate::proofs::FrameLaws::nothing_fits))]
 fn framed(alloc: Global, guarded: &Guarded, bounds: Bounds) -> Result<Vec<u8>, Memory>
-    requires silent { is_silent (net_tree guarded.now.plain.net) ≡ true }
     requires shallow { is_shallow (net_tree guarded.now.plain.net) ≡ true }
     requires events { (net_tree guarded.now.plain.net).events ≡ [] }
     requires algs { (net_tree guarded.now.plain.net).algs ≡ [] }

@@ -3,7 +3,7 @@
 ghost use Rattle.std.specs.Prelude.{◌≡◌, ◌≤◌, ◌⊎◌, ℕ, List};
 ghost use Rattle.cif_io.specs.Written.{grown};
 ghost use Rattle.cif_run.specs.Works.{Comes, reading, writing};
-ghost use Rattle.cif_accept.specs.Built.{Built};
+ghost use Rattle.cif_source.specs.Source.{Source};
 ghost use Rattle.cif_accept.specs.Accepts.{SourceHasTooMany, SourceIs, SourceRefused};
 ghost use Rattle.cif_run.specs.declared.status.ProfileWhy.{ProfileWhy};
 ghost use Rattle.cif_run.specs.declared.status.Refusal.{Refusal};
@@ -29,8 +29,7 @@ impl<'a> Command for Check<'a> {
     }
 }
 
-/// Reads the source (CIF 3 language reference) of the file, and writes `ok` where it has the forms that are built so far and breaks
-/// no rule.
+/// Reads the source (CIF 3 language reference) of the file, and writes `ok` where it breaks no rule.
 pub fn check<F: Files, O: Sink>(
     alloc: Global,
     asked: &Check<'_>,
@@ -41,7 +40,7 @@ pub fn check<F: Files, O: Sink>(
         (reading (F.content files.old) (F.faults files.old) (F.faults files.new) (F.most files.new))
         (writing (O.written out.old) (O.written out.new) (O.faults out.old) (O.faults out.new)) result }
     // After Done the file holds a source that is accepted, and `ok` was written.
-    ensures checked { result.status ≡ Status.Done → ((t : Built) × SourceIs (F.content files.old) asked.now.file.now t)
+    ensures checked { result.status ≡ Status.Done → ((t : Source) × SourceIs (F.content files.old) asked.now.file.now t)
         × (O.written out.new ≡ grown (O.written out.old) accepted) }
     // A source is refused for a cause that it has.
     ensures refused { (why : Refusal) → result.status ≡ Status.Refused why →

@@ -14,7 +14,6 @@ use Rattle.cif_source.specs.Components.{Component}
 use Rattle.cif_source.specs.Objects.{components_of}
 use Rattle.cif_rules.specs.Kinds.{Kind, bool_kind, no_kind}
 use Rattle.cif_rules.specs.Demands.{demanded, asked_for}
-use Rattle.cif_built.specs.Built.{is_built}
 use Rattle.cif_image.specs.Flat.{net_of_source}
 use Rattle.cif_image.specs.Small.{HasSmallParts}
 use Rattle.cif_image.specs.Translation.{conjunction, net_of, net_list, net_guard, net_name}
@@ -30,12 +29,12 @@ use Rattle.cif_fits.proofs.NameLaws.{nothing-received, name-fits}
 pub none-received : (n : Net) → IsReceived n no_kind None
 none-received n = nothing-received n None (λ ty is. absurd (none-some ty is))
 
-module _ (t : Source) (c : Component) (built : is_built t ≡ true) (keeps : KeepsBefore t algebraic) (small : HasSmallParts t) (few : HasSmallArguments t) (m : Member c (components_of t)) where
+module _ (t : Source) (c : Component) (keeps : KeepsBefore t algebraic) (small : HasSmallParts t) (few : HasSmallArguments t) (m : Member c (components_of t)) where
   -- ---- where `?` has the kind r, and what is received the type o
 
   module _ (r : Kind) (o : Option Ty) (is : IsReceived (net_of_source t) r o) where
     pub demanded-fit : (k : Kind) (e : Tree) → AreMet c (demanded c r k e) → HoldsInTree small_parts e → fits (net_of_source t) o (net_kind k) (net_of c e) ≡ true
-    demanded-fit k e = expr-fits (net_of_source t) c r o is (net_name c) (name-fits t (sound t built keeps small few) o is.carried c m) k e
+    demanded-fit k e = expr-fits (net_of_source t) c r o is (net_name c) (name-fits t (sound t keeps small few) o is.carried c m) k e
 
     abbrev AllMet : List Tree → Type 0
     AllMet all = (e : Tree) → Member e all → AreMet c (demanded c r bool_kind e)

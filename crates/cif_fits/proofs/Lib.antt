@@ -3,7 +3,6 @@ pub mod ExprLaws
 pub mod Places
 pub mod Chains
 pub mod SoundLaws
-pub mod FormLaws
 pub mod TypeLaws
 pub mod NameLaws
 pub mod FitLaws

@@ -1,6 +1,6 @@
--- What a source of these forms that keeps its rules and has small parts gives: few components, declared once, with constants in
+-- What a source that keeps its rules and has small parts gives: few components, declared once, with constants in
 -- their ranges and small numbers, and names that find entries of components.
-use Rattle.std.proofs.Common.{◌≡◌, ℕ, ◌≤◌, true, List, length, sym, subst, arith}
+use Rattle.std.proofs.Common.{◌≡◌, ℕ, ◌≤◌, List, length, sym, subst, arith}
 use Rattle.std.specs.Prelude.{filter_map}
 use Rattle.cif_ast.specs.Tree.{Tree}
 use Rattle.cif_ast.specs.Throughout.{HoldsInTree}
@@ -16,7 +16,6 @@ use Rattle.cif_source.specs.Scoping.{UnknownDue, DuplicateDue, WrongKindDue, as_
 use Rattle.cif_source.proofs.ReachLaws.{frames-listed, found-listed}
 use Rattle.cif_rules.specs.BodyRules.{MismatchDue}
 use Rattle.cif_rules.specs.InstanceRules.{ConstantRangeDue}
-use Rattle.cif_built.specs.Built.{is_built}
 use Rattle.cif_image.specs.Small.{HasSmallParts}
 use Rattle.cif_image.specs.WellFormed.{unknown, duplicate, wrong_kind, mismatch, too_many_objects, constant_range, KeepsBefore, algebraic}
 use Rattle.cif_image.proofs.RuleLaws.{few-kept}
@@ -26,12 +25,10 @@ use Rattle.cif_written.specs.Entries.{IsOf}
 use Rattle.cif_written.proofs.Alike.{body-written}
 use Rattle.cif_written.proofs.Bodies.{found-good, components-written}
 use Rattle.cif_fits.specs.Forms.{HasSmallArguments}
-use Rattle.cif_fits.proofs.FormLaws.{HasForms, forms-of}
 
 -- ---- what the premises give
 
 pub record IsSound (t : Source) : Type 0 where
-  pub forms : HasForms t
   pub few : length (components_of t) ≤ most_objects
   pub known : (at : ℕ) → UnknownDue t at → ⊥
   pub single : (at first : ℕ) → DuplicateDue t at first → ⊥
@@ -41,9 +38,8 @@ pub record IsSound (t : Source) : Type 0 where
   pub literals : (c : Component) → Member c (components_of t) → (n : Ident) (ls : List Ident) → Member (enum_decl n ls) (decls_of c) → AreFewLiterals ls
   pub arguments : (c : Component) → Member c (components_of t) → (i : InstanceTree) → Member i (instances_of c) → (e : Tree) → Member e i.args → HoldsInTree small_parts e
 
-pub sound : (t : Source) → is_built t ≡ true → KeepsBefore t algebraic → HasSmallParts t → HasSmallArguments t → IsSound t
-sound t built keeps small few = record {
-  forms = forms-of t built;
+pub sound : (t : Source) → KeepsBefore t algebraic → HasSmallParts t → HasSmallArguments t → IsSound t
+sound t keeps small few = record {
   few = few-kept t (λ count. keeps (too_many_objects count) (omega arith));
   known = λ at. keeps (unknown at) (omega arith);
   single = λ at first. keeps (duplicate at first) (omega arith);

@@ -13,7 +13,6 @@ ghost use Rattle.cif_source.specs.Components.{Component};
 ghost use Rattle.cif_source.specs.Objects.{components_of};
 ghost use Rattle.cif_rules.specs.Kinds.{Kind, bool_kind};
 ghost use Rattle.cif_rules.specs.Demands.{asked_for, demanded};
-ghost use Rattle.cif_built.specs.Built.{is_built};
 ghost use Rattle.cif_image.specs.Flat.{net_of_source};
 ghost use Rattle.cif_image.specs.Small.{HasSmallParts};
 ghost use Rattle.cif_image.specs.Translation.{conjunction, net_of, net_list, net_guard};
@@ -21,18 +20,18 @@ ghost use Rattle.cif_image.specs.WellFormed.{KeepsBefore, algebraic};
 ghost use Rattle.cif_fits.specs.Forms.{HasSmallArguments};
 ghost use Rattle.cif_fits.specs.Kinds.{AreMet, IsCarried, IsReceived, net_kind};
 
-/// Where a source of the forms built so far keeps its rules and has small parts and arguments, an expression
-/// of one of its components that has the kind it is asked for, as have its operands, and in which no number exceeds 2147483647,
-/// has that kind in the net, parameters followed to their arguments.
+/// Where a source keeps its rules and has small parts and arguments, an expression of one of its components that has the kind it
+/// is asked for, as have its operands, and in which no number exceeds 2147483647, has that kind in the net, parameters followed
+/// to their arguments.
 pub fn expressions_keep_their_kinds()
-    ensures { (t : Source) (c : Component) (k : Kind) (e : Tree) → is_built t ≡ true → KeepsBefore t algebraic → HasSmallParts t →
+    ensures { (t : Source) (c : Component) (k : Kind) (e : Tree) → KeepsBefore t algebraic → HasSmallParts t →
         HasSmallArguments t → Member c (components_of t) → AreMet c (asked_for c k e) → HoldsInTree small_parts e →
         fits (net_of_source t) None (net_kind k) (net_of c e) ≡ true }
 {}
 
 /// So have several conditions as one.
 pub fn conditions_keep_their_kind()
-    ensures { (t : Source) (c : Component) (all : List Tree) → is_built t ≡ true → KeepsBefore t algebraic → HasSmallParts t →
+    ensures { (t : Source) (c : Component) (all : List Tree) → KeepsBefore t algebraic → HasSmallParts t →
         HasSmallArguments t → Member c (components_of t) →
         ((e : Tree) → Member e all → AreMet c (asked_for c bool_kind e)) →
         ((e : Tree) → Member e all → HoldsInTree small_parts e) →
@@ -41,7 +40,7 @@ pub fn conditions_keep_their_kind()
 
 /// So have the guards of an edge.
 pub fn guards_keep_their_kind()
-    ensures { (t : Source) (c : Component) (at : ℕ) (all : List Tree) → is_built t ≡ true → KeepsBefore t algebraic → HasSmallParts t →
+    ensures { (t : Source) (c : Component) (at : ℕ) (all : List Tree) → KeepsBefore t algebraic → HasSmallParts t →
         HasSmallArguments t → Member c (components_of t) →
         ((e : Tree) → Member e all → AreMet c (asked_for c bool_kind e)) →
         ((e : Tree) → Member e all → HoldsInTree small_parts e) →
@@ -50,7 +49,7 @@ pub fn guards_keep_their_kind()
 
 /// So has a value of an update in which `?` has the kind r, where what is received has the type o.
 pub fn values_of_updates_keep_their_kinds()
-    ensures { (t : Source) (c : Component) (r : Kind) (o : Option Ty) (k : Kind) (e : Tree) → is_built t ≡ true → KeepsBefore t algebraic →
+    ensures { (t : Source) (c : Component) (r : Kind) (o : Option Ty) (k : Kind) (e : Tree) → KeepsBefore t algebraic →
         HasSmallParts t → HasSmallArguments t → Member c (components_of t) → IsReceived (net_of_source t) r o →
         AreMet c (demanded c r k e) → HoldsInTree small_parts e →
         fits (net_of_source t) o (net_kind k) (net_of c e) ≡ true }
@@ -58,7 +57,7 @@ pub fn values_of_updates_keep_their_kinds()
 
 /// And so have several conditions of an update as one.
 pub fn conditions_of_updates_keep_their_kind()
-    ensures { (t : Source) (c : Component) (r : Kind) (o : Option Ty) (all : List Tree) → is_built t ≡ true → KeepsBefore t algebraic →
+    ensures { (t : Source) (c : Component) (r : Kind) (o : Option Ty) (all : List Tree) → KeepsBefore t algebraic →
         HasSmallParts t → HasSmallArguments t → Member c (components_of t) → IsReceived (net_of_source t) r o →
         ((e : Tree) → Member e all → AreMet c (demanded c r bool_kind e)) →
         ((e : Tree) → Member e all → HoldsInTree small_parts e) →
@@ -67,7 +66,7 @@ pub fn conditions_of_updates_keep_their_kind()
 
 /// An expression of a kind that a channel takes is in the net one that the type of the channel takes.
 pub fn sent_values_keep_their_kinds()
-    ensures { (t : Source) (c : Component) (ty : Ty) (k : Kind) (e : Tree) → is_built t ≡ true → KeepsBefore t algebraic →
+    ensures { (t : Source) (c : Component) (ty : Ty) (k : Kind) (e : Tree) → KeepsBefore t algebraic →
         HasSmallParts t → HasSmallArguments t → Member c (components_of t) → IsCarried (net_of_source t) (Some ty) →
         has_type ty (net_kind k) ≡ true → AreMet c (asked_for c k e) → HoldsInTree small_parts e →
         fits_type (net_of_source t) ty (net_of c e) ≡ true }

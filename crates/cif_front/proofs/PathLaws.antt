@@ -16,6 +16,7 @@ use Rattle.cif_inst.specs.declared.error.InstErr.{InstErr}
 use Rattle.cif_inst.specs.declared.error.InstErr.TheVariants as inst
 use Rattle.cif_alg.specs.declared.error.AlgErr.{AlgErr}
 use Rattle.cif_alg.specs.declared.error.AlgErr.TheVariants as alg
+use Rattle.cif_alg.specs.Keeps.{KeepsExpressions, due}
 use Rattle.cif_lin.specs.declared.error.LinErr.{LinErr}
 use Rattle.cif_lin.specs.declared.error.LinErr.TheVariants as lin
 use Rattle.cif_model.specs.Net.{Net}
@@ -73,11 +74,12 @@ pub silent_of : (t : Source) (why : Refusal) (path : Text) → NamesNothing why 
 silent_of t (refusal.Alg (alg.Cycle number)) path h = absurd h
 silent_of t (refusal.Alg (alg.ZeroDivisor at)) path h = tt
 silent_of t (refusal.Alg (alg.TooWide at)) path h = tt
+silent_of t (refusal.Alg (alg.InvariantReadsInput at)) path h = tt
+silent_of t (refusal.Alg (alg.InvariantFalse at)) path h = tt
 silent_of t (refusal.Alg (alg.TooLarge nodes depth)) path h = tt
 silent_of t (refusal.Alg alg.Memory) path h = tt
 silent_of t (refusal.Lex e) path h = tt
 silent_of t (refusal.Parse e) path h = tt
-silent_of t (refusal.NotBuilt at) path h = tt
 silent_of t (refusal.Scope e) path h = tt
 silent_of t (refusal.Types e) path h = tt
 silent_of t (refusal.Inst e) path h = tt
@@ -88,11 +90,12 @@ pub silent_in : (text : Text) (why : Refusal) (path : Text) → NamesNothing why
 silent_in text (refusal.Alg (alg.Cycle number)) path h = absurd h
 silent_in text (refusal.Alg (alg.ZeroDivisor at)) path h = tt
 silent_in text (refusal.Alg (alg.TooWide at)) path h = tt
+silent_in text (refusal.Alg (alg.InvariantReadsInput at)) path h = tt
+silent_in text (refusal.Alg (alg.InvariantFalse at)) path h = tt
 silent_in text (refusal.Alg (alg.TooLarge nodes depth)) path h = tt
 silent_in text (refusal.Alg alg.Memory) path h = tt
 silent_in text (refusal.Lex e) path h = tt
 silent_in text (refusal.Parse e) path h = tt
-silent_in text (refusal.NotBuilt at) path h = tt
 silent_in text (refusal.Scope e) path h = tt
 silent_in text (refusal.Types e) path h = tt
 silent_in text (refusal.Inst e) path h = tt
@@ -105,11 +108,12 @@ pub named_in : (text : Text) (tree : Spec) → ReadsAsTree text tree → (why : 
 named_in text tree read (refusal.Alg (alg.Cycle number)) path h = (tree, read, h)
 named_in text tree read (refusal.Alg (alg.ZeroDivisor at)) path h = tt
 named_in text tree read (refusal.Alg (alg.TooWide at)) path h = tt
+named_in text tree read (refusal.Alg (alg.InvariantReadsInput at)) path h = tt
+named_in text tree read (refusal.Alg (alg.InvariantFalse at)) path h = tt
 named_in text tree read (refusal.Alg (alg.TooLarge nodes depth)) path h = tt
 named_in text tree read (refusal.Alg alg.Memory) path h = tt
 named_in text tree read (refusal.Lex e) path h = tt
 named_in text tree read (refusal.Parse e) path h = tt
-named_in text tree read (refusal.NotBuilt at) path h = tt
 named_in text tree read (refusal.Scope e) path h = tt
 named_in text tree read (refusal.Types e) path h = tt
 named_in text tree read (refusal.Inst e) path h = tt
@@ -128,5 +132,18 @@ pub error_named : (t : Source) (n : Net) → n ≡ net_of_source t → (e : AlgE
 error_named t n is (alg.Cycle number) path h = h ∙ ap (λ m. path_in m number) is ∙ path-same (algs t) number
 error_named t n is (alg.ZeroDivisor at) path h = tt
 error_named t n is (alg.TooWide at) path h = tt
+error_named t n is (alg.InvariantReadsInput at) path h = tt
+error_named t n is (alg.InvariantFalse at) path h = tt
 error_named t n is (alg.TooLarge nodes depth) path h = tt
 error_named t n is alg.Memory path h = tt
+
+-- ---- what is left to be told where the expressions keep their rules tells of none
+
+pub settled_silent : (n : Net) → KeepsExpressions n → (e : AlgErr) → due n e → NamesNothing (alg_refusal e)
+settled_silent n kept (alg.Cycle number) h = absurd (kept.acyclic number h)
+settled_silent n kept (alg.ZeroDivisor at) h = tt
+settled_silent n kept (alg.TooWide at) h = tt
+settled_silent n kept (alg.InvariantReadsInput at) h = tt
+settled_silent n kept (alg.InvariantFalse at) h = tt
+settled_silent n kept (alg.TooLarge nodes depth) h = tt
+settled_silent n kept alg.Memory h = tt

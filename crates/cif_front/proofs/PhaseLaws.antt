@@ -1,12 +1,12 @@
--- What each phase keeps of a source of the built forms, and why its refusal is due.
-use Rattle.std.proofs.Common.{◌≡◌, ℕ, ◌≤◌, ◌<◌, true, [], refl, ◌∙◌, ap, subst, arith}
+-- What each phase keeps of a source, and why its refusal is due.
+use Rattle.std.proofs.Common.{◌≡◌, ℕ, ◌≤◌, ◌<◌, refl, ◌∙◌, ap, subst, arith}
 use Rattle.cif_system.specs.Words.{Exceeds}
 use Rattle.cif_system.specs.Choices.{all_choices}
 use Rattle.cif_model.specs.Net.{Net}
 use Rattle.cif_model.specs.Counts.{most_choices}
 use Rattle.cif_model.specs.Inline.{Unfolds}
 use Rattle.cif_model.specs.Meaning.{system_of_net}
-use Rattle.cif_model.specs.Rules.{AlgCycle, ZeroDivisor, TooWide, TooLarge}
+use Rattle.cif_model.specs.Rules.{AlgCycle, ZeroDivisor, TooWide, InvariantReadsInput, InvariantFalse, TooLarge}
 use Rattle.cif_source.specs.Source.{Source}
 use Rattle.cif_scope.specs.Scopes.{AreScopesOf, KeepsScoping}
 use Rattle.cif_scope.specs.declared.error.ScopeErr.{ScopeErr}
@@ -24,11 +24,9 @@ use Rattle.cif_alg.specs.declared.error.AlgErr.{AlgErr}
 use Rattle.cif_alg.specs.declared.error.AlgErr.TheVariants as alg
 use Rattle.cif_lin.specs.declared.error.LinErr.{LinErr}
 use Rattle.cif_lin.specs.declared.error.LinErr.TheVariants as lin
-use Rattle.cif_built.specs.Built.{is_built}
 use Rattle.cif_image.specs.Flat.{net_of_source}
 use Rattle.cif_image.specs.Represents.{Represents}
 use Rattle.cif_image.specs.WellFormed.{Refusal, unknown, duplicate, wrong_kind, definition_cycle, mismatch, not_constant, initials, not_own, assigned_twice, equations, alphabet_lacks, role_mixed, too_many_objects, constant_range, alg_cycle, zero_divisor, too_wide, invariant_reads_input, invariant_false, too_large, too_many_choices, Broken, Phase, phase, order, scope as scopes, kinds, instances, algebraic, choices, KeepsBefore}
-use Rattle.cif_flat.proofs.NetLaws.{silent}
 use Rattle.cif_front.specs.Kept.{KeepsSource}
 use Rattle.cif_front.specs.Loads.{Stands}
 use Rattle.cif_front.specs.Dues.{IsDueOf, scope_refusal, type_refusal, inst_refusal, alg_refusal, lin_refusal}
@@ -120,9 +118,6 @@ module _ (t : Source) where
       below choices = omega arith
 
   module _ (n : Net) (r : Represents n t) where
-    pub net_invariants : is_built t ≡ true → n.invariants ≡ []
-    net_invariants built = ap (λ (m : Net). m.invariants) r.translated ∙ (silent t built).invariants
-
     pub plain_kept : algs.KeepsAlgebraic n → algs.KeepsAlgebraic (net_of_source t)
     plain_kept h = subst algs.KeepsAlgebraic r.translated h
 
@@ -130,6 +125,8 @@ module _ (t : Source) where
     alg_due kept (alg.Cycle number) h = record { broken = subst (λ m. AlgCycle m number) r.translated h; first_phase = before_algebraic kept }
     alg_due kept (alg.ZeroDivisor at) h = record { broken = subst (λ m. ZeroDivisor m at) r.translated h; first_phase = before_algebraic kept }
     alg_due kept (alg.TooWide at) h = record { broken = subst (λ m. TooWide m at) r.translated h; first_phase = before_algebraic kept }
+    alg_due kept (alg.InvariantReadsInput at) h = record { broken = subst (λ m. InvariantReadsInput m at) r.translated h; first_phase = before_algebraic kept }
+    alg_due kept (alg.InvariantFalse at) h = record { broken = subst (λ m. InvariantFalse m at) r.translated h; first_phase = before_algebraic kept }
     alg_due kept (alg.TooLarge nodes depth) h = record { broken = subst (λ m. TooLarge m nodes depth) r.translated h; first_phase = before_algebraic kept }
     alg_due kept alg.Memory h = tt
 

@@ -1,5 +1,5 @@
 -- Which refusal of a text is due, phase by phase.
-use Rattle.std.specs.Prelude.{◌≡◌, ℕ, ◌≤◌, false, true, length, Option, Some, None}
+use Rattle.std.specs.Prelude.{Option, Some, None}
 use Rattle.grammar.specs.Pieces.{Text}
 use Rattle.cif_lex.specs.Tokens.{BadByteDue, NumberTooBigDue, OpenCommentDue}
 use Rattle.cif_lex.specs.declared.error.LexErr.{LexErr}
@@ -19,7 +19,6 @@ use Rattle.cif_alg.specs.declared.error.AlgErr.TheVariants as alg
 use Rattle.cif_lin.specs.declared.error.LinErr.{LinErr}
 use Rattle.cif_lin.specs.declared.error.LinErr.TheVariants as lin
 use Rattle.cif_source.specs.Source.{Source, source_of}
-use Rattle.cif_built.specs.Built.{is_built}
 use Rattle.cif_image.specs.WellFormed as rule
 use Rattle.cif_image.specs.WellFormed.{Due}
 use Rattle.cif_front.specs.declared.refusal.Refusal.{Refusal}
@@ -66,6 +65,8 @@ alg_refusal alg.Memory = refusal.Memory
 alg_refusal (alg.Cycle number) = refusal.Alg (alg.Cycle number)
 alg_refusal (alg.ZeroDivisor at) = refusal.Alg (alg.ZeroDivisor at)
 alg_refusal (alg.TooWide at) = refusal.Alg (alg.TooWide at)
+alg_refusal (alg.InvariantReadsInput at) = refusal.Alg (alg.InvariantReadsInput at)
+alg_refusal (alg.InvariantFalse at) = refusal.Alg (alg.InvariantFalse at)
 alg_refusal (alg.TooLarge nodes depth) = refusal.Alg (alg.TooLarge nodes depth)
 
 abbrev pub lin_refusal : LinErr → Refusal
@@ -102,6 +103,8 @@ abbrev pub alg_rule : AlgErr → Option rule.Refusal
 alg_rule (alg.Cycle number) = Some (rule.alg_cycle number)
 alg_rule (alg.ZeroDivisor at) = Some (rule.zero_divisor at)
 alg_rule (alg.TooWide at) = Some (rule.too_wide at)
+alg_rule (alg.InvariantReadsInput at) = Some (rule.invariant_reads_input at)
+alg_rule (alg.InvariantFalse at) = Some (rule.invariant_false at)
 alg_rule (alg.TooLarge nodes depth) = Some (rule.too_large nodes depth)
 alg_rule alg.Memory = None
 
@@ -128,19 +131,11 @@ abbrev pub IsDueOf : Source → Refusal → Type 0
 IsDueOf t refusal.Memory = Unit {0}
 IsDueOf t e = HasRule (Due t) (rule_of e)
 
--- the text reads as a source of the forms that are built so far, of which the refusal is due
+-- the text reads as a source, of which the refusal is due
 pub record SourceDue (text : Text) (r : rule.Refusal) : Type 0 where
   pub tree : Spec
   pub read : ReadsAsTree text tree
-  pub built : is_built (source_of tree) ≡ true
   pub due : Due (source_of tree) r
-
--- the text reads as a source with another form, and the place lies in the text
-pub record NotBuiltDue (text : Text) (at : ℕ) : Type 0 where
-  pub tree : Spec
-  pub read : ReadsAsTree text tree
-  pub other : is_built (source_of tree) ≡ false
-  pub within : at ≤ length text
 
 abbrev pub LexDue : Text → LexErr → Type 0
 LexDue text (lex.BadByte at) = BadByteDue text at
@@ -156,6 +151,5 @@ ParseDue text parse.Memory = ⊥
 abbrev pub IsDue : Text → Refusal → Type 0
 IsDue text (refusal.Lex e) = LexDue text e
 IsDue text (refusal.Parse e) = ParseDue text e
-IsDue text (refusal.NotBuilt at) = NotBuiltDue text at
 IsDue text refusal.Memory = Unit {0}
 IsDue text e = HasRule (SourceDue text) (rule_of e)

@@ -1,5 +1,5 @@
 -- What a text reads as that is loaded, and what is loaded of it.
-use Rattle.std.specs.Prelude.{◌≡◌, true}
+use Rattle.std.specs.Prelude.{◌≡◌}
 use Rattle.grammar.specs.Pieces.{Text}
 use Rattle.cif_ast.specs.declared.components.Spec.{Spec}
 use Rattle.cif_parse.specs.Grammar.{Reads as ReadsAsTree}
@@ -10,16 +10,14 @@ use Rattle.cif_net.specs.View.{net_tree}
 use Rattle.cif_model.specs.Inline.{Unfolds}
 use Rattle.cif_model.specs.Meaning.{system_of_net}
 use Rattle.cif_model.specs.Net.{Net}
-use Rattle.cif_built.specs.Built.{is_built}
 use Rattle.cif_image.specs.Flat.{net_of_source}
 use Rattle.cif_image.specs.WellFormed.{Refusal, Broken}
 
--- The text reads as a source of the forms that are built so far, which breaks no rule.
-pub record ReadsAsBuilt (text : Text) (t : Source) : Type 0 where
+-- the text reads as a source, which breaks no rule
+pub record ReadsAsSource (text : Text) (t : Source) : Type 0 where
   pub tree : Spec
   pub read : ReadsAsTree text tree
   pub is : t ≡ source_of tree
-  pub built : is_built t ≡ true
   pub keeps : (r : Refusal) → Broken t r → ⊥
 
 -- the net is that of the source, with each algebraic variable replaced by its definition, and it means what the source does
@@ -37,4 +35,4 @@ pub record IsLoadedFrom (t : Source) (g : Guarded) : Type 0 where
 
 -- the net is that of the source that the text reads as
 abbrev pub Loads : Text → Guarded → Type 0
-Loads text g = (t : Source) × ReadsAsBuilt text t × Stands (net_tree g.plain.net) t
+Loads text g = (t : Source) × ReadsAsSource text t × Stands (net_tree g.plain.net) t

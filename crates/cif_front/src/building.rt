@@ -1,15 +1,19 @@
 //! From the tree of a source to its net with the choices of all events.
 
-ghost use Rattle.std.specs.Prelude.{◌≡◌, true, IfOk, IfErr};
+ghost use Rattle.std.specs.Prelude.{◌≡◌, true, false, IfOk, IfErr};
+ghost use Rattle.std.specs.List.{list_all};
 ghost use Rattle.cif_ast.specs.Countable.{IsCountable};
 ghost use Rattle.cif_ast.specs.SmallNumbers.{HasSmallNumbers};
 ghost use Rattle.cif_source.specs.Source.{source_of};
 ghost use Rattle.cif_scope.specs.Scopes.{AreScopesOf};
+ghost use Rattle.cif_model.specs.Counts.{is_too_large};
+ghost use Rattle.cif_model.specs.Rules.{evaluated};
 ghost use Rattle.cif_net.specs.View.{net_tree};
-ghost use Rattle.cif_built.specs.Built.{is_built};
 ghost use Rattle.cif_image.specs.Represents.{Represents};
 ghost use Rattle.cif_image.specs.Flat.{net_of_source};
-ghost use Rattle.cif_alg.specs.Keeps.{KeepsAlgebraic};
+ghost use Rattle.cif_measure.specs.Rules.{declared_divides, declared_is_narrow};
+ghost use Rattle.cif_algebraic.specs.Orders.{IsOrderOf};
+ghost use Rattle.cif_alg.specs.Keeps.{KeepsAlgebraic, KeepsExpressions};
 ghost use Rattle.cif_front.specs.Dues.{IsDueOf};
 ghost use Rattle.cif_front.specs.Kept.{KeepsSource};
 ghost use Rattle.cif_front.specs.Loads.{IsLoadedFrom, Stands};
@@ -17,7 +21,7 @@ ghost use Rattle.cif_front.specs.Paths as paths;
 ghost use Rattle.cif_front.specs.Paths.{NamesNothing, NamesOf};
 
 use crate::refusal::{Refusal, Refused};
-use cif_alg::{AlgErr, check_net};
+use cif_alg::{AlgErr, check_net, settle};
 use cif_ast::Spec;
 use cif_base::{Memory, Text};
 use cif_guard::guard;
@@ -28,7 +32,6 @@ use cif_resolve::resolve;
 use cif_scope::Scopes;
 use cif_sync::roles;
 use cif_types::check_kinds;
-use cif_unfold::unfold;
 use std::alloc::Global;
 
 /// The scopes of a source.
@@ -47,7 +50,6 @@ fn net_by(alloc: Global, spec: &Spec, scopes: &Scopes) -> Result<Net, Refusal>
     requires countable { IsCountable spec.now }
     requires small { HasSmallNumbers spec.now }
     requires scopes { AreScopesOf (source_of spec.now) scopes.now }
-    requires forms { is_built (source_of spec.now) ≡ true }
     ensures represents { IfOk result (λ n. Represents (net_tree n) (source_of spec.now)) }
     ensures kept { IfOk result (λ n. KeepsSource (source_of spec.now)) }
     ensures refused { IfErr result (λ e. IsDueOf (source_of spec.now) e) }
@@ -61,7 +63,6 @@ fn net_by(alloc: Global, spec: &Spec, scopes: &Scopes) -> Result<Net, Refusal>
 fn net_of(alloc: Global, spec: &Spec) -> Result<Net, Refusal>
     requires countable { IsCountable spec.now }
     requires small { HasSmallNumbers spec.now }
-    requires forms { is_built (source_of spec.now) ≡ true }
     ensures represents { IfOk result (λ n. Represents (net_tree n) (source_of spec.now)) }
     ensures kept { IfOk result (λ n. KeepsSource (source_of spec.now)) }
     ensures refused { IfErr result (λ e. IsDueOf (source_of spec.now) e) }
@@ -95,25 +96,45 @@ fn refused_net(alloc: Global, net: &Net, error: AlgErr) -> Refused
         },
         AlgErr::ZeroDivisor { .. }
         | AlgErr::TooWide { .. }
+        | AlgErr::InvariantReadsInput { .. }
+        | AlgErr::InvariantFalse { .. }
         | AlgErr::TooLarge { .. }
         | AlgErr::Memory => Refused::plain(alloc, Refusal::from(error)),
     }
 }
 
-/// The plain net of a source, by its net: algebraic variables are replaced by their definitions.
-fn plain_of(alloc: Global, _spec: &Spec, net: Net) -> Result<Plain, Refused>
+/// The plain net of a source, by its net whose expressions keep their rules: algebraic variables are replaced by their definitions,
+/// along an order of these, and the state invariants keep their rules too.
+#[tactic(auto, using(crate::proofs::PhaseLaws::alg_due, crate::proofs::PhaseLaws::unfolded_stands, crate::proofs::PhaseLaws::plain_kept, crate::proofs::PathLaws::settled_silent))]
+fn settled_of(alloc: Global, _spec: &Spec, net: Net, order: &[u32]) -> Result<Plain, Refusal>
     requires represents { Represents (net_tree net) (source_of _spec.now) }
     requires kept { KeepsSource (source_of _spec.now) }
-    requires forms { is_built (source_of _spec.now) ≡ true }
+    requires order { IsOrderOf (net_tree net) order.now }
+    requires divides { list_all (declared_divides (net_tree net)) (evaluated (net_tree net)) ≡ true }
+    requires narrow { list_all (declared_is_narrow (net_tree net)) (evaluated (net_tree net)) ≡ true }
+    requires small { is_too_large (net_tree net) ≡ false }
+    requires expressions { KeepsExpressions (net_tree net) }
     ensures stands { IfOk result (λ p. Stands (net_tree p.net) (source_of _spec.now)) }
     ensures plain { IfOk result (λ p. KeepsAlgebraic (net_of_source (source_of _spec.now))) }
-    ensures refused { IfErr result (λ e. IsDueOf (source_of _spec.now) e.why) }
-    ensures named { IfErr result (λ e. NamesOf (source_of _spec.now) e.why e.path) }
+    ensures refused { IfErr result (λ e. IsDueOf (source_of _spec.now) e) }
+    ensures silent { IfErr result NamesNothing }
+{
+    Ok(settle(alloc, net, order)?)
+}
+
+/// The plain net of a source, by its net.
+fn plain_of(alloc: Global, spec: &Spec, net: Net) -> Result<Plain, Refused>
+    requires represents { Represents (net_tree net) (source_of spec.now) }
+    requires kept { KeepsSource (source_of spec.now) }
+    ensures stands { IfOk result (λ p. Stands (net_tree p.net) (source_of spec.now)) }
+    ensures plain { IfOk result (λ p. KeepsAlgebraic (net_of_source (source_of spec.now))) }
+    ensures refused { IfErr result (λ e. IsDueOf (source_of spec.now) e.why) }
+    ensures named { IfErr result (λ e. NamesOf (source_of spec.now) e.why e.path) }
 {
     match check_net(alloc, &net) {
-        Ok(order) => match unfold(alloc, net, order.as_slice()) {
+        Ok(order) => match settled_of(alloc, spec, net, order.as_slice()) {
             Ok(plain) => Ok(plain),
-            Err(_memory) => Err(Refused::plain(alloc, Refusal::Memory)),
+            Err(why) => Err(Refused::plain(alloc, why)),
         },
         Err(error) => Err(refused_net(alloc, &net, error)),
     }
@@ -135,12 +156,10 @@ fn guarded_of(alloc: Global, _spec: &Spec, plain: Plain) -> Result<Guarded, Refu
     }
 }
 
-/// The net of a source of the forms that are built so far, with the choices of all events, or a rule that it breaks, of the first
-/// phase in which it breaks one.
+/// The net of a source with the choices of all events, or a rule that it breaks, of the first phase in which it breaks one.
 pub fn build(alloc: Global, spec: &Spec) -> Result<Guarded, Refused>
     requires countable { IsCountable spec.now }
     requires small { HasSmallNumbers spec.now }
-    requires forms { is_built (source_of spec.now) ≡ true }
     ensures loaded { IfOk result (λ g. IsLoadedFrom (source_of spec.now) g) }
     ensures refused { IfErr result (λ e. IsDueOf (source_of spec.now) e.why) }
     ensures named { IfErr result (λ e. NamesOf (source_of spec.now) e.why e.path) }

@@ -4,9 +4,7 @@ ghost use Rattle.std.specs.Prelude.{◌≡◌, ◌≤◌, ◌+◌, ◌<◌, ◌^
 ghost use Rattle.cif_lex.specs.Tokens.{Tokens};
 ghost use Rattle.cif_ast.specs.Countable.{IsCountable};
 ghost use Rattle.cif_ast.specs.SmallNumbers.{HasSmallNumbers};
-ghost use Rattle.cif_source.specs.Source.{source_of};
 ghost use Rattle.cif_parse.specs.Grammar.{Reads};
-ghost use Rattle.cif_built.specs.Built.{is_built};
 ghost use Rattle.cif_front.specs.Dues.{IsDue};
 ghost use Rattle.cif_front.specs.Loads.{Loads};
 ghost use Rattle.cif_front.specs.Paths.{NamesIn, NamesNothing};
@@ -14,7 +12,6 @@ ghost use Rattle.cif_front.specs.Paths.{NamesIn, NamesNothing};
 use crate::building::build;
 use crate::refusal::{Refusal, Refused};
 use cif_ast::Spec;
-use cif_form::misfit;
 use cif_lex::{Token, lex};
 use cif_net::Guarded;
 use cif_parse::parse;
@@ -31,7 +28,7 @@ fn tokens_of(alloc: Global, text: &[u8]) -> Result<Vec<Token>, Refusal>
 }
 
 /// The tree of a text, by its tokens.
-fn tree_of(alloc: Global, text: &[u8], tokens: &[Token]) -> Result<Spec, Refusal>
+fn tree_by(alloc: Global, text: &[u8], tokens: &[Token]) -> Result<Spec, Refusal>
     requires short { length text.now ≤ 4194304 }
     requires tokens { Tokens text.now tokens.now }
     ensures tree { IfOk result (λ spec. Reads text.now spec) }
@@ -43,35 +40,17 @@ fn tree_of(alloc: Global, text: &[u8], tokens: &[Token]) -> Result<Spec, Refusal
     Ok(parse(alloc, text, tokens)?)
 }
 
-/// Refuses a tree with something in it that has no form for which programs are written so far.
-fn check_forms(text: &[u8], spec: &Spec) -> Result<(), Refusal>
-    requires short { length text.now ≤ 4194304 }
-    requires read { Reads text.now spec.now }
-    ensures forms { IfOk result (λ u. is_built (source_of spec.now) ≡ true) }
-    ensures refused { IfErr result (λ e. IsDue text.now e) }
-    ensures silent { IfErr result NamesNothing }
-{
-    let end = text.len() as u32;
-    match misfit(spec) {
-        Some(at) => Err(Refusal::NotBuilt { at: at.min(end) }),
-        None => Ok(()),
-    }
-}
-
-/// The tree of a text of the forms that are built so far.
-fn built_tree(alloc: Global, text: &[u8]) -> Result<Spec, Refusal>
+/// The tree of a text.
+fn tree_of(alloc: Global, text: &[u8]) -> Result<Spec, Refusal>
     requires { length text.now ≤ 4194304 }
     ensures tree { IfOk result (λ spec. Reads text.now spec) }
     ensures countable { IfOk result IsCountable }
     ensures small { IfOk result HasSmallNumbers }
-    ensures forms { IfOk result (λ spec. is_built (source_of spec) ≡ true) }
     ensures refused { IfErr result (λ e. IsDue text.now e) }
     ensures silent { IfErr result NamesNothing }
 {
     let tokens = tokens_of(alloc, text)?;
-    let spec = tree_of(alloc, text, tokens.as_slice())?;
-    check_forms(text, &spec)?;
-    Ok(spec)
+    tree_by(alloc, text, tokens.as_slice())
 }
 
 /// The net that a source stands for, with the choices of all events and with algebraic variables replaced by their definitions, or why
@@ -83,7 +62,7 @@ pub fn load_named(alloc: Global, text: &[u8]) -> Result<Guarded, Refused>
     ensures refused { IfErr result (λ e. IsDue text.now e.why) }
     ensures named { IfErr result (λ e. NamesIn text.now e.why e.path) }
 {
-    match built_tree(alloc, text) {
+    match tree_of(alloc, text) {
         Ok(spec) => build(alloc, &spec),
         Err(why) => Err(Refused::plain(alloc, why)),
     }

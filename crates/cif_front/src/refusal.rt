@@ -20,8 +20,6 @@ use std::alloc::Global;
 pub enum Refusal {
     Lex(LexErr),
     Parse(ParseErr),
-    /// What begins at that byte has no form for which programs are written so far.
-    NotBuilt { at: u32 },
     Scope(ScopeErr),
     Types(TypeErr),
     Inst(InstErr),

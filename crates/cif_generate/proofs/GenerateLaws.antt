@@ -18,7 +18,6 @@ use Rattle.plc_face.specs.Face.{Face, HasInterface}
 use Rattle.plc_face.specs.Scans.{NeverFaults, RunsFirstSteps, ScansLegally, ScansExactly, ShowsOutputs, StaysTyped}
 use Rattle.plc_gen.specs.Faces.{face_of_net}
 use Rattle.cif_nesting.specs.Nesting.{is_shallow}
-use Rattle.plc_parts.specs.Parts.{is_silent}
 use Rattle.plc_back.specs.Texts.{IsLayoutOf, TheProgram}
 use Rattle.plc_back.specs.Written as written
 use Rattle.plc_back.specs.Written.{IsFirstUnclassed}
@@ -30,7 +29,8 @@ use Rattle.cif_run.specs.declared.ended.Ended.{Ended}
 use Rattle.cif_run.specs.Groups.{IsUnlessMemory, group_of}
 use Rattle.cif_run.specs.Works.{Comes, Content, Reading, StopsIn, Writing}
 use Rattle.cif_run.proofs.CallLaws.{answers, ended_so, written as wrote}
-use Rattle.cif_accept.specs.Built.{Built, ReadsAsBuilt}
+use Rattle.cif_source.specs.Source.{Source}
+use Rattle.cif_front.specs.Loads.{ReadsAsSource}
 use Rattle.cif_accept.specs.Accepts.{IsLoaded, SourceIs, source_limit}
 use Rattle.cif_accept.proofs.AcceptLaws.{TellsItsOwn, told_of}
 use Rattle.cif_generate.specs.Words.{Generate}
@@ -38,12 +38,12 @@ use Rattle.cif_generate.specs.Meaning.{AreClassed, IsTextOf, StartsInitial, even
 use Rattle.cif_generate.specs.Generates.{Writes, generate_work, is_unclassed}
 use Rattle.cif_generate.specs.Told.{IsTold, TellsOf, path_in}
 use Rattle.cif_generate.proofs.FaceLaws.{face-same}
-use Rattle.cif_generate.proofs.UnfoldedLaws.{face-unfolded, silent-unfolded, shallow-unfolded}
-use Rattle.cif_generate.proofs.ProgramLaws.{built-silent, read-shallow}
+use Rattle.cif_generate.proofs.UnfoldedLaws.{face-unfolded, shallow-unfolded}
+use Rattle.cif_generate.proofs.ProgramLaws.{read-shallow}
 
 -- ---- texts
 
-module _ (U C : ℕ) (t : Built) (text : Text) (h : IsTextOf U C t text) where
+module _ (U C : ℕ) (t : Source) (text : Text) (h : IsTextOf U C t text) where
   -- what is so over what the net shows and means is so over what the source does
   over : (P : Face → System → Program → Type 0) → TheProgram text (P (face_of_net h.net) (system_of_net h.net))
       → TheProgram text (P (shown_of t) (meant_by t))
@@ -90,13 +90,10 @@ path-same (d ∷ ds) zero = refl
 path-same (d ∷ ds) (suc k) = path-same ds k
 
 module _ (content : Content) (file : Text) (g : Guarded) (l : IsLoaded content file g) where
-  pub loaded_silent : is_silent (net_tree g.plain.net) ≡ true
-  loaded_silent = silent-unfolded (net_of_source l.0) (net_tree g.plain.net) l.2.unfolds ∙ built-silent l.0 l.1.3.built
-
   pub loaded_shallow : is_shallow (net_tree g.plain.net) ≡ true
   loaded_shallow = shallow-unfolded (net_of_source l.0) (net_tree g.plain.net) l.2.unfolds ∙ read-shallow l.1.0 l.0 l.1.3
 
-  pub loaded_text : (U C : ℕ) (text : Text) → written.IsTextOf (net_tree g.plain.net) U C text → (t : Built) × SourceIs content file t × IsTextOf U C t text
+  pub loaded_text : (U C : ℕ) (text : Text) → written.IsTextOf (net_tree g.plain.net) U C text → (t : Source) × SourceIs content file t × IsTextOf U C t text
   loaded_text U C text h = (l.0, l.1, record { net = net_tree g.plain.net; stands = l.2; of_net = h })
 
   first_due : (event : ℕ) → IsFirstUnclassed (net_tree g.plain.net) event → UnclassedDue l.0 event
@@ -147,12 +144,12 @@ pub tells_own : TellsItsOwn is_unclassed
 tells_own = record { refused = λ t why name h. h; many = λ t count name h. h }
 
 module _ (g : Generate) (c : Reading) (o : Writing) (e : Ended) (came : Comes (generate_work g c.content) c o e) (r : Status) (same : IsUnlessMemory r e.status) where
-  pub writes : (P : Built → Text → Type 0) → ((t : Built) (text : Text) → IsTextOf g.unc g.con t text → P t text)
+  pub writes : (P : Source → Text → Type 0) → ((t : Source) (text : Text) → IsTextOf g.unc g.con t text → P t text)
       → r ≡ status.Done → Writes c.content g.file o.old o.new P
   writes P from q =
       let w = wrote (generate_work g c.content) c o e came r same q in (w.1.0, w.1.1, (w.0, w.2, from w.1.0 w.0 w.1.2))
 
-  pub unclassed : (event : ℕ) → r ≡ status.OutsideProfile (profile.Unclassed event) → (t : Built) × SourceIs c.content g.file t × UnclassedDue t event
+  pub unclassed : (event : ℕ) → r ≡ status.OutsideProfile (profile.Unclassed event) → (t : Source) × SourceIs c.content g.file t × UnclassedDue t event
   unclassed event q = elim (ended_so (generate_work g c.content) c o e came r same (status.OutsideProfile (profile.Unclassed event)) (λ z. cc) refl q) [
     | inl h ↦ absurd h
     | inr h ↦ (h.0, h.1, h.2.0)
@@ -160,7 +157,7 @@ module _ (g : Generate) (c : Reading) (o : Writing) (e : Ended) (came : Comes (g
 
   -- an event without a class is told
   pub unclassed_is_told : (bytes : Text) → c.content g.file ≡ Some bytes → (Rose (c.faults g.file) (c.faults_after g.file) → ⊥) → length bytes ≤ source_limit
-      → (t : Built) → ReadsAsBuilt bytes t → (event : ℕ) → UnclassedDue t event → IsUnlessMemory r (status.OutsideProfile (profile.Unclassed event))
+      → (t : Source) → ReadsAsSource bytes t → (event : ℕ) → UnclassedDue t event → IsUnlessMemory r (status.OutsideProfile (profile.Unclassed event))
   unclassed_is_told bytes told sure short t reads event due =
       told_of g.file (IsTextOf g.unc g.con) is_unclassed c o e came r same bytes told sure short t reads
       (IsUnlessMemory r (status.OutsideProfile (profile.Unclassed event)))

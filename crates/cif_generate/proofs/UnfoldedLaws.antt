@@ -1,15 +1,12 @@
--- What a net keeps in which algebraic variables are replaced by their definitions: what it shows, that it is one that programs are
--- written for, and how deep its updates nest.
+-- What a net keeps in which algebraic variables are replaced by their definitions: what it shows, and how deep its updates nest.
 use Rattle.std.proofs.Common.{◌≡◌, ℕ, suc, max, Bool, ◌&&◌, List, [], ◌∷◌, ◌++◌, map, refl, ◌∙◌, ap}
-use Rattle.std.specs.Prelude.{flat_map, nat_eq, nat_le}
+use Rattle.std.specs.Prelude.{flat_map, nat_le}
 use Rattle.std.specs.List.{list_all}
-use Rattle.cif_system.proofs.Lists.{map-length}
 use Rattle.cif_term.specs.Tree.{NetExpr, NetUpdate, net_set, net_choose, NetUpdates, no_net_updates, net_updates, NetUpdateBranches, no_net_update_branches, net_update_branches}
-use Rattle.cif_model.specs.Net.{NetEdge, NetAuto, NetInvariant, Net}
+use Rattle.cif_model.specs.Net.{NetEdge, NetAuto, Net}
 use Rattle.cif_model.specs.Inline.{replaced, updates_replaced, update_replaced, update_branches_replaced, edge_replaced, auto_replaced, alg_replaced, net_replaced, Unfolds}
 use Rattle.cif_nesting.specs.Nesting.{updates_depth, update_depth, branches_depth, most_nesting, is_shallow}
 use Rattle.plc_gen.specs.Faces.{auto_face, alg_face_of, face_of_net}
-use Rattle.plc_parts.specs.Parts.{is_silent}
 
 module _ (by : ℕ → NetExpr) where
   -- ---- what it shows
@@ -23,11 +20,6 @@ module _ (by : ℕ → NetExpr) where
     automata = same-faces (auto_replaced by) auto_face n.autos (λ a. refl) i;
     algs = same-faces (alg_replaced by) alg_face_of n.algs (λ a. refl) i;
   }
-
-  -- ---- programs are written for it
-
-  silent-replaced : (n : Net) → is_silent (net_replaced by n) ≡ is_silent n
-  silent-replaced n = ap (λ k. nat_eq k 0) (map-length (λ (v : NetInvariant). record v { pred = replaced by v.pred }) n.invariants)
 
   -- ---- how deep its updates nest
 
@@ -61,9 +53,6 @@ module _ (by : ℕ → NetExpr) where
 module _ (n p : Net) (u : Unfolds n p) where
   pub face-unfolded : face_of_net p ≡ face_of_net n
   face-unfolded = ap face_of_net u.whole ∙ face-replaced u.by n
-
-  pub silent-unfolded : is_silent p ≡ is_silent n
-  silent-unfolded = ap is_silent u.whole ∙ silent-replaced u.by n
 
   pub shallow-unfolded : is_shallow p ≡ is_shallow n
   shallow-unfolded = ap is_shallow u.whole ∙ shallow-replaced u.by n

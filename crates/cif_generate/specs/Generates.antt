@@ -6,14 +6,14 @@ use Rattle.cif_run.specs.declared.status.Status.TheVariants as status
 use Rattle.cif_run.specs.declared.status.ProfileWhy.TheVariants as profile
 use Rattle.cif_run.specs.Works.{Content, Work}
 use Rattle.cif_image.specs.NetRules.{UnclassedDue}
-use Rattle.cif_accept.specs.Built.{Built}
-use Rattle.cif_accept.specs.Accepts.{BuiltEnds, SourceIs, source_work}
+use Rattle.cif_source.specs.Source.{Source}
+use Rattle.cif_accept.specs.Accepts.{CommandEnds, SourceIs, source_work}
 use Rattle.cif_generate.specs.Words.{Generate as Asked}
 use Rattle.cif_generate.specs.Meaning.{IsTextOf, event_path}
 use Rattle.cif_generate.specs.declared.request.Generate.{Generate}
 
 -- the first event without a class is told by its path
-abbrev pub is_unclassed : BuiltEnds
+abbrev pub is_unclassed : CommandEnds
 is_unclassed t (status.OutsideProfile (profile.Unclassed event)) name = UnclassedDue t event × (name ≡ event_path t event)
 is_unclassed t _ name = ⊥
 
@@ -24,6 +24,6 @@ generate_work g content = source_work content g.file (IsTextOf g.unc g.con) is_u
 abbrev pub generate_of : Generate → Asked
 generate_of g = record { file = g.file.now; unc = g.bounds.unc; con = g.bounds.con }
 
--- the file holds a source, and what was written is as P says of what it is built into
-abbrev pub Writes : Content → Text → Option Text → Option Text → (Built → Text → Type 0) → Type 0
-Writes content file old new P = (t : Built) × SourceIs content file t × ((text : Text) × (new ≡ grown old text) × P t text)
+-- the file holds a source, and what was written is as P says of it
+abbrev pub Writes : Content → Text → Option Text → Option Text → (Source → Text → Type 0) → Type 0
+Writes content file old new P = (t : Source) × SourceIs content file t × ((text : Text) × (new ≡ grown old text) × P t text)

@@ -6,7 +6,7 @@ ghost use Rattle.cif_run.specs.declared.status.ProfileWhy.{ProfileWhy};
 ghost use Rattle.cif_run.specs.declared.status.Refusal.{Refusal};
 ghost use Rattle.cif_net.specs.View.{net_tree};
 ghost use Rattle.cif_accept.specs.Accepts.{SourceHasTooMany, SourceIs, SourceRefused};
-ghost use Rattle.cif_accept.specs.Built.{Built};
+ghost use Rattle.cif_source.specs.Source.{Source};
 ghost use Rattle.cif_image.specs.NetRules.{UnclassedDue};
 ghost use Rattle.plc_face.specs.Face.{HasInterface};
 ghost use Rattle.plc_face.specs.Scans.{NeverFaults, RunsFirstSteps, ScansLegally, ScansExactly, ShowsOutputs, StaysTyped};
@@ -65,8 +65,8 @@ impl<'a> Command for Generate<'a> {
     }
 }
 
-/// Reads the source (CIF 3 language reference) of the file, which has the forms that are built so far, and writes a Structured Text
-/// program (IEC 61131-3) that makes its scans, with at most these rounds of uncontrollable and of controllable events in a scan.
+/// Reads the source (CIF 3 language reference) of the file, and writes a Structured Text program (IEC 61131-3) that makes its scans,
+/// with at most these rounds of uncontrollable and of controllable events in a scan.
 /// After Done every promise speaks of the one program that the text reads as.
 pub fn generate<F: Files, O: Sink>(
     alloc: Global,
@@ -124,7 +124,7 @@ pub fn generate<F: Files, O: Sink>(
         SourceHasTooMany (F.content files.old) asked.now.file.now count }
     // The event is the first of the source without a class.
     ensures unclassed { (event : ℕ) → result.status ≡ Status.OutsideProfile (ProfileWhy.Unclassed event) →
-        (t : Built) × SourceIs (F.content files.old) asked.now.file.now t × UnclassedDue t event }
+        (t : Source) × SourceIs (F.content files.old) asked.now.file.now t × UnclassedDue t event }
     ensures kept { (n : List ℕ) → F.content files.new n ≡ F.content files.old n }
     ensures faults_stay_or_rise { (n : List ℕ) → F.faults files.old n ≤ F.faults files.new n }
     ensures most_stays_or_rises { (n : List ℕ) → F.most files.old n ≤ F.most files.new n }

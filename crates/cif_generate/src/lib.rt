@@ -8,6 +8,6 @@ mod request;
 mod words;
 
 pub use command::generate;
-pub use laws::{built_net_is_silent, net_shows_the_same};
+pub use laws::net_shows_the_same;
 pub use request::Generate;
 pub use words::read_words;

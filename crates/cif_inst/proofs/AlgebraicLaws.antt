@@ -22,16 +22,16 @@ use Rattle.cif_translate.specs.Looking.{component_of}
 use Rattle.cif_inst.specs.Algebraic.{definition_or, definition_in, alg_value, alg_with, home_number, body_algs, rows_algs, HaveTypes, IsBodyOf}
 use Rattle.cif_inst.specs.Declarations.{DatumTree, datum, decl_data, body_data}
 use Rattle.cif_inst.specs.Equations.{Values, value_for, or_else, body_added, location_added}
-use Rattle.cif_inst.specs.Rows.{prefix_of, row_for, rows_of}
+use Rattle.cif_rows.specs.Rows.{prefix_of, row_for, rows_of}
 use Rattle.cif_inst.specs.Typing.{typed_source, AreTypesOf}
-use Rattle.cif_inst.specs.Views.{row_tree}
+use Rattle.cif_rows.specs.Views.{row_tree}
 use Rattle.cif_inst.specs.declared.declarations.Sort.TheVariants as sort
-use Rattle.cif_inst.specs.declared.rows.Row.{Row}
+use Rattle.cif_rows.specs.declared.rows.Row.{Row}
 use Rattle.cif_inst.specs.declared.typing.Typing.{Typing}
 use Rattle.cif_inst.proofs.DeclarationLaws.{made, data-are, IsDatum, IsOf, body-member, datum-below, datum-typed}
 use Rattle.cif_inst.proofs.EquationLaws.{first_of, location-kept, body-kept}
-use Rattle.cif_inst.proofs.RowAutoLaws.{row_below, row_written}
-use Rattle.cif_inst.proofs.RowLaws.{dots-dotted}
+use Rattle.cif_rows.proofs.RowBodyLaws.{row_below, row_written}
+use Rattle.cif_rows.proofs.RowLaws.{dots-dotted}
 
 -- ---- one definition
 

@@ -1,7 +1,6 @@
 -- The alphabets and monitors that are made are those of the net of a source.
 use Rattle.std.proofs.Common.{◌≡◌, ℕ, ◌<◌, true, false, inl, inr, List, [], ◌∷◌, ◌++◌, length, map, Option, Some, None, refl, sym, ◌∙◌, ap, subst, arith}
 use Rattle.std.specs.Prelude.{flat_map, unwrap_or, if◌then◌else◌}
-use Rattle.std.specs.List.{cons_option}
 use Rattle.cif_ast.specs.declared.names.Name.{Name}
 use Rattle.cif_system.specs.Words.{Member}
 use Rattle.cif_system.proofs.Picks.{append-left, append-right, map-member}
@@ -17,23 +16,17 @@ use Rattle.cif_system.specs.Step.{same_role}
 use Rattle.cif_rules.specs.InstanceRules.{synchronised_name}
 use Rattle.cif_image.proofs.FoundLaws.{flat-cases}
 use Rattle.cif_image.specs.Flat.{event_number, named_events, alphabet_in, alphabet_of, monitored_in, monitored_events, net_edge}
-use Rattle.cif_written.specs.Denoted.{DenotesEvent}
-use Rattle.cif_written.proofs.DenotedLaws.{event-names}
 use Rattle.cif_translate.specs.Looking.{component_at}
 use Rattle.cif_translate.specs.declared.looking.Looking.{Looking}
 use Rattle.cif_inst.specs.Edges.{automaton_edges}
 use Rattle.cif_inst.specs.Alphabets.{automaton_used, events_as, synced_events, alphabet_by, alphabet_for, monitors_by, monitors_for}
-use Rattle.cif_inst.proofs.SoundLaws.{IsSound}
+use Rattle.cif_rows.proofs.SoundLaws.{IsSound}
 use Rattle.cif_inst.proofs.EdgeLaws.{role-back}
 use Rattle.cif_inst.proofs.ListedLaws.{used_by, used-edges}
-use Rattle.cif_inst.proofs.UseLaws.{event-use, edge-event-used}
+use Rattle.cif_rows.proofs.EventNameLaws.{event-use, Numbered, used-numbered, named-are}
+use Rattle.cif_inst.proofs.UseLaws.{edge-event-used}
 
 -- ---- names of events
-
--- a name of an event, with the number of the event
-pub record Numbered (t : Source) (c : Component) (nm : Name) : Type 0 where
-  pub number : event_at (denotes c nm) ≡ Some (event_number c nm)
-  pub below : event_number c nm < length (events t)
 
 alphabet-in-body : (c : Component) (a : AutomatonTree) (nm : Name) → Member nm (unwrap_or a.alphabet []) → Member (event-use nm) (body_uses c (automaton_body a))
 alphabet-in-body c a nm m =
@@ -45,10 +38,6 @@ monitor-in-body : (c : Component) (a : AutomatonTree) (nm : Name) → Member nm 
 monitor-in-body c a nm m =
     append-left (event-use nm) (flat_map decl_uses a.decls ++ asking event_asked (unwrap_or a.alphabet []) ++ asking event_asked (unwrap_or a.monitor [])) (flat_map location_uses a.locs)
     (append-right (event-use nm) (flat_map decl_uses a.decls ++ asking event_asked (unwrap_or a.alphabet [])) (asking event_asked (unwrap_or a.monitor [])) (map-member event-use nm (unwrap_or a.monitor []) m))
-
-pub named-are : (c : Component) (nms : List Name) → ((nm : Name) → Member nm nms → event_at (denotes c nm) ≡ Some (event_number c nm)) → named_events c nms ≡ map (event_number c) nms
-named-are c [] h = refl
-named-are c (nm ∷ nms) h = ap (λ o. cons_option o (named_events c nms)) (h nm (inl refl)) ∙ ap (λ es. event_number c nm ∷ es) (named-are c nms (λ x m. h x (inr m)))
 
 -- ---- the names of the edges in one role
 
@@ -77,17 +66,8 @@ role-events p c (w ∷ ws) =
     ])
 
 module _ (t : Source) (h : IsSound t) where
-  used-numbered : (c : Component) → Member c (components_of t) → (nm : Name) → Member (event-use nm) (uses c) → Numbered t c nm
-  used-numbered c m nm k =
-      let d : DenotesEvent t c nm = event-names t h.few h.scoping.known h.scoping.fitting h.matched c m nm k in
-      let is : event_number c nm ≡ d.event = ap (λ o. unwrap_or o 0) d.is_event in
-      record {
-        number = d.is_event ∙ ap Some (sym is);
-        below = omega (arith, is, d.is_below);
-      }
-
   pub edge-numbered : (c : Component) → Member c (components_of t) → (w : EventEdge) → Member w (event_edges c) → Numbered t c w.event_use.name
-  edge-numbered c m w k = used-numbered c m w.event_use.name (edge-event-used c w k)
+  edge-numbered c m w k = used-numbered t h c m w.event_use.name (edge-event-used c w k)
 
   pub role-numbered : (c : Component) → Member c (components_of t) → (p : Role) (nm : Name) → Member nm (role_names p c) → Numbered t c nm
   role-numbered c m p nm k =
@@ -96,7 +76,7 @@ module _ (t : Source) (h : IsSound t) where
 
   module _ (c : Component) (m : Member c (components_of t)) (a : AutomatonTree) (e : body_of c ≡ automaton_body a) where
     in-body : (nm : Name) → Member (event-use nm) (body_uses c (automaton_body a)) → Numbered t c nm
-    in-body nm k = used-numbered c m nm (append-right (event-use nm) (flat_map param_uses (params_of c)) (body_uses c (body_of c)) (subst (λ b. Member (event-use nm) (body_uses c b)) (sym e) k))
+    in-body nm k = used-numbered t h c m nm (append-right (event-use nm) (flat_map param_uses (params_of c)) (body_uses c (body_of c)) (subst (λ b. Member (event-use nm) (body_uses c b)) (sym e) k))
 
     alphabet-numbered : (nm : Name) → Member nm (unwrap_or a.alphabet []) → Numbered t c nm
     alphabet-numbered nm k = in-body nm (alphabet-in-body c a nm k)

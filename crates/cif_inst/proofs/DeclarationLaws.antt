@@ -16,10 +16,10 @@ use Rattle.cif_image.proofs.NumberLaws.{append-kept}
 use Rattle.cif_values.specs.Types.{typed_value}
 use Rattle.cif_translate.specs.Looking.{or_whole, component_of}
 use Rattle.cif_inst.specs.Declarations.{DatumTree, decl_data, decls_data, items_data, body_data, rows_data}
-use Rattle.cif_inst.specs.Rows.{prefix_of, row_for, rows_of}
+use Rattle.cif_rows.specs.Rows.{prefix_of, row_for, rows_of}
 use Rattle.cif_inst.specs.declared.declarations.Sort.{Sort}
 use Rattle.cif_inst.specs.declared.declarations.Sort.TheVariants as sort
-use Rattle.cif_inst.proofs.SoundLaws.{From, from-here, from-next, all-components}
+use Rattle.cif_rows.proofs.SoundLaws.{From, from-here, from-next, all-components}
 
 -- ---- of a body
 

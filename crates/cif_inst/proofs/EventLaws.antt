@@ -18,15 +18,16 @@ use Rattle.cif_image.specs.Types.{net_channel}
 use Rattle.cif_image.proofs.NumberLaws.{kept-all, append-kept}
 use Rattle.cif_translate.specs.Looking.{or_whole, component_of}
 use Rattle.cif_inst.specs.Events.{EventTree, decl_events, decls_events, items_events, body_events, rows_events, made_event, all_events, StandsIn, StandAll}
-use Rattle.cif_inst.specs.Rows.{prefix_of, row_for, rows_of}
+use Rattle.cif_rows.specs.Rows.{prefix_of, row_for, rows_of}
 use Rattle.cif_inst.specs.Typing.{typed_source, typed_component, AreTypesOf, IsHome}
-use Rattle.cif_inst.specs.Views.{row_tree, event_datum}
+use Rattle.cif_rows.specs.Views.{row_tree}
+use Rattle.cif_inst.specs.Views.{event_datum}
 use Rattle.cif_inst.specs.declared.events.EventDatum.{EventDatum}
-use Rattle.cif_inst.specs.declared.rows.Row.{Row}
+use Rattle.cif_rows.specs.declared.rows.Row.{Row}
 use Rattle.cif_inst.specs.declared.typing.Typing.{Typing}
-use Rattle.cif_inst.proofs.RowLaws.{dots-dotted}
-use Rattle.cif_inst.proofs.SoundLaws.{From, from-here, from-next, all-components}
-use Rattle.cif_inst.proofs.TypingLaws.{listed_at, made_more}
+use Rattle.cif_rows.proofs.RowLaws.{dots-dotted}
+use Rattle.cif_rows.proofs.SoundLaws.{From, from-here, from-next, all-components}
+use Rattle.cif_rows.proofs.LoopLaws.{listed_at, made_more}
 
 -- ---- of a body
 

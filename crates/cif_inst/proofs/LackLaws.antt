@@ -25,8 +25,9 @@ use Rattle.cif_translate.specs.Looking.{component_at}
 use Rattle.cif_translate.specs.declared.looking.Looking.{Looking}
 use Rattle.cif_inst.specs.Edges.{automaton_edges}
 use Rattle.cif_inst.specs.Alphabets.{name_places, use_place, edge_places, location_places, synced_events, alphabet_for, monitors_by, monitors_for, is_outside, first_failing, or_later, automaton_lacks}
-use Rattle.cif_inst.proofs.SoundLaws.{IsSound}
-use Rattle.cif_inst.proofs.AlphabetLaws.{role_names, Numbered, role-numbered, monitor-numbered, roles-are, alphabet-is}
+use Rattle.cif_rows.proofs.SoundLaws.{IsSound}
+use Rattle.cif_rows.proofs.EventNameLaws.{Numbered}
+use Rattle.cif_inst.proofs.AlphabetLaws.{role_names, role-numbered, monitor-numbered, roles-are, alphabet-is}
 
 -- ---- the first that fails
 

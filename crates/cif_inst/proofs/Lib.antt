@@ -1,6 +1,3 @@
-pub mod SoundLaws
-pub mod CalledLaws
-pub mod RowLaws
 pub mod EventLaws
 pub mod EdgeLaws
 pub mod ListedLaws

@@ -17,8 +17,8 @@ use Rattle.cif_image.proofs.RuleLaws.{member-any}
 use Rattle.cif_image.proofs.StandingLaws.{any-member}
 use Rattle.cif_translate.specs.Looking.{or_whole, source_for, component_at}
 use Rattle.cif_translate.specs.declared.looking.Looking.{Looking}
-use Rattle.cif_inst.specs.Names.{AreMatchedNames}
-use Rattle.cif_inst.specs.Rows.{RowTree, body_number, row_for, rows_of}
+use Rattle.cif_rows.specs.Names.{AreMatchedNames}
+use Rattle.cif_rows.specs.Rows.{RowTree, body_number, row_for, rows_of}
 use Rattle.cif_inst.specs.Alphabets.{automaton_alphabet, body_alphabets, rows_alphabets}
 use Rattle.cif_inst.specs.BodyNames.{places_in, places_at, places_under, all_places}
 use Rattle.cif_inst.specs.Roles.{is_mixed, first_mixed, mixed_place, tells_mixed, AreBelow, AreAllBelow}
@@ -26,7 +26,7 @@ use Rattle.cif_inst.specs.Net.{due}
 use Rattle.cif_inst.specs.declared.alphabets.Alphabet.{Alphabet}
 use Rattle.cif_inst.specs.declared.error.InstErr.{InstErr}
 use Rattle.cif_inst.specs.declared.error.InstErr.TheVariants.{AlphabetLacks, RoleMixed, TooManyObjects, ConstantRange, TooLarge, Memory}
-use Rattle.cif_inst.proofs.SoundLaws.{component-is, component-listed, body-numbered, From, from-here, from-next, all-components}
+use Rattle.cif_rows.proofs.SoundLaws.{component-is, component-listed, body-numbered, From, from-here, from-next, all-components}
 use Rattle.cif_inst.proofs.UseLaws.{automaton-listed}
 use Rattle.cif_inst.proofs.RoleLaws.{automaton-mixed, automaton-single, automaton-below}
 

@@ -6,12 +6,11 @@ use Rattle.std.specs.List.{position_or_len}
 use Rattle.std.proofs.lemmas.List.{length-append}
 use Rattle.cif_system.specs.Words.{Member}
 use Rattle.cif_system.proofs.Lists.{false-true, slice_get-below}
-use Rattle.cif_model.specs.Net.{Net}
 use Rattle.cif_model.specs.Facts.{is_net}
-use Rattle.cif_source.specs.Source.{Text, DeclTree, type_decl, enum_decl, event_decl, const_decl, alg_decl, input_decl, disc_decl, equation_decl, invariant_decl, marked_decl, AutomatonTree, SourceBody, group_body, automaton_body, Source}
+use Rattle.cif_source.specs.Source.{Text, AutomatonTree, SourceBody, group_body, automaton_body, Source}
 use Rattle.cif_source.specs.Components.{Component, whole, part, blank, copy, body_of, Path, path_of}
 use Rattle.cif_source.specs.Objects as objects
-use Rattle.cif_source.specs.Objects.{components_of, automata, is_automaton, locs_in, events, Declared, declarations, inputs, variables}
+use Rattle.cif_source.specs.Objects.{components_of, automata, is_automaton, locs_in}
 use Rattle.cif_rules.specs.InstanceRules.{TooManyObjectsDue, ConstantRangeDue}
 use Rattle.cif_components.specs.declared.error.ComponentsErr.{ComponentsErr}
 use Rattle.cif_components.specs.declared.error.ComponentsErr.TheVariants as components
@@ -28,20 +27,16 @@ use Rattle.cif_net.specs.declared.data.Var.{Var}
 use Rattle.cif_net.specs.declared.data.Alg.{Alg}
 use Rattle.cif_net.specs.declared.predicates.Exclusion.{Exclusion}
 use Rattle.cif_net.specs.declared.predicates.Invariant.{Invariant}
-use Rattle.cif_net.specs.Parts.{auto_tree, event_tree, input_tree, var_tree, alg_tree, net_of_parts}
-use Rattle.cif_built.specs.Built.{is_no_invariant, is_built}
-use Rattle.cif_image.specs.Flat.{dotted, location_name, net_auto, net_event, net_stored, net_alg, net_exclusions, net_invariants, net_of_source}
+use Rattle.cif_net.specs.Parts.{auto_tree, event_tree, input_tree, var_tree, alg_tree, exclusion_tree, invariant_tree, net_of_parts}
+use Rattle.cif_image.specs.Flat.{dotted, location_name, net_auto, net_alg, net_of_source}
 use Rattle.cif_image.specs.Represents.{Represents}
 use Rattle.cif_image.specs.Small.{HasSmallParts}
 use Rattle.cif_image.specs.WellFormed.{KeepsBefore, algebraic}
-use Rattle.cif_image.proofs.RuleLaws.{declaration-cases}
-use Rattle.cif_image.proofs.StandingLaws.{flat-nothing}
 use Rattle.cif_fits.specs.Forms.{HasSmallArguments}
-use Rattle.cif_fits.proofs.FormLaws.{forms-of, decl-invariant}
 use Rattle.cif_translate.specs.Looking.{or_whole, source_for, component_at, AreNamesOf}
 use Rattle.cif_translate.specs.declared.looking.Looking.{Looking}
-use Rattle.cif_inst.specs.Names.{AreMatchedNames}
-use Rattle.cif_inst.specs.Rows.{RowTree, prefix_of, row_for, rows_of}
+use Rattle.cif_rows.specs.Names.{AreMatchedNames}
+use Rattle.cif_rows.specs.Rows.{RowTree, prefix_of, row_for, rows_of}
 use Rattle.cif_inst.specs.Events.{all_events}
 use Rattle.cif_inst.specs.Algebraic.{rows_algs}
 use Rattle.cif_inst.specs.Variables.{all_stored}
@@ -53,8 +48,8 @@ use Rattle.cif_inst.specs.Roles.{first_mixed}
 use Rattle.cif_inst.specs.declared.alphabets.Alphabet.{Alphabet}
 use Rattle.cif_inst.specs.declared.error.InstErr.{InstErr}
 use Rattle.cif_inst.specs.declared.error.InstErr.TheVariants.{AlphabetLacks, RoleMixed, TooManyObjects, ConstantRange, TooLarge, Memory}
-use Rattle.cif_inst.proofs.SoundLaws.{component-listed, From, from-here, from-next, all-components}
-use Rattle.cif_inst.proofs.RowLaws.{dots-step, dots-dotted}
+use Rattle.cif_rows.proofs.SoundLaws.{component-listed, From, from-here, from-next, all-components}
+use Rattle.cif_rows.proofs.RowLaws.{dots-step, dots-dotted}
 use Rattle.cif_inst.proofs.EventLaws.{events-are}
 use Rattle.cif_inst.proofs.AlphabetLaws.{alphabet-is, monitors-are}
 use Rattle.cif_inst.proofs.AutomatonLaws.{sound, edges}
@@ -121,57 +116,11 @@ module _ (l : Looking) (h : AreMatchedNames l) where
   autos-are : (rows : List RowTree) (autos : List Auto) → rows ≡ rows_of (source_for l) → map auto_tree autos ≡ rows_autos l 0 rows → map auto_tree autos ≡ map net_auto (automata (source_for l))
   autos-are rows autos r a = a ∙ ap (rows_autos l 0) r ∙ rows-made (components_of (source_for l)) 0 (all-components (source_for l))
 
--- ---- what is not in the forms that are built
-
-no-exclusion : (c : Component) (d : DeclTree) → is_no_invariant d ≡ true → net_exclusions (c, d) ≡ []
-no-exclusion c (type_decl n ty) h = refl
-no-exclusion c (enum_decl n ls) h = refl
-no-exclusion c (event_decl k x n) h = refl
-no-exclusion c (const_decl ty n e) h = refl
-no-exclusion c (alg_decl ty n e) h = refl
-no-exclusion c (input_decl ty n) h = refl
-no-exclusion c (disc_decl ty n e) h = refl
-no-exclusion c (equation_decl q) h = refl
-no-exclusion c (invariant_decl i) h = absurd (false-true refl h)
-no-exclusion c (marked_decl p) h = refl
-
-no-state : (c : Component) (d : DeclTree) → is_no_invariant d ≡ true → net_invariants (c, d) ≡ []
-no-state c (type_decl n ty) h = refl
-no-state c (enum_decl n ls) h = refl
-no-state c (event_decl k x n) h = refl
-no-state c (const_decl ty n e) h = refl
-no-state c (alg_decl ty n e) h = refl
-no-state c (input_decl ty n) h = refl
-no-state c (disc_decl ty n e) h = refl
-no-state c (equation_decl q) h = refl
-no-state c (invariant_decl i) h = absurd (false-true refl h)
-no-state c (marked_decl p) h = refl
-
--- the automata, events, inputs, discrete and algebraic variables alone
-abbrev pub built_net : Source → Net
-built_net t = record { autos = map net_auto (automata t); events = map net_event (events t); inputs = map net_stored (inputs t); vars = map net_stored (variables t); algs = map net_alg (objects.algs t); exclusions = []; invariants = [] }
-
-module _ (t : Source) (built : is_built t ≡ true) where
-  no-invariant : (d : Declared) → Member d (declarations t) → is_no_invariant d.1 ≡ true
-  no-invariant d m = let p = declaration-cases t d m in decl-invariant t (forms-of t built) d.0 p.0 d.1 p.1
-
-  pub net-parts : net_of_source t ≡ built_net t
-  net-parts = λ i. record {
-    autos = map net_auto (automata t);
-    events = map net_event (events t);
-    inputs = map net_stored (inputs t);
-    vars = map net_stored (variables t);
-    algs = map net_alg (objects.algs t);
-    exclusions = flat-nothing net_exclusions (declarations t) (λ d m. no-exclusion d.0 d.1 (no-invariant d m)) i;
-    invariants = flat-nothing net_invariants (declarations t) (λ d m. no-state d.0 d.1 (no-invariant d m)) i;
-  }
-
 -- ---- the net
 
 -- what stands for the source's net
-pub record IsMade (l : Looking) (rows : List RowTree) (autos : List Auto) (all : List Event) (ins : List Input) (vars : List Var) (algs : List Alg) : Type 0 where
+pub record IsMade (l : Looking) (rows : List RowTree) (autos : List Auto) (all : List Event) (ins : List Input) (vars : List Var) (algs : List Alg) (exclusions : List Exclusion) (invariants : List Invariant) : Type 0 where
   pub names : AreMatchedNames l
-  pub built : is_built (source_for l) ≡ true
   pub kinds : KeepsKinds (source_for l)
   pub kept : KeepsInstances (source_for l)
   pub of_source : rows ≡ rows_of (source_for l)
@@ -180,6 +129,8 @@ pub record IsMade (l : Looking) (rows : List RowTree) (autos : List Auto) (all :
   pub read : map input_tree ins ≡ all_stored (source_for l) sort.Input rows
   pub stored : map var_tree vars ≡ all_stored (source_for l) sort.Discrete rows
   pub defined : map alg_tree algs ≡ rows_algs (source_for l) 0 rows
+  pub excluded : map exclusion_tree exclusions ≡ (net_of_source (source_for l)).exclusions
+  pub kept_always : map invariant_tree invariants ≡ (net_of_source (source_for l)).invariants
 
 pub matched_names : (l : Looking) → AreNamesOf l → KeepsKinds (source_for l) → AreMatchedNames l
 matched_names l names kinds = record { names = names; matched = kinds.mismatch }
@@ -194,43 +145,37 @@ kept_rules l rows all names few ranges are found inside single = record {
 }
 
 -- a source that keeps its rules has a net
-pub source_fits : (l : Looking) → AreMatchedNames l → is_built (source_for l) ≡ true → KeepsKinds (source_for l) → KeepsInstances (source_for l)
-    → ((t : Source) → is_built t ≡ true → KeepsBefore t algebraic → HasSmallParts t → HasSmallArguments t → is_net (net_of_source t) ≡ true) → HasSmallParts (source_for l) → HasSmallArguments (source_for l)
+pub source_fits : (l : Looking) → AreMatchedNames l → KeepsKinds (source_for l) → KeepsInstances (source_for l)
+    → ((t : Source) → KeepsBefore t algebraic → HasSmallParts t → HasSmallArguments t → is_net (net_of_source t) ≡ true) → HasSmallParts (source_for l) → HasSmallArguments (source_for l)
     → is_net (net_of_source (source_for l)) ≡ true
-source_fits l names built kinds kept nets small few = nets (source_for l) built (kept_before (source_for l) names.names.scopes.rules kinds kept) small few
+source_fits l names kinds kept nets small few = nets (source_for l) (kept_before (source_for l) names.names.scopes.rules kinds kept) small few
 
-module _ (l : Looking) (rows : List RowTree) (autos : List Auto) (all : List Event) (ins : List Input) (vars : List Var) (algs : List Alg) (m : IsMade l rows autos all ins vars algs) where
+module _ (l : Looking) (rows : List RowTree) (autos : List Auto) (all : List Event) (ins : List Input) (vars : List Var) (algs : List Alg) (exclusions : List Exclusion) (invariants : List Invariant)
+    (m : IsMade l rows autos all ins vars algs exclusions invariants) where
   its-algs : map alg_tree algs ≡ map net_alg (objects.algs (source_for l))
   its-algs = m.defined ∙ ap (rows_algs (source_for l) 0) m.of_source ∙ algs-are (source_for l) m.names.names.components.few m.kinds.single
 
-  its-net : net_of_parts autos all ins vars algs [] [] ≡ net_of_source (source_for l)
-  its-net =
-      (λ i. record {
-        autos = autos-are l m.names rows autos m.of_source m.made i;
-        events = (m.declared ∙ ap (all_events (source_for l)) m.of_source ∙ events-are (source_for l)) i;
-        inputs = (m.read ∙ ap (all_stored (source_for l) sort.Input) m.of_source ∙ inputs-are (source_for l)) i;
-        vars = (m.stored ∙ ap (all_stored (source_for l) sort.Discrete) m.of_source ∙ variables-are (source_for l)) i;
-        algs = its-algs i;
-        exclusions = [];
-        invariants = [];
-      })
-      ∙ sym (net-parts (source_for l) m.built)
+  its-net : net_of_parts autos all ins vars algs exclusions invariants ≡ net_of_source (source_for l)
+  its-net = λ i. record {
+    autos = autos-are l m.names rows autos m.of_source m.made i;
+    events = (m.declared ∙ ap (all_events (source_for l)) m.of_source ∙ events-are (source_for l)) i;
+    inputs = (m.read ∙ ap (all_stored (source_for l) sort.Input) m.of_source ∙ inputs-are (source_for l)) i;
+    vars = (m.stored ∙ ap (all_stored (source_for l) sort.Discrete) m.of_source ∙ variables-are (source_for l)) i;
+    algs = its-algs i;
+    exclusions = m.excluded i;
+    invariants = m.kept_always i;
+  }
 
   its-rules : KeepsBefore (source_for l) algebraic
   its-rules = kept_before (source_for l) m.names.names.scopes.rules m.kinds m.kept
 
-  -- with empty lists for what has no form yet
-  module _ (exclusions : List Exclusion) (invariants : List Invariant) (no_exclusions : exclusions ≡ []) (no_invariants : invariants ≡ []) where
-    whole-net : net_of_parts autos all ins vars algs exclusions invariants ≡ net_of_source (source_for l)
-    whole-net = (λ k. net_of_parts autos all ins vars algs (no_exclusions k) (no_invariants k)) ∙ its-net
+  pub fits_with : ((t : Source) → KeepsBefore t algebraic → HasSmallParts t → HasSmallArguments t → is_net (net_of_source t) ≡ true) → HasSmallParts (source_for l) → HasSmallArguments (source_for l)
+      → is_net (net_of_parts autos all ins vars algs exclusions invariants) ≡ true
+  fits_with nets small few = ap is_net its-net ∙ source_fits l m.names m.kinds m.kept nets small few
 
-    pub fits_with : ((t : Source) → is_built t ≡ true → KeepsBefore t algebraic → HasSmallParts t → HasSmallArguments t → is_net (net_of_source t) ≡ true) → HasSmallParts (source_for l) → HasSmallArguments (source_for l)
-        → is_net (net_of_parts autos all ins vars algs exclusions invariants) ≡ true
-    fits_with nets small few = ap is_net whole-net ∙ source_fits l m.names m.built m.kinds m.kept nets small few
-
-    pub represents_with : ((t : Source) → is_built t ≡ true → KeepsBefore t algebraic → Represents (net_of_source t) t)
-        → Represents (net_of_parts autos all ins vars algs exclusions invariants) (source_for l)
-    represents_with nets = subst (λ x. Represents x (source_for l)) (sym whole-net) (nets (source_for l) m.built its-rules)
+  pub represents_with : ((t : Source) → KeepsBefore t algebraic → Represents (net_of_source t) t)
+      → Represents (net_of_parts autos all ins vars algs exclusions invariants) (source_for l)
+  represents_with nets = subst (λ x. Represents x (source_for l)) (sym its-net) (nets (source_for l) its-rules)
 
 -- ---- refusals
 

@@ -1,12 +1,13 @@
--- The outlines are as large as the automata of the net of the source, and the measures of its edges tell its depth.
+-- The outlines are as large as the automata, exclusions and state invariants of the net of the source, and the measures of these tell
+-- its depth.
 use Rattle.std.proofs.Common.{◌≡◌, ℕ, zero, suc, ◌+◌, ◌≤◌, ◌<◌, max, inl, inr, List, [], ◌∷◌, ◌++◌, length, map, drop, refl, sym, ◌∙◌, ap, subst, arith}
 use Rattle.std.specs.Prelude.{flat_map}
 use Rattle.std.proofs.Math.Seq.{drop-append_seam}
 use Rattle.std.proofs.lemmas.List.{drop-drop, map-append}
 use Rattle.std.proofs.lemmas.List.Sums.{sum_by-cons}
 use Rattle.cif_system.proofs.Lists.{map-length}
-use Rattle.cif_term.specs.Tree.{NetExpr, net_expr, n_alg}
-use Rattle.cif_model.specs.Net.{NetEdge, NetAuto}
+use Rattle.cif_term.specs.Tree.{NetExpr}
+use Rattle.cif_model.specs.Net.{NetEdge, NetAuto, NetExclusion, NetInvariant}
 use Rattle.cif_model.specs.Exprs.{edge_exprs}
 use Rattle.cif_model.specs.Unfolding.{at_or}
 use Rattle.cif_model.specs.Counts.{no_form, all_beside, measure_by, stopped, most_depth}
@@ -16,16 +17,18 @@ use Rattle.cif_measure.specs.Meanings.{as_measure, stopped_measure, table_measur
 use Rattle.cif_measure.specs.Counted.{beside_stopped}
 use Rattle.cif_measure.specs.Sizes.{sizes_by, table_counted}
 use Rattle.cif_alg.specs.Tallies.{cut_size}
-use Rattle.cif_alg.specs.Outlines.{CountedAuto, counted_edge, counted_auto}
+use Rattle.cif_alg.specs.Weighed.{cut}
+use Rattle.cif_alg.specs.Outlines.{CountedAuto, counted_edge, counted_auto, counted_exclusion, counted_invariant}
 use Rattle.cif_source.specs.Source.{Text, AutomatonTree, SourceBody, group_body, automaton_body}
 use Rattle.cif_translate.specs.declared.looking.Looking.{Looking}
 use Rattle.cif_sizes.specs.Arguments.{one_each, edge_weight}
-use Rattle.cif_inst.specs.Rows.{RowTree}
+use Rattle.cif_predicates.specs.Weights.{weight_of, excluded_of, invariant_weight}
+use Rattle.cif_rows.specs.Rows.{RowTree}
 use Rattle.cif_inst.specs.Edges.{automaton_edges}
 use Rattle.cif_inst.specs.Alphabets.{automaton_used, alphabet_for, monitors_for, automaton_alphabet, body_alphabets, rows_alphabets}
 use Rattle.cif_inst.specs.Autos.{auto_for, body_autos, rows_autos}
-use Rattle.cif_inst.specs.Measures.{automaton_weights, body_weights, rows_weights}
-use Rattle.cif_inst.specs.Outlines.{outline_edge, outline_edges, outline, outlines, together}
+use Rattle.cif_inst.specs.Measures.{automaton_weights, body_weights, rows_weights, measure_of}
+use Rattle.cif_inst.specs.Outlines.{outline_expr, outline_edge, outline_edges, outline, outlines, outline_exclusions, outline_invariants, together}
 use Rattle.cif_inst.proofs.EdgeLaws.{role-back}
 use Rattle.cif_inst.proofs.ListedLaws.{used_by, used-edges, weights-edges}
 
@@ -37,7 +40,7 @@ at-begins d [] (suc j) x rest h = cc
 at-begins d (y ∷ xs) zero x rest h = cc
 at-begins d (y ∷ xs) (suc j) x rest h = at-begins d xs j x rest h
 
-left-past : {A : Type 0} (xs ys rest : List A) (j k : ℕ) → k ≡ length ys → drop j xs ≡ ys ++ rest → drop (j + k) xs ≡ rest
+pub left-past : {A : Type 0} (xs ys rest : List A) (j k : ℕ) → k ≡ length ys → drop j xs ≡ ys ++ rest → drop (j + k) xs ≡ rest
 left-past xs ys rest j k is h = sym (drop-drop k j xs) ∙ (λ i. drop (is i) (h i)) ∙ drop-append_seam ys rest
 
 -- ---- sizes
@@ -47,20 +50,42 @@ all-sizes f [] = refl
 all-sizes f (e ∷ es) = ap (λ s. (measure_by f e).size + s) (all-sizes f es) ∙ sym (sum_by-cons (λ x. (measure_by f x).size) e es)
 
 module _ (ms : List Measure) where
+  -- an outline counts as the measure with its number
+  outline-as : (j : ℕ) (m : Measure) (rest : List Measure) → drop j ms ≡ m ∷ rest → cut_size (table_measure ms) (outline_expr j ∷ []) ≡ cut m.size
+  outline-as j m rest left =
+      let at : table_measure ms j ≡ as_measure m = ap as_measure (at-begins (record { size = 0; depth = 0 }) ms j m rest left) in
+      omega (arith, sum_by-cons (λ e. (measure_by (table_measure ms) e).size) (outline_expr j) [], ap (λ (x : counts.Measure). x.size) at)
+
   edge-as : (j : ℕ) (x : NetEdge) (rest : List Measure) → drop j ms ≡ edge_weight x ∷ rest → counted_edge (table_measure ms) (outline_edge j (used_by x)) ≡ counted_edge one_each x
   edge-as j x rest left = λ i. record { event = x.event; role = role-back x.role i; size = same i }
     where
-      at : table_measure ms j ≡ as_measure (edge_weight x)
-      at = ap as_measure (at-begins (record { size = 0; depth = 0 }) ms j (edge_weight x) rest left)
-
-      same : cut_size (table_measure ms) (net_expr (n_alg j) 0 ∷ []) ≡ cut_size one_each (edge_exprs x)
-      same = omega (arith, sum_by-cons (λ e. (measure_by (table_measure ms) e).size) (net_expr (n_alg j) 0) [], ap (λ (m : counts.Measure). m.size) at, all-sizes one_each (edge_exprs x))
+      same : cut_size (table_measure ms) (outline_expr j ∷ []) ≡ cut_size one_each (edge_exprs x)
+      same = omega (arith, outline-as j (edge_weight x) rest left, all-sizes one_each (edge_exprs x))
 
   edges-as : (xs : List NetEdge) (j : ℕ) (rest : List Measure) → drop j ms ≡ map edge_weight xs ++ rest → map (counted_edge (table_measure ms)) (outline_edges j (map used_by xs)) ≡ map (counted_edge one_each) xs
   edges-as [] j rest left = refl
   edges-as (x ∷ xs) j rest left =
       λ i. edge-as j x (map edge_weight xs ++ rest) left i
       ∷ edges-as xs (j + 1) rest (left-past ms (edge_weight x ∷ []) (map edge_weight xs ++ rest) j 1 refl left) i
+
+  -- ---- predicates
+
+  predicate-as : (j : ℕ) (e : NetExpr) (rest : List Measure) → drop j ms ≡ weight_of e ∷ rest → cut_size (table_measure ms) (outline_expr j ∷ []) ≡ cut_size one_each (e ∷ [])
+  predicate-as j e rest left = omega (arith, outline-as j (weight_of e) rest left, sum_by-cons (λ x. (measure_by one_each x).size) e [])
+
+  pub exclusions-as : (xs : List NetExclusion) (j : ℕ) (rest : List Measure) → drop j ms ≡ map measure_of (map excluded_of xs) ++ rest
+      → map (counted_exclusion (table_measure ms)) (outline_exclusions j (map excluded_of xs)) ≡ map (counted_exclusion one_each) xs
+  exclusions-as [] j rest left = refl
+  exclusions-as (x ∷ xs) j rest left =
+      λ i. record { event = x.event; size = predicate-as j x.pred (map measure_of (map excluded_of xs) ++ rest) left i }
+      ∷ exclusions-as xs (j + 1) rest (left-past ms (weight_of x.pred ∷ []) (map measure_of (map excluded_of xs) ++ rest) j 1 refl left) i
+
+  pub invariants-as : (is : List NetInvariant) (j : ℕ) (rest : List Measure) → drop j ms ≡ map invariant_weight is ++ rest
+      → map (counted_invariant (table_measure ms)) (outline_invariants j (map invariant_weight is)) ≡ map (counted_invariant one_each) is
+  invariants-as [] j rest left = refl
+  invariants-as (x ∷ xs) j rest left =
+      λ i. predicate-as j x.pred (map invariant_weight xs ++ rest) left i
+      ∷ invariants-as xs (j + 1) rest (left-past ms (weight_of x.pred ∷ []) (map invariant_weight xs ++ rest) j 1 refl left) i
 
 -- ---- automata
 
@@ -123,20 +148,26 @@ weights-are l k (r ∷ rows) = body-weights l k r.0 r.1 (rows_weights l (k + 1) 
 abbrev pub depth_in : List NetExpr → ℕ
 depth_in es = (all_beside (map (measure_by one_each) es)).depth
 
-pub depth-append : (xs ys : List NetExpr) → depth_in (xs ++ ys) ≡ max (depth_in xs) (depth_in ys)
-depth-append [] ys = omega arith
-depth-append (x ∷ xs) ys = omega (arith, depth-append xs ys)
+pub depth-append : (f : ℕ → counts.Measure) (xs ys : List NetExpr)
+    → (all_beside (map (measure_by f) (xs ++ ys))).depth ≡ max (all_beside (map (measure_by f) xs)).depth (all_beside (map (measure_by f) ys)).depth
+depth-append f [] ys = omega arith
+depth-append f (x ∷ xs) ys = omega (arith, depth-append f xs ys)
 
 edges-deep : (xs : List NetEdge) → stopped most_depth (all_beside (map as_measure (map edge_weight xs))).depth ≡ stopped most_depth (depth_in (flat_map edge_exprs xs))
 edges-deep [] = refl
-edges-deep (x ∷ xs) = omega (arith, edges-deep xs, depth-append (edge_exprs x) (flat_map edge_exprs xs))
+edges-deep (x ∷ xs) = omega (arith, edges-deep xs, depth-append one_each (edge_exprs x) (flat_map edge_exprs xs))
 
 counted-deep : (ms : List Measure) (a : Measure) → a.depth ≤ suc most_depth → (table_counted a ms).depth ≡ stopped most_depth (max a.depth (all_beside (map as_measure ms)).depth)
 counted-deep [] a few = omega (arith, few)
 counted-deep (m ∷ ms) a few = omega (arith, few, counted-deep ms (beside_stopped a m) (omega arith))
 
-pub together-deep : (ms : List Measure) (xs : List NetEdge) → ms ≡ map edge_weight xs → (together ms).depth ≡ stopped most_depth (depth_in (flat_map edge_exprs xs))
-together-deep ms xs are =
+-- behind other expressions
+exprs-deep : (es : List NetExpr) (xs : List NetEdge) → stopped most_depth (all_beside (map as_measure (map weight_of es ++ map edge_weight xs))).depth ≡ stopped most_depth (depth_in (es ++ flat_map edge_exprs xs))
+exprs-deep [] xs = edges-deep xs
+exprs-deep (e ∷ es) xs = omega (arith, exprs-deep es xs)
+
+pub together-deep : (ms : List Measure) (es : List NetExpr) (xs : List NetEdge) → ms ≡ map weight_of es ++ map edge_weight xs → (together ms).depth ≡ stopped most_depth (depth_in (es ++ flat_map edge_exprs xs))
+together-deep ms es xs are =
     let d = counted-deep ms (stopped_measure no_form) (omega arith) in
-    let e = ap (λ (ws : List Measure). stopped most_depth (all_beside (map as_measure ws)).depth) are ∙ edges-deep xs in
+    let e = ap (λ (ws : List Measure). stopped most_depth (all_beside (map as_measure ws)).depth) are ∙ exprs-deep es xs in
     omega (arith, d, e)

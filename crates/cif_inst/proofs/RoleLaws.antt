@@ -17,13 +17,14 @@ use Rattle.cif_image.specs.Flat.{event_number, net_edge}
 use Rattle.cif_image.proofs.SystemLaws.{alphabet-same}
 use Rattle.cif_translate.specs.Looking.{source_for, component_at}
 use Rattle.cif_translate.specs.declared.looking.Looking.{Looking}
-use Rattle.cif_inst.specs.Names.{AreMatchedNames}
+use Rattle.cif_rows.specs.Names.{AreMatchedNames}
 use Rattle.cif_inst.specs.Edges.{automaton_edges}
 use Rattle.cif_inst.specs.Alphabets.{events_as, automaton_alphabet}
 use Rattle.cif_inst.specs.Roles.{is_mixed, AreBelow}
 use Rattle.cif_inst.specs.declared.alphabets.Alphabet.{Alphabet}
-use Rattle.cif_inst.proofs.SoundLaws.{component-listed}
-use Rattle.cif_inst.proofs.AlphabetLaws.{role_name, Numbered, edge-numbered, alphabet-is, roles-are, role-below}
+use Rattle.cif_rows.proofs.SoundLaws.{component-listed}
+use Rattle.cif_rows.proofs.EventNameLaws.{Numbered}
+use Rattle.cif_inst.proofs.AlphabetLaws.{role_name, edge-numbered, alphabet-is, roles-are, role-below}
 use Rattle.cif_inst.proofs.AutomatonLaws.{sound, edges}
 
 -- ---- tests of lists

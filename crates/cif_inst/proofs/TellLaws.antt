@@ -13,10 +13,10 @@ use Rattle.cif_image.proofs.RuleLaws.{member-any}
 use Rattle.cif_image.proofs.StandingLaws.{any-member}
 use Rattle.cif_translate.specs.Looking.{or_whole, source_for, component_at}
 use Rattle.cif_translate.specs.declared.looking.Looking.{Looking}
-use Rattle.cif_inst.specs.Names.{AreMatchedNames}
-use Rattle.cif_inst.specs.Rows.{RowTree, row_for, rows_of}
+use Rattle.cif_rows.specs.Names.{AreMatchedNames}
+use Rattle.cif_rows.specs.Rows.{RowTree, row_for, rows_of}
 use Rattle.cif_inst.specs.Alphabets.{body_lacks, rows_lacks}
-use Rattle.cif_inst.proofs.SoundLaws.{component-listed, From, from-here, from-next, all-components}
+use Rattle.cif_rows.proofs.SoundLaws.{component-listed, From, from-here, from-next, all-components}
 use Rattle.cif_inst.proofs.UseLaws.{automaton-listed}
 use Rattle.cif_inst.proofs.LackLaws.{LacksAt, asked_names, or-told, or-first, or-second, automaton-told, automaton-kept}
 use Rattle.cif_inst.proofs.AutomatonLaws.{sound, edges}

@@ -1,34 +1,21 @@
 -- Declarations stand in components whose bodies have numbers.
-use Rattle.std.proofs.Common.{◌≡◌, ℕ, ◌<◌, List, [], ◌∷◌, ◌++◌, ◌+◌, length, map, drop, get_or, append_assoc, sym, ap, ◌∙◌, subst}
+use Rattle.std.proofs.Common.{◌≡◌, ℕ, ◌<◌, List, [], ◌∷◌, ◌++◌, ◌+◌, length, map, drop, get_or, sym, subst}
 use Rattle.cif_system.specs.Words.{Member}
-use Rattle.cif_system.proofs.Picks.{map-member}
 use Rattle.cif_source.specs.Components.{as_written}
 use Rattle.cif_source.specs.Objects.{components_of}
 use Rattle.cif_scope.specs.Tables.{IsBody}
-use Rattle.cif_scope.proofs.Places.{drop-item}
 use Rattle.cif_inst.specs.Declarations.{DatumTree, rows_data}
-use Rattle.cif_inst.specs.Rows.{rows_of, body_number}
+use Rattle.cif_rows.specs.Rows.{rows_of, body_number}
 use Rattle.cif_inst.specs.Typing.{typed_source, typed_component, body_in, AreTypesOf, IsHome, HasType}
 use Rattle.cif_inst.specs.Views.{datum_tree}
 use Rattle.cif_inst.specs.declared.declarations.Datum.{Datum}
 use Rattle.cif_inst.specs.declared.declarations.Sort.{Sort}
 use Rattle.cif_inst.specs.declared.typing.Typing.{Typing}
-use Rattle.cif_inst.proofs.SoundLaws.{item-listed, component-is, component-listed, body-numbered}
+use Rattle.cif_rows.proofs.LoopLaws.{listed_at, made_more}
+use Rattle.cif_rows.proofs.SoundLaws.{component-is, component-listed, body-numbered}
 use Rattle.cif_inst.proofs.DeclarationLaws.{data-member, datum-below, datum-typed}
 
 -- ---- one of those that are found
-
-module _ {A T : Type 0} (tree : A → T) (found : List A) (i : ℕ) (x : A) (below : i < length found) (is : x ≡ get_or found i x) where
-  pub listed_at : Member (tree x) (map tree found)
-  listed_at = map-member tree x found (item-listed found i x below is)
-
-  -- one more of them, each of which is made into something
-  pub made_more : {B : Type 0} (make : T → B) (before after all : List B) → after ≡ before ++ make (tree x) ∷ [] → before ++ map make (map tree (drop i found)) ≡ all → after ++ map make (map tree (drop (i + 1) found)) ≡ all
-  made_more make before after all added h =
-      ap (λ ys. ys ++ map make (map tree (drop (i + 1) found))) added
-      ∙ append_assoc before (make (tree x) ∷ []) (map make (map tree (drop (i + 1) found)))
-      ∙ ap (λ ds. before ++ map make (map tree ds)) (sym (drop-item found i x below is))
-      ∙ h
 
 pub datum_listed : (found : List Datum) (i : ℕ) (d : Datum) → i < length found → d ≡ get_or found i d → Member (datum_tree d) (map datum_tree found)
 datum_listed found i d below is = listed_at datum_tree found i d below is

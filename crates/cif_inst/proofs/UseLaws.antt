@@ -8,11 +8,9 @@ use Rattle.cif_system.proofs.Picks.{append-left, append-right, flat_map-member}
 use Rattle.cif_source.specs.Source.{UseTree, EquationTree, EdgeTree, LocationTree, SourceBody, group_body, automaton_body, Source}
 use Rattle.cif_source.specs.Components.{Component, body_of, params_of}
 use Rattle.cif_source.specs.Objects.{components_of, automata, is_automaton, locs_of, locs_in, EventEdge, event_edges}
-use Rattle.cif_source.specs.Uses.{Use, uses, event_asked, asking, param_uses, body_uses, decl_uses, location_uses, value_uses, edge_uses, event_uses, updates_uses}
+use Rattle.cif_source.specs.Uses.{uses, event_asked, asking, param_uses, body_uses, decl_uses, location_uses, value_uses, edge_uses, event_uses, updates_uses}
 use Rattle.cif_image.proofs.StandingLaws.{edge-stands, enumerated}
-
-abbrev pub event-use : Name → Use
-event-use nm = record { name = nm; asks = event_asked }
+use Rattle.cif_rows.proofs.EventNameLaws.{event-use}
 
 edge-used : (e : EdgeTree) (u : UseTree) → Member u e.uses → Member (event-use u.name) (edge_uses e)
 edge-used e u m =

@@ -13,13 +13,13 @@ use Rattle.cif_values.specs.Types.{net_type_of}
 use Rattle.cif_values.specs.declared.types.NetTy.{NetTy}
 use Rattle.cif_translate.specs.Looking.{component_of}
 use Rattle.cif_inst.specs.Declarations.{DatumTree, datum, decl_data, rows_data}
-use Rattle.cif_inst.specs.Rows.{prefix_of, rows_of}
+use Rattle.cif_rows.specs.Rows.{prefix_of, rows_of}
 use Rattle.cif_inst.specs.Typing.{typed_source, AreTypesOf}
 use Rattle.cif_inst.specs.Variables.{stored_in, stored, all_stored, StandAll}
 use Rattle.cif_inst.specs.declared.declarations.Sort.{Sort}
 use Rattle.cif_inst.specs.declared.declarations.Sort.TheVariants as sort
 use Rattle.cif_inst.specs.declared.typing.Typing.{Typing}
-use Rattle.cif_inst.proofs.RowLaws.{dots-dotted}
+use Rattle.cif_rows.proofs.RowLaws.{dots-dotted}
 use Rattle.cif_inst.proofs.DeclarationLaws.{is_stored, made-all, data-are, data-member, datum-constant}
 use Rattle.cif_inst.proofs.TypingLaws.{has_type}
 

@@ -12,7 +12,7 @@ use Rattle.cif_image.specs.Types.{net_type}
 use Rattle.cif_translate.specs.Looking.{component_of}
 use Rattle.cif_inst.specs.Declarations.{DatumTree, body_data}
 use Rattle.cif_inst.specs.Equations.{Values, value_for, or_else, body_added, location_added}
-use Rattle.cif_inst.specs.Rows.{RowTree}
+use Rattle.cif_rows.specs.Rows.{RowTree}
 use Rattle.cif_inst.specs.Typing.{typed_component, IsHome, HasType}
 use Rattle.cif_inst.specs.declared.declarations.Sort.TheVariants as sort
 use Rattle.cif_inst.specs.declared.typing.Typing.{Typing}

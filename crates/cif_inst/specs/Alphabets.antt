@@ -11,7 +11,7 @@ use Rattle.cif_source.specs.Step.{role_of}
 use Rattle.cif_image.specs.Flat.{event_number}
 use Rattle.cif_translate.specs.Looking.{component_at}
 use Rattle.cif_translate.specs.declared.looking.Looking.{Looking}
-use Rattle.cif_inst.specs.Rows.{RowTree}
+use Rattle.cif_rows.specs.Rows.{RowTree}
 use Rattle.cif_inst.specs.Views.{role_for}
 use Rattle.cif_inst.specs.declared.alphabets.Alphabet.{Alphabet}
 use Rattle.cif_inst.specs.declared.used.Used.{Used}

@@ -4,7 +4,7 @@ use Rattle.std.specs.List.{position_or_len}
 use Rattle.cif_model.specs.Net.{NetAuto}
 use Rattle.cif_source.specs.Source.{Text, LocationTree, AutomatonTree, SourceBody, group_body, automaton_body}
 use Rattle.cif_image.specs.Flat.{location_name}
-use Rattle.cif_inst.specs.Rows.{RowTree}
+use Rattle.cif_rows.specs.Rows.{RowTree}
 use Rattle.cif_inst.specs.Edges.{automaton_edges}
 use Rattle.cif_inst.specs.Alphabets.{alphabet_for, monitors_for}
 use Rattle.cif_translate.specs.declared.looking.Looking.{Looking}

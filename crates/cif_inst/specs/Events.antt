@@ -9,7 +9,7 @@ use Rattle.cif_rules.specs.Constants.{types_of}
 use Rattle.cif_model.specs.Net.{NetEvent}
 use Rattle.cif_image.specs.Types.{net_channel}
 use Rattle.cif_translate.specs.Looking.{component_of}
-use Rattle.cif_inst.specs.Rows.{RowTree}
+use Rattle.cif_rows.specs.Rows.{RowTree}
 use Rattle.cif_inst.specs.Typing.{typed_component, IsHome}
 use Rattle.cif_inst.specs.declared.typing.Typing.{Typing}
 

@@ -1,9 +1,7 @@
-pub mod Rows
 pub mod Declarations
 pub mod Typing
 pub mod Views
 pub mod Events
-pub mod Names
 pub mod Targets
 pub mod Variables
 pub mod Equations

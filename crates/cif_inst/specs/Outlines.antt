@@ -1,19 +1,26 @@
--- Automata of a net with numbers of measures in the place of expressions, and what is told of sizes by them.
+-- Automata, exclusions and state invariants of a net with numbers of measures in the place of expressions, and what is told of sizes
+-- by them.
 use Rattle.std.specs.Prelude.{◌≡◌, ℕ, suc, ◌+◌, ◌≤◌, nat_lt, true, ◌||◌, List, [], ◌∷◌, length, sum_by, None, if◌then◌else◌}
-use Rattle.cif_term.specs.Tree.{net_expr, n_alg, no_net_updates}
-use Rattle.cif_model.specs.Net.{NetEdge, NetAuto, NetEvent}
+use Rattle.cif_term.specs.Tree.{NetExpr, net_expr, n_alg, no_net_updates}
+use Rattle.cif_model.specs.Net.{NetEdge, NetAuto, NetEvent, NetExclusion, NetInvariant}
 use Rattle.cif_model.specs.Counts.{no_form, most_nodes, most_depth}
 use Rattle.cif_measure.specs.Meanings.{stopped_measure, table_measure}
 use Rattle.cif_measure.specs.Sizes.{table_counted}
 use Rattle.cif_measure.specs.declared.measures.Measure.{Measure}
 use Rattle.cif_net.specs.View.{role_of as net_role}
 use Rattle.cif_alg.specs.Tallies.{counted}
+use Rattle.cif_predicates.specs.declared.weights.Excluded.{Excluded}
+use Rattle.cif_predicates.specs.declared.weights.Weights.{Weights}
 use Rattle.cif_inst.specs.declared.alphabets.Alphabet.{Alphabet}
 use Rattle.cif_inst.specs.declared.used.Used.{Used}
 use Rattle.cif_inst.specs.declared.error.InstErr.{InstErr}
 use Rattle.cif_inst.specs.declared.error.InstErr.TheVariants.{AlphabetLacks, RoleMixed, TooManyObjects, ConstantRange, TooLarge, Memory}
 
 -- ---- outlines
+
+-- the algebraic variable j
+abbrev pub outline_expr : ℕ → NetExpr
+outline_expr j = net_expr (n_alg j) 0
 
 -- an edge for a use of an event, whose guard is the algebraic variable j
 abbrev pub outline_edge : (j : ℕ) → Used → NetEdge
@@ -22,7 +29,7 @@ outline_edge j u = record {
   role = net_role u.role;
   from = 0;
   to = 0;
-  guard = net_expr (n_alg j) 0;
+  guard = outline_expr j;
   sent = None;
   updates = no_net_updates;
   places = [];
@@ -40,7 +47,21 @@ abbrev pub outlines : (j : ℕ) → List Alphabet → List NetAuto
 outlines j [] = []
 outlines j (a ∷ rest) = outline j a ∷ outlines (j + length a.used) rest
 
+-- with the numbers from j on
+abbrev pub outline_exclusions : (j : ℕ) → List Excluded → List NetExclusion
+outline_exclusions j [] = []
+outline_exclusions j (x ∷ xs) = record { event = x.event; pred = outline_expr j; allows = true } ∷ outline_exclusions (j + 1) xs
+
+abbrev pub outline_invariants : (j : ℕ) → List Measure → List NetInvariant
+outline_invariants j [] = []
+outline_invariants j (m ∷ ms) = record { pred = outline_expr j; at = 0 } ∷ outline_invariants (j + 1) ms
+
 -- ---- sizes
+
+-- the nodes of a net with these alphabets and predicates, whose measures are those of the exclusions, the state invariants and the edges
+abbrev pub outlined_nodes : List Alphabet → List NetEvent → Weights → List Measure → ℕ
+outlined_nodes all events w ms = counted (table_measure ms) (outlines (length w.exclusions + length w.invariants) all) (outline_exclusions 0 w.exclusions)
+    (outline_invariants (length w.exclusions) w.invariants) events
 
 abbrev pub together : List Measure → Measure
 together ms = table_counted (stopped_measure no_form) ms
@@ -58,11 +79,11 @@ pub record AreMade (ms : List Measure) : Type 0 where
   pub few : sum_by weight ms ≤ most_forms
 
 -- the nodes of the outlines and the greatest depth, of which one is past its limit; or that memory ran out
-abbrev pub tells_size : List Alphabet → List NetEvent → List Measure → InstErr → Type 0
-tells_size all events ms (TooLarge nodes depth) = (nodes ≡ counted (table_measure ms) (outlines 0 all) [] events) × (depth ≡ (together ms).depth)
+abbrev pub tells_size : List Alphabet → List NetEvent → Weights → List Measure → InstErr → Type 0
+tells_size all events w ms (TooLarge nodes depth) = (nodes ≡ outlined_nodes all events w ms) × (depth ≡ (together ms).depth)
     × ((nat_lt most_nodes nodes || nat_lt most_depth depth) ≡ true)
-tells_size all events ms (AlphabetLacks at) = ⊥
-tells_size all events ms (RoleMixed at) = ⊥
-tells_size all events ms (TooManyObjects count) = ⊥
-tells_size all events ms (ConstantRange at) = ⊥
-tells_size all events ms Memory = Unit {0}
+tells_size all events w ms (AlphabetLacks at) = ⊥
+tells_size all events w ms (RoleMixed at) = ⊥
+tells_size all events w ms (TooManyObjects count) = ⊥
+tells_size all events w ms (ConstantRange at) = ⊥
+tells_size all events w ms Memory = Unit {0}

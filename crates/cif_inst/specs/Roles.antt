@@ -6,7 +6,7 @@ use Rattle.cif_system.specs.System.{sending, receiving}
 use Rattle.cif_model.specs.Facts.{has}
 use Rattle.cif_translate.specs.Looking.{source_for}
 use Rattle.cif_translate.specs.declared.looking.Looking.{Looking}
-use Rattle.cif_inst.specs.Rows.{body_number}
+use Rattle.cif_rows.specs.Rows.{body_number}
 use Rattle.cif_inst.specs.Marks.{marked, is_marked}
 use Rattle.cif_inst.specs.Alphabets.{events_as}
 use Rattle.cif_inst.specs.BodyNames.{all_places}

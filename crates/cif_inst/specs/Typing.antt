@@ -8,7 +8,7 @@ use Rattle.cif_rules.specs.Constants.{types_of}
 use Rattle.cif_constants.specs.Typed.{IsTyped}
 use Rattle.cif_translate.specs.Looking.{component_of, source_for, AreNamesOf}
 use Rattle.cif_inst.specs.Declarations.{DatumTree}
-use Rattle.cif_inst.specs.Rows.{body_number}
+use Rattle.cif_rows.specs.Rows.{body_number}
 use Rattle.cif_inst.specs.declared.typing.Typing.{Typing}
 
 -- the source whose types they are

@@ -11,7 +11,7 @@ use Rattle.cif_image.specs.Types.{net_type}
 use Rattle.cif_values.specs.Types.{typed_value}
 use Rattle.cif_translate.specs.Looking.{component_of}
 use Rattle.cif_inst.specs.Declarations.{DatumTree, rows_data}
-use Rattle.cif_inst.specs.Rows.{RowTree}
+use Rattle.cif_rows.specs.Rows.{RowTree}
 use Rattle.cif_inst.specs.declared.declarations.Sort.{Sort}
 use Rattle.cif_inst.specs.Typing.{typed_component, HasType}
 use Rattle.cif_inst.specs.declared.typing.Typing.{Typing}

@@ -2,7 +2,6 @@
 use Rattle.cif_system.specs.System.{Role, syncing, sending, receiving}
 use Rattle.cif_source.specs.Source.{RoleTree, type_tree, channel_tree}
 use Rattle.cif_source.specs.Step.{role_of}
-use Rattle.cif_scope.specs.Written.{inside_of}
 use Rattle.cif_values.specs.Types.{given_tree}
 use Rattle.cif_ast.specs.declared.declarations.Class.{Class as SourceClass}
 use Rattle.cif_ast.specs.declared.declarations.Class.TheVariants as source_class
@@ -12,13 +11,8 @@ use Rattle.cif_net.specs.declared.automata.NetRole.{NetRole}
 use Rattle.cif_net.specs.declared.automata.NetRole.TheVariants as role
 use Rattle.cif_inst.specs.Declarations.{DatumTree}
 use Rattle.cif_inst.specs.Events.{EventTree}
-use Rattle.cif_inst.specs.Rows.{RowTree}
 use Rattle.cif_inst.specs.declared.declarations.Datum.{Datum}
 use Rattle.cif_inst.specs.declared.events.EventDatum.{EventDatum}
-use Rattle.cif_inst.specs.declared.rows.Row.{Row}
-
-abbrev pub row_tree : Row → RowTree
-row_tree r = (r.prefix, inside_of r.inside)
 
 abbrev pub datum_tree : Datum → DatumTree
 datum_tree d = record { component = d.component; prefix = d.prefix.now; name = d.name.now; type_of = type_tree d.ty.now; value = given_tree d.value }

@@ -9,15 +9,15 @@ ghost use Rattle.cif_net.specs.View.{auto_tree};
 ghost use Rattle.cif_translate.specs.Looking.{AreNamesOf, source_for};
 ghost use Rattle.cif_inst.specs.Autos as autos;
 ghost use Rattle.cif_inst.specs.Alphabets.{automaton_alphabet, rows_alphabets};
-ghost use Rattle.cif_inst.specs.Rows.{rows_of};
-ghost use Rattle.cif_inst.specs.Views.{row_tree};
+ghost use Rattle.cif_rows.specs.Rows.{rows_of};
+ghost use Rattle.cif_rows.specs.Views.{row_tree};
 
 use crate::alphabets::Alphabet;
 use crate::edges::all_edges;
-use crate::rows::Row;
 use cif_ast::{AutoBody, Loc};
 use cif_base::{Items, Memory, Text};
 use cif_net::Auto;
+use cif_rows::Row;
 use cif_scope::{Inside, number};
 use cif_translate::Looking;
 use std::alloc::Global;

@@ -5,15 +5,15 @@ ghost use Rattle.std.specs.Prelude.{◌≡◌, ◌<◌, map, length};
 ghost use Rattle.cif_source.specs.Objects.{components_of};
 ghost use Rattle.cif_translate.specs.Looking.{AreNamesOf, source_for};
 ghost use Rattle.cif_sizes.specs.Arguments.{AreArgumentMeasures};
-ghost use Rattle.cif_inst.specs.Rows.{rows_of};
-ghost use Rattle.cif_inst.specs.Views.{row_tree};
+ghost use Rattle.cif_rows.specs.Rows.{rows_of};
+ghost use Rattle.cif_rows.specs.Views.{row_tree};
 
 use crate::algebraic::own_value;
 use crate::declarations::{Datum, Sort, add_row};
 use crate::equations::{Defined, Equations, equations_of};
-use crate::rows::Row;
 use cif_base::{Items, Memory, Text};
 use cif_measure::Measure;
+use cif_rows::Row;
 use cif_scope::number;
 use cif_sizes::value_measure;
 use cif_translate::Looking;

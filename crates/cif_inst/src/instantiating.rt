@@ -1,6 +1,6 @@
 //! Making the net of a source.
 
-ghost use Rattle.std.specs.Prelude.{◌≡◌, ℕ, true, map, IfOk};
+ghost use Rattle.std.specs.Prelude.{◌≡◌, ℕ, map, IfOk};
 ghost use Rattle.std.specs.Result.{IfErr};
 ghost use Rattle.cif_ast.specs.Countable.{IsCountable};
 ghost use Rattle.cif_ast.specs.SmallNumbers.{HasSmallNumbers};
@@ -10,15 +10,14 @@ ghost use Rattle.cif_scope.specs.Scopes.{AreScopesOf};
 ghost use Rattle.cif_constants.specs.Constants.{HasValues};
 ghost use Rattle.cif_types.specs.Kinds.{KeepsKinds, AreKindsOf};
 ghost use Rattle.cif_net.specs.View.{net_tree, event_tree};
-ghost use Rattle.cif_built.specs.Built.{is_built};
 ghost use Rattle.cif_image.specs.Represents.{Represents};
 ghost use Rattle.cif_translate.specs.Looking.{AreNamesOf, source_for};
 ghost use Rattle.cif_inst.specs.Alphabets.{rows_alphabets};
 ghost use Rattle.cif_inst.specs.Events as events_by;
 ghost use Rattle.cif_inst.specs.Net.{due, KeepsInstances};
-ghost use Rattle.cif_inst.specs.Rows.{rows_of};
+ghost use Rattle.cif_rows.specs.Rows.{rows_of};
 ghost use Rattle.cif_inst.specs.Typing.{AreTypesOf, typed_source};
-ghost use Rattle.cif_inst.specs.Views.{row_tree};
+ghost use Rattle.cif_rows.specs.Views.{row_tree};
 
 use crate::alphabets::{Alphabet, all_alphabets};
 use crate::autos::all_autos;
@@ -28,7 +27,6 @@ use crate::events::all_events;
 use crate::measures::all_measures;
 use crate::objects::objects_of;
 use crate::roles::check_roles;
-use crate::rows::{Row, all_rows};
 use crate::sizes::{check_made, check_sizes};
 use crate::typing::Typing;
 use cif_alg::outlines_have_the_nodes_of_their_net;
@@ -40,6 +38,8 @@ use cif_net::{Event, Net};
 use cif_nets::{nets_of_sources_are_nets, nets_represent_their_sources};
 use cif_numbers::number_objects;
 use cif_parameters::parameters;
+use cif_predicates::{predicate_weights, predicates_of};
+use cif_rows::{Row, all_rows};
 use cif_scope::Scopes;
 use cif_sizes::argument_measures;
 use cif_small::{counted_trees_have_small_parts, trees_have_small_arguments};
@@ -58,7 +58,6 @@ fn alphabets_of(
 ) -> Result<Items<Alphabet>, InstErr>
     requires names { AreNamesOf looking.now }
     requires kinds { KeepsKinds (source_for looking.now) }
-    requires forms { is_built (source_for looking.now) ≡ true }
     requires countable { IsCountable looking.now.spec.now }
     requires small { HasSmallNumbers looking.now.spec.now }
     requires few { (count : ℕ) → TooManyObjectsDue (source_for looking.now) count → ⊥ }
@@ -73,9 +72,11 @@ fn alphabets_of(
     let alphabets = all_alphabets(alloc, looking, rows, total.events as usize)?;
     check_roles(alloc, looking, alphabets.as_slice(), total.events as usize)?;
     let arguments = argument_measures(alloc, looking)?;
-    let measures = all_measures(alloc, looking, arguments.as_slice(), rows)?;
+    let given = arguments.as_slice();
+    let predicates = predicate_weights(alloc, looking, given, rows)?;
+    let measures = all_measures(alloc, looking, given, &predicates, rows)?;
     if total.algs > 0 {
-        let definitions = definition_measures(alloc, looking, arguments.as_slice(), rows)?;
+        let definitions = definition_measures(alloc, looking, given, rows)?;
         check_made(looking.given, measures.as_slice(), definitions.as_slice())?;
         return Ok(alphabets);
     }
@@ -83,7 +84,13 @@ fn alphabets_of(
     trees_have_small_arguments();
     nets_of_sources_are_nets();
     outlines_have_the_nodes_of_their_net();
-    check_sizes(alloc, alphabets.as_slice(), events, measures.as_slice())?;
+    check_sizes(
+        alloc,
+        alphabets.as_slice(),
+        events,
+        &predicates,
+        measures.as_slice(),
+    )?;
     Ok(alphabets)
 }
 
@@ -91,7 +98,6 @@ fn alphabets_of(
 fn made_net(alloc: Global, typing: &Typing) -> Result<Net, InstErr>
     requires types { AreTypesOf typing.now }
     requires kinds { KeepsKinds (typed_source typing.now) }
-    requires forms { is_built (typed_source typing.now) ≡ true }
     requires countable { IsCountable typing.now.looking.now.spec.now }
     requires small { HasSmallNumbers typing.now.looking.now.spec.now }
     requires few { (count : ℕ) → TooManyObjectsDue (typed_source typing.now) count → ⊥ }
@@ -107,6 +113,7 @@ fn made_net(alloc: Global, typing: &Typing) -> Result<Net, InstErr>
     let alphabets = alphabets_of(alloc, looking, rows, events.as_slice())?;
     let autos = all_autos(alloc, looking, rows, alphabets.as_slice())?;
     let objects = objects_of(alloc, typing, rows)?;
+    let predicates = predicates_of(alloc, looking, rows)?;
     counted_trees_have_small_parts();
     trees_have_small_arguments();
     nets_of_sources_are_nets();
@@ -117,8 +124,8 @@ fn made_net(alloc: Global, typing: &Typing) -> Result<Net, InstErr>
         inputs: objects.inputs,
         vars: objects.vars,
         algs: objects.algs,
-        exclusions: Items::new(alloc),
-        invariants: Items::new(alloc),
+        exclusions: predicates.exclusions,
+        invariants: predicates.invariants,
     })
 }
 
@@ -126,7 +133,6 @@ fn made_net(alloc: Global, typing: &Typing) -> Result<Net, InstErr>
 fn net_of(alloc: Global, looking: &Looking<'_, '_>, constants: &Constants) -> Result<Net, InstErr>
     requires names { AreNamesOf looking.now }
     requires kinds { KeepsKinds (source_for looking.now) }
-    requires forms { is_built (source_for looking.now) ≡ true }
     requires countable { IsCountable looking.now.spec.now }
     requires small { HasSmallNumbers looking.now.spec.now }
     requires few { (count : ℕ) → TooManyObjectsDue (source_for looking.now) count → ⊥ }
@@ -150,7 +156,7 @@ fn net_of(alloc: Global, looking: &Looking<'_, '_>, constants: &Constants) -> Re
     made_net(alloc, &typing)
 }
 
-/// The net of a source of the forms that are built so far, or the rule on instances that it breaks.
+/// The net of a source, or the rule on instances that it breaks.
 pub fn instantiate(
     alloc: Global,
     spec: &Spec,
@@ -161,7 +167,6 @@ pub fn instantiate(
     requires small { HasSmallNumbers spec.now }
     requires scopes { AreScopesOf (source_of spec.now) scopes.now }
     requires kinds { AreKindsOf (source_of spec.now) kinds.now }
-    requires forms { is_built (source_of spec.now) ≡ true }
     ensures represents { IfOk result (λ n. Represents (net_tree n) (source_of spec.now)) }
     ensures none { IfOk result (λ n. KeepsInstances (source_of spec.now)) }
     ensures refused { IfErr result (λ e. due (source_of spec.now) e) }

@@ -19,7 +19,6 @@ mod measures;
 mod objects;
 mod outlines;
 mod roles;
-mod rows;
 mod sizes;
 mod targets;
 mod typing;

@@ -1,4 +1,4 @@
-//! What the edges of all automata weigh in the net, before any of their expressions is made.
+//! What the exclusions, the state invariants and the edges of all automata weigh in the net, before any of their expressions is made.
 
 ghost use Rattle.std.specs.Prelude.{◌≡◌, ◌<◌, ◌++◌, map, flat_map, length, IfOk, OnOk};
 ghost use Rattle.cif_source.specs.Objects.{components_of};
@@ -7,13 +7,14 @@ ghost use Rattle.cif_scope.specs.Written.{inside_of};
 ghost use Rattle.cif_translate.specs.Looking.{AreNamesOf, source_for};
 ghost use Rattle.cif_sizes.specs.Arguments.{AreArgumentMeasures};
 ghost use Rattle.cif_inst.specs.Measures as measures;
-ghost use Rattle.cif_inst.specs.Rows.{rows_of};
-ghost use Rattle.cif_inst.specs.Views.{row_tree};
+ghost use Rattle.cif_rows.specs.Rows.{rows_of};
+ghost use Rattle.cif_rows.specs.Views.{row_tree};
 
-use crate::rows::Row;
 use cif_ast::{Edge, Loc};
 use cif_base::{Items, Memory};
 use cif_measure::Measure;
+use cif_predicates::{Excluded, Weights};
+use cif_rows::Row;
 use cif_scope::{Inside, number};
 use cif_sizes::{edge_measure, use_measure};
 use cif_translate::Looking;
@@ -98,20 +99,33 @@ fn add_row(
     }
 }
 
-/// The measures of the edges of these components, an edge for each use of an event, in the order of the net, by the measures of
-/// arguments. The time is linear in the source, however large the net is.
+/// The measures of exclusions, in their order.
+fn exclusion_measures(alloc: Global, excluded: &[Excluded]) -> Result<Items<Measure>, Memory>
+    ensures { IfOk result (λ all. all ≡ map measures.measure_of excluded.now) }
+{
+    let mut all = Items::new(alloc);
+    for one in excluded {
+        all.push(one.measure)?;
+    }
+    Ok(all)
+}
+
+/// The measures of the exclusions, of the state invariants and of the edges of these components, an edge for each use of an event, in
+/// the order of the net, by the measures of arguments. The time is linear in the source, however large the net is.
 pub fn all_measures(
     alloc: Global,
     looking: &Looking<'_, '_>,
     arguments: &[Items<Measure>],
+    predicates: &Weights,
     rows: &[Row],
 ) -> Result<Items<Measure>, Memory>
     requires names { AreNamesOf looking.now }
     requires arguments { AreArgumentMeasures looking.now arguments.now }
     requires rows { map row_tree rows.now ≡ rows_of (source_for looking.now) }
-    ensures { IfOk result (λ all. all ≡ measures.rows_weights looking.now 0 (map row_tree rows.now)) }
+    ensures { IfOk result (λ all. all ≡ measures.predicate_weights predicates.now ++ measures.rows_weights looking.now 0 (map row_tree rows.now)) }
 {
-    let mut all = Items::new(alloc);
+    let mut all = exclusion_measures(alloc, predicates.exclusions.as_slice())?;
+    all.append(predicates.invariants.copy(alloc)?)?;
     for (place, row) in rows.iter().enumerate() {
         add_row(looking, arguments, number(place)?, row, &mut all)?;
     }

@@ -8,12 +8,13 @@ ghost use Rattle.cif_inst.specs.Outlines as outlines;
 
 use crate::alphabets::Alphabet;
 use crate::error::InstErr;
-use crate::outlines::all_outlines;
+use crate::outlines::{all_outlines, outline_exclusions, outline_invariants};
 use cif_alg::{MOST_FORMS, choice_nodes};
 use cif_base::Memory;
 use cif_measure::{MOST_DEPTH, MOST_NODES, Measure};
 use cif_net::Event;
 use cif_parameters::Given;
+use cif_predicates::Weights;
 use cif_scope::number;
 use std::alloc::Global;
 
@@ -50,24 +51,50 @@ fn forms(measures: &[Measure]) -> u64
     found
 }
 
-/// Whether a net is small enough to be made, by the alphabets of its automata, its events and the measures of its edges. If not, its
-/// sizes are told where it breaks the rule on them. Where it doesn't, memory is said to be out, since an edge that no choice
-/// takes is too large.
+/// The nodes of the choices of a net, by the outlines of its automata, exclusions and state invariants. The count stops one past the
+/// limit.
+fn outlined_nodes(
+    alloc: Global,
+    alphabets: &[Alphabet],
+    events: &[Event],
+    predicates: &Weights,
+    measures: &[Measure],
+) -> Result<u64, Memory>
+    ensures { IfOk result (λ nodes. nodes ≡ outlines.outlined_nodes alphabets.now (map event_tree events.now) predicates.now measures.now) }
+{
+    let exclusions = outline_exclusions(alloc, predicates.exclusions.as_slice())?;
+    let count = predicates.exclusions.len();
+    let states = predicates.invariants.as_slice();
+    let invariants = outline_invariants(alloc, number(count)?, states)?;
+    let autos = all_outlines(alloc, number(count + states.len())?, alphabets)?;
+    choice_nodes(
+        alloc,
+        autos.as_slice(),
+        exclusions.as_slice(),
+        invariants.as_slice(),
+        events,
+        measures,
+    )
+}
+
+/// Whether a net is small enough to be made, by the alphabets of its automata, its events, its exclusions and state invariants, and the
+/// measures of these and of its edges. If not, its sizes are told where it breaks the rule on them. Where it doesn't, memory is
+/// said to be out, since an edge that no choice takes, or an exclusion of an event without choices, is too large.
 pub fn check_sizes(
     alloc: Global,
     alphabets: &[Alphabet],
     events: &[Event],
+    predicates: &Weights,
     measures: &[Measure],
 ) -> Result<(), InstErr>
     ensures made { IfOk result (λ done. outlines.AreMade measures.now) }
-    ensures told { IfErr result (λ e. outlines.tells_size alphabets.now (map event_tree events.now) measures.now e) }
+    ensures told { IfErr result (λ e. outlines.tells_size alphabets.now (map event_tree events.now) predicates.now measures.now e) }
 {
     let depth = together(measures).depth;
     if depth <= MOST_DEPTH && forms(measures) <= MOST_FORMS {
         return Ok(());
     }
-    let outlines = all_outlines(alloc, alphabets)?;
-    let nodes = choice_nodes(alloc, outlines.as_slice(), &[], events, measures)?;
+    let nodes = outlined_nodes(alloc, alphabets, events, predicates, measures)?;
     if nodes > MOST_NODES || depth > MOST_DEPTH {
         return Err(InstErr::TooLarge {
             nodes: number(nodes as usize)?,
@@ -100,15 +127,16 @@ fn is_made(measures: &[Measure], is_flat: bool) -> bool {
     (is_low || is_flat) && forms(measures) <= MOST_FORMS
 }
 
-/// Whether a net with algebraic variables is small enough to be made, by the measures of its edges and of the definitions of algebraic
-/// variables, and by the arguments of its components. Otherwise memory is said to be out: its sizes are told of a net that is made.
+/// Whether a net with algebraic variables is small enough to be made, by the measures of its exclusions, state invariants and edges and
+/// those of the definitions of algebraic variables, and by the arguments of its components. Otherwise memory is said to be out: its
+/// sizes are told of a net that is made.
 pub fn check_made(
     given: &[Vec<Given<'_>>],
-    edges: &[Measure],
+    measures: &[Measure],
     definitions: &[Measure],
 ) -> Result<(), Memory> {
     let is_flat = has_few_arguments(given);
-    if is_made(edges, is_flat) && is_made(definitions, is_flat) {
+    if is_made(measures, is_flat) && is_made(definitions, is_flat) {
         Ok(())
     } else {
         Err(Memory)

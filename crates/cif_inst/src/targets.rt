@@ -3,8 +3,8 @@
 ghost use Rattle.std.specs.Prelude.{◌≡◌};
 ghost use Rattle.cif_inst.specs.Targets.{target_place};
 
-use crate::rows::body_number;
 use cif_ast::Ident;
+use cif_rows::body_number;
 use cif_scope::What;
 use cif_translate::Looking;
 

@@ -7,9 +7,9 @@ ghost use Rattle.cif_inst.specs.Views.{datum_tree};
 ghost use Rattle.cif_values.specs.Types.{net_type_of};
 
 use crate::declarations::Datum;
-use crate::rows::body_number;
 use cif_base::{Memory, Text};
 use cif_constants::Types;
+use cif_rows::body_number;
 use cif_translate::Looking;
 use cif_values::{NetTy, type_of};
 use std::alloc::Global;

@@ -2,7 +2,7 @@
 -- automaton.
 use Rattle.std.proofs.Common.{◌≡◌, Bool, true, false, inl, inr, List, [], ◌∷◌, length, map, Option, Some, None, refl, sym, ◌∙◌, ap, subst, arith}
 use Rattle.std.specs.Prelude.{◌&&◌, nat_eq, nat_lt, slice_get, filter_map, if◌then◌else◌}
-use Rattle.std.specs.List.{cons_option, list_all}
+use Rattle.std.specs.List.{list_all}
 use Rattle.std.specs.Option.{option_to_list}
 use Rattle.std.specs.Cmp.Lexicographic as words
 use Rattle.cif_ast.specs.Tree.{Tree}
@@ -20,7 +20,7 @@ use Rattle.cif_model.specs.Facts.{is_type, literals_fit, alg_stands}
 use Rattle.cif_source.specs.Source.{Text, TypeTree, EquationTree, LocationTree, DeclTree, type_decl, enum_decl, event_decl, const_decl, alg_decl, input_decl, disc_decl, equation_decl, invariant_decl, marked_decl, Source}
 use Rattle.cif_source.specs.Components.{Component, as_written, specification_of, same_text}
 use Rattle.cif_source.specs.Lookup.{at_entry, in_scope}
-use Rattle.cif_source.specs.Objects.{components_of, decls_in, decls_of, locs_in, locs_of, automaton_number}
+use Rattle.cif_source.specs.Objects.{components_of, decls_of, locs_in, locs_of, automaton_number}
 use Rattle.cif_source.specs.Value.{equation_for, decl_equation_for, own_definitions, location_definitions}
 use Rattle.cif_rules.specs.Kinds.{no_kind, type_kind, kind_at, kind_of, demand}
 use Rattle.cif_rules.specs.Demands.{asked_for, equation_demands}
@@ -36,26 +36,14 @@ use Rattle.cif_fits.proofs.SoundLaws as fits
 use Rattle.cif_fits.proofs.ExprLaws.{is_valued, kind-told}
 use Rattle.cif_fits.proofs.TypeLaws.{written}
 use Rattle.cif_fits.proofs.NameLaws.{automaton-at}
-use Rattle.cif_nets.proofs.Sound.{IsSound, as-body, scopes, defined}
-use Rattle.cif_nets.proofs.Tests.{both, lt-true, eq-true}
+use Rattle.cif_nets.proofs.Sound.{IsSound, decl-written, as-body, scopes, defined}
+use Rattle.cif_nets.proofs.Tests.{both, lt-true, eq-true, kept-from}
 use Rattle.cif_nets.proofs.Defined.{located-once, some-automaton}
 use Rattle.cif_nets.proofs.Demanded.{met-left, decl-met, equation-met}
 use Rattle.cif_nets.proofs.Updates.{KeepKinds}
 use Rattle.cif_nets.proofs.Types.{type-stands}
 
 -- ---- lists
-
--- what is kept of a list comes from an element of it
-kept-from : {A B : Type 0} (f : A → Option B) (y : B) (xs : List A) → Member y (filter_map f xs) → (x : A) × Member x xs × (f x ≡ Some y)
-kept-from f y [] m = absurd m
-kept-from {A} f y (x ∷ xs) m =
-    (elim (f x) as (λ o. f x ≡ o → Member y (cons_option o (filter_map f xs)) → (z : A) × Member z (x ∷ xs) × (f z ≡ Some y)) [
-      | None ↦ λ e k. let r = kept-from f y xs k in (r.0, inr r.1, r.2)
-      | Some w ↦ λ e k. elim k [
-        | inl g ↦ (x, inl refl, e ∙ ap Some (sym g))
-        | inr g ↦ let r = kept-from f y xs g in (r.0, inr r.1, r.2)
-      ]
-    ]) refl m
 
 only-one : {A : Type 0} (o : Option A) (x : A) → Member x (option_to_list o) → o ≡ Some x
 only-one None x m = absurd m
@@ -83,10 +71,7 @@ decl-equation-told x (invariant_decl i) e h = absurd (none-some e h)
 decl-equation-told x (marked_decl p) e h = absurd (none-some e h)
 
 module _ (t : Source) (h : IsSound t) (s : fits.IsSound t) (small : HasSmallParts t) (kept : KeepKinds t) (c : Component) (m : Member c (components_of t)) where
-  -- what stands in a component stands in it as written
-  decl-written : (d : DeclTree) → Member d (decls_of c) → Member d (decls_of (as_written c))
-  decl-written d k = subst (λ b. Member d (decls_in b)) (sym (body-written c)) k
-
+  -- a location of a component stands in it as written
   location-written : (l : LocationTree) → Member l (locs_of c) → Member l (locs_of (as_written c))
   location-written l k = subst (λ b. Member l (locs_in b)) (sym (body-written c)) k
 
@@ -123,7 +108,7 @@ module _ (t : Source) (h : IsSound t) (s : fits.IsSound t) (small : HasSmallPart
     declared-fits d is =
         let there : Member (alg_decl x n (Some d)) (decls_of c) = subst (λ v. Member (alg_decl x n v) (decls_of c)) is k in
         kind-fits d (met-left c (asked_for c (type_kind c x) d) [] (decl-met t h c m (alg_decl x n (Some d)) there))
-        (small.declared (as_written c) (as-body t h c m) x n d (decl-written (alg_decl x n (Some d)) there))
+        (small.declared (as_written c) (as-body t h c m) x n d (decl-written c (alg_decl x n (Some d)) there))
 
     own-fits : (d : Tree) → Member d (own_definitions c n.text e) → Fits d
     own-fits d i =
@@ -133,7 +118,7 @@ module _ (t : Source) (h : IsSound t) (s : fits.IsSound t) (small : HasSmallPart
               let y = kept-from (decl_equation_for n.text) d (decls_of c) w in
               let q = decl-equation-told n.text y.0 d y.2 in
               let there : Member (equation_decl q.0) (decls_of c) = subst (λ z. Member z (decls_of c)) q.1 y.1 in
-              equation-fits q.0 d q.2 (decl-met t h c m (equation_decl q.0) there) (small.equations (as_written c) (as-body t h c m) q.0 (decl-written (equation_decl q.0) there))
+              equation-fits q.0 d q.2 (decl-met t h c m (equation_decl q.0) there) (small.equations (as_written c) (as-body t h c m) q.0 (decl-written c (equation_decl q.0) there))
         ]
 
     located-fits : (l : LocationTree) → Member l (locs_of c) → (d : Tree) → Member d (location_definitions n.text l) → Fits d

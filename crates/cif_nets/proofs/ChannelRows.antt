@@ -13,7 +13,7 @@ use Rattle.cif_model.specs.Meaning.{system_of_net}
 use Rattle.cif_source.specs.Components.{Component, whole, copy}
 use Rattle.cif_source.specs.Objects.{automata}
 use Rattle.cif_source.proofs.Terms.{word, single}
-use Rattle.cif_built.proofs.Trees.{signal, delivering, s_params, s_body, s_item, r_params, r_body, r_item}
+use Rattle.cif_nets.proofs.Trees.{signal, delivering, s_params, s_body, s_item, r_params, r_body, r_item}
 use Rattle.cif_image.specs.Flat.{net_of_source, event_number}
 use Rattle.cif_image.specs.Represents.{Represents}
 use Rattle.cif_image.proofs.RepresentsLaws.{apart-differ, all-found, net-represents}

@@ -14,9 +14,12 @@ pub mod Updates
 pub mod Channels
 pub mod Roles
 pub mod Defined
+pub mod Predicates
 pub mod Algebra
 pub mod Distinct
 pub mod Apart
 pub mod Net
+pub mod Trees
 pub mod Rows
 pub mod ChannelRows
+pub mod PredicateRows

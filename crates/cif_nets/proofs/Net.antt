@@ -7,10 +7,9 @@ use Rattle.cif_ast.specs.declared.names.Name.{Name}
 use Rattle.cif_system.specs.Words.{Member}
 use Rattle.cif_system.proofs.Lists.{false-true, filter-within, filter-passes, map-length}
 use Rattle.cif_system.proofs.Picks.{flat_map-member}
-use Rattle.cif_system.proofs.Distinct.{member-map}
+use Rattle.cif_system.proofs.Distinct.{member-map, member-flat_map}
 use Rattle.cif_term.specs.Tree.{NetExpr}
 use Rattle.cif_model.specs.Kinds.{bool_kind, fits}
-use Rattle.cif_model.specs.Net.{Net}
 use Rattle.cif_model.specs.Exprs.{Written, writes_all, edge_values}
 use Rattle.cif_model.specs.Facts.{is_net, things, event_stands, stored_stands, auto_stands, alg_stands, exclusion_stands, invariant_stands, channel_of, received_type, role_stands, is_one_role, edge_stands, updates_stand, are_below, has, auto_targets, are_all_apart}
 use Rattle.cif_source.specs.Source.{tree_at, EdgeTree, DeclTree, type_decl, enum_decl, event_decl, const_decl, alg_decl, input_decl, disc_decl, equation_decl, invariant_decl, marked_decl, SourceBody, group_body, automaton_body, AutomatonTree, Source}
@@ -22,8 +21,7 @@ use Rattle.cif_rules.specs.BodyRules.{edges_of, targets_of_all}
 use Rattle.cif_fits.specs.Forms.{HasSmallArguments}
 use Rattle.cif_fits.proofs.SoundLaws as fits
 use Rattle.cif_fits.proofs.TypeLaws.{type-fits}
-use Rattle.cif_built.specs.Built.{is_built}
-use Rattle.cif_image.specs.Flat.{net_of_source, net_auto, net_edge, net_event, net_stored, net_alg, event_number, location_name, alphabet_of, monitored_in, sent_tree, value_places, net_updates_of, variable_number}
+use Rattle.cif_image.specs.Flat.{net_of_source, net_auto, net_edge, net_event, net_stored, net_alg, net_exclusions, net_invariants, event_number, location_name, alphabet_of, monitored_in, sent_tree, value_places, net_updates_of, variable_number}
 use Rattle.cif_image.specs.Translation.{net_of, net_guard}
 use Rattle.cif_image.specs.Small.{HasSmallParts}
 use Rattle.cif_image.specs.WellFormed.{algebraic, KeepsBefore}
@@ -32,9 +30,10 @@ use Rattle.cif_written.proofs.RuleLaws.{uses-fit}
 use Rattle.cif_nets.proofs.Sound.{edge-written, IsSound, matched, as-body}
 use Rattle.cif_nets.proofs.Forms.{automaton-home, edge-of, use-of}
 use Rattle.cif_nets.proofs.Uses.{event-used}
-use Rattle.cif_nets.proofs.Things.{net-is, things-few, declared-home}
+use Rattle.cif_nets.proofs.Things.{things-few, declared-home}
 use Rattle.cif_nets.proofs.Types.{event-stands, variable-stands, input-stands}
 use Rattle.cif_nets.proofs.Algebra.{alg-stands}
+use Rattle.cif_nets.proofs.Predicates.{exclusion-stands, invariant-stands}
 use Rattle.cif_nets.proofs.Targets.{from-small, end-small, first-small}
 use Rattle.cif_nets.proofs.Alphabets.{edge-numbered, alphabet-below, monitors-inside}
 use Rattle.cif_nets.proofs.Channels.{ChannelFits, channel-fits}
@@ -219,6 +218,17 @@ module _ (t : Source) (h : IsSound t) (s : fits.IsSound t) (small : HasSmallPart
   one-alg c m (invariant_decl i) k v = absurd (false-true refl v)
   one-alg c m (marked_decl p) k v = absurd (false-true refl v)
 
+  -- ---- exclusions and state invariants
+
+  -- what holds of each of those that a declaration becomes holds of all
+  all-made : {A : Type 0} (f : Declared → List A) (test : A → Bool) → ((c : Component) → Member c (components_of t) → (d : DeclTree) → Member d (decls_of c) → (x : A) → Member x (f (c, d)) → test x ≡ true)
+      → list_all test (flat_map f (declarations t)) ≡ true
+  all-made f test each =
+      all-from test (flat_map f (declarations t)) (λ x m.
+      let d = member-flat_map f x (declarations t) m in
+      let k = declared-home t h d.0 d.1 in
+      each d.0.0 k.0 d.0.1 k.1 x d.2)
+
   -- ---- the net
 
   sound-net : is_net (net_of_source t) ≡ true
@@ -231,13 +241,13 @@ module _ (t : Source) (h : IsSound t) (s : fits.IsSound t) (small : HasSmallPart
       (all-stand is_variable net_stored stored_stands one-variable)
       autos-stand
       (all-stand is_alg net_alg (alg_stands n) one-alg)
-      (ap (λ (x : Net). list_all (exclusion_stands n) x.exclusions) (net-is t h))
-      (ap (λ (x : Net). list_all (invariant_stands n) x.invariants) (net-is t h))
+      (all-made net_exclusions (exclusion_stands n) (exclusion-stands t h few kept.expressions))
+      (all-made net_invariants (invariant_stands n) (invariant-stands t h few kept.expressions))
       (autos-apart t h)
 
 -- the net of a source is a net, where its expressions keep their kinds
-pub net-stands : (t : Source) → is_built t ≡ true → KeepsBefore t algebraic → HasSmallParts t → HasSmallArguments t → KeepExpressions t → is_net (net_of_source t) ≡ true
-net-stands t built keeps small few kept =
-    let s : fits.IsSound t = fits.sound t built keeps small few in
-    sound-net t (record { forms = s.forms; keeps = keeps }) s small few
+pub net-stands : (t : Source) → KeepsBefore t algebraic → HasSmallParts t → HasSmallArguments t → KeepExpressions t → is_net (net_of_source t) ≡ true
+net-stands t keeps small few kept =
+    let s : fits.IsSound t = fits.sound t keeps small few in
+    sound-net t keeps s small few
     (record { types = λ c m x k v. (type-fits t s (net_of_source t) c m x k v).same; expressions = kept })

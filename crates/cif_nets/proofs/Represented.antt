@@ -7,15 +7,12 @@ use Rattle.cif_source.specs.Source.{Source}
 use Rattle.cif_source.specs.Components.{Component}
 use Rattle.cif_source.specs.Objects.{components_of, automata, EventEdge, event_edges}
 use Rattle.cif_rules.specs.BodyRules.{targets_of_all}
-use Rattle.cif_built.specs.Built.{is_built}
 use Rattle.cif_image.specs.Flat.{net_of_source}
 use Rattle.cif_image.specs.Represents.{Represents}
-use Rattle.cif_image.specs.WellFormed.{algebraic, KeepsBefore}
 use Rattle.cif_image.proofs.EdgeLaws.{is_some, names_variable, names_its_objects}
 use Rattle.cif_image.proofs.SystemLaws.{names_all}
 use Rattle.cif_image.proofs.RuleLaws.{all-from}
 use Rattle.cif_image.proofs.SingleLaws.{source-represented}
-use Rattle.cif_fits.proofs.FormLaws.{forms-of}
 use Rattle.cif_nets.proofs.Sound.{IsSound, sizes, ranges, single}
 use Rattle.cif_nets.proofs.Forms.{automaton-home, edge-of, use-of}
 use Rattle.cif_nets.proofs.Finding.{numbered, variable-denoted, variable-named}
@@ -31,8 +28,5 @@ module _ (t : Source) (h : IsSound t) where
   all-named : list_all names_all (automata t) ≡ true
   all-named = all-from names_all (automata t) (λ c m. all-from (names_its_objects c) (event_edges c) (edge-named c (automaton-home t c m)))
 
-  sound-represented : Represents (net_of_source t) t
-  sound-represented = source-represented t (sizes t h) (ranges t h) (single t h) all-named
-
-pub represented : (t : Source) → is_built t ≡ true → KeepsBefore t algebraic → Represents (net_of_source t) t
-represented t built keeps = sound-represented t (record { forms = forms-of t built; keeps = keeps })
+  pub represented : Represents (net_of_source t) t
+  represented = source-represented t (sizes t h) (ranges t h) (single t h) all-named

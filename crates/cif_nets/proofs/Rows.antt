@@ -15,7 +15,6 @@ use Rattle.cif_source.specs.Source.{int_type, range_type, no_type, syncs, event_
 use Rattle.cif_source.specs.Components.{Component, whole, part, copy}
 use Rattle.cif_source.specs.Objects.{automata}
 use Rattle.cif_source.proofs.Terms.{word, single, dotted, event_use, edge_by, place, behaviour, instance_named, source_list}
-use Rattle.cif_built.specs.Built.{is_built}
 use Rattle.cif_image.specs.Flat.{net_of_source, event_number}
 use Rattle.cif_image.specs.Translation.{net_of, net_guard}
 use Rattle.cif_image.specs.Represents.{Represents}
@@ -71,10 +70,6 @@ b = copy (whole twice) (word (codes "D") 153) d_params d_body (whole twice) b_it
 
 its_automata : automata twice ≡ a ∷ b ∷ part (whole twice) (word (codes "m") 84) moving ∷ []
 its_automata = refl
-
--- it has the forms that are built
-its_forms : is_built twice ≡ true
-its_forms = refl
 
 its_net_is_a_net : is_net (net_of_source twice) ≡ true
 its_net_is_a_net = refl

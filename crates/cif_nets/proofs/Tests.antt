@@ -1,7 +1,7 @@
 -- Tests that pass, and elements of lists.
-use Rattle.std.proofs.Common.{◌≡◌, ◌≢◌, ℕ, suc, ◌≤◌, ◌<◌, Bool, true, false, cond, inl, inr, List, [], ◌∷◌, length, refl, sym, ◌∙◌, ap, arith}
-use Rattle.std.specs.Prelude.{◌&&◌, ◌||◌, not, nat_eq, nat_le, nat_lt, filter}
-use Rattle.std.specs.List.{list_any, Contains}
+use Rattle.std.proofs.Common.{◌≡◌, ◌≢◌, ℕ, suc, ◌≤◌, ◌<◌, Bool, true, false, cond, inl, inr, List, [], ◌∷◌, length, Option, Some, None, refl, sym, ◌∙◌, ap, arith}
+use Rattle.std.specs.Prelude.{◌&&◌, ◌||◌, not, nat_eq, nat_le, nat_lt, filter, filter_map}
+use Rattle.std.specs.List.{list_any, Contains, cons_option}
 use Rattle.std.proofs.lemmas.Bool.Decides.{nat_tests}
 use Rattle.cif_system.specs.Words.{Member}
 use Rattle.cif_system.proofs.Lists.{false-true}
@@ -68,6 +68,27 @@ contained (y ∷ ys) x m =
       | inl w ↦ (0, omega arith, sym w)
       | inr w ↦ let rest = contained ys x w in (suc rest.0, omega (arith, rest.1), rest.2)
     ]
+
+-- what is kept of a list comes from an element of it
+pub kept-from : {A B : Type 0} (f : A → Option B) (y : B) (xs : List A) → Member y (filter_map f xs) → (x : A) × Member x xs × (f x ≡ Some y)
+kept-from f y [] m = absurd m
+kept-from {A} f y (x ∷ xs) m =
+    (elim (f x) as (λ o. f x ≡ o → Member y (cons_option o (filter_map f xs)) → (z : A) × Member z (x ∷ xs) × (f z ≡ Some y)) [
+      | None ↦ λ e k. let r = kept-from f y xs k in (r.0, inr r.1, r.2)
+      | Some w ↦ λ e k. elim k [
+        | inl g ↦ (x, inl refl, e ∙ ap Some (sym g))
+        | inr g ↦ let r = kept-from f y xs g in (r.0, inr r.1, r.2)
+      ]
+    ]) refl m
+
+-- and no more are kept
+pub kept-fewer : {A B : Type 0} (f : A → Option B) (xs : List A) → length (filter_map f xs) ≤ length xs
+kept-fewer f [] = omega arith
+kept-fewer f (x ∷ xs) =
+    (elim (f x) as (λ o. length (cons_option o (filter_map f xs)) ≤ suc (length xs)) [
+      | None ↦ omega (arith, kept-fewer f xs)
+      | Some y ↦ omega (arith, kept-fewer f xs)
+    ])
 
 -- ---- numbers that two lists share
 

@@ -1,4 +1,5 @@
--- The events of edges, those of alphabets and monitors, and the assigned variables are uses of their automaton.
+-- The events of edges, those of alphabets and monitors, and the assigned variables are uses of their automaton, and the events of
+-- exclusions are uses of their component.
 use Rattle.std.proofs.Common.{◌≡◌, inl, inr, [], ◌++◌, refl, sym, subst}
 use Rattle.std.specs.Prelude.{flat_map, unwrap_or}
 use Rattle.cif_ast.specs.Tree.{UpdateTree, assignment, selection, UpdateTrees, no_updates, updates, UpdateBranches, no_update_branches, update_branches}
@@ -6,10 +7,10 @@ use Rattle.cif_ast.specs.declared.names.Name.{Name}
 use Rattle.cif_system.specs.Words.{Member}
 use Rattle.cif_system.proofs.Picks.{append-left, append-right, flat_map-member, map-member}
 use Rattle.cif_system.proofs.Distinct.{member-append, member-flat_map}
-use Rattle.cif_source.specs.Source.{UseTree, EquationTree, EdgeTree, LocationTree, AutomatonTree, SourceBody, group_body, automaton_body}
+use Rattle.cif_source.specs.Source.{UseTree, EquationTree, EdgeTree, LocationTree, DeclTree, AutomatonTree, SourceItem, decl_item, component_item, definition_item, instance_item, SourceBody, group_body, automaton_body, list_of_items}
 use Rattle.cif_source.specs.Components.{Component, body_of, params_of}
-use Rattle.cif_source.specs.Objects.{locs_in, locs_of}
-use Rattle.cif_source.specs.Uses.{Use, uses, event_asked, value_asked, asking, param_uses, body_uses, decl_uses, location_uses, value_uses, edge_uses, event_uses, updates_uses, update_uses, branches_uses, names_in_all}
+use Rattle.cif_source.specs.Objects.{item_decls, decls_in, decls_of, locs_in, locs_of}
+use Rattle.cif_source.specs.Uses.{Use, uses, event_asked, value_asked, asking, param_uses, body_uses, item_uses, decl_uses, location_uses, value_uses, edge_uses, event_uses, updates_uses, update_uses, branches_uses, names_in_all}
 use Rattle.cif_rules.specs.BodyRules.{edges_of, targets_of_all, targets_of, targets_of_branches}
 use Rattle.cif_nets.proofs.Finding.{event-use, variable-use}
 
@@ -96,3 +97,23 @@ module _ (c : Component) (a : AutomatonTree) (e : body_of c ≡ automaton_body a
 
   pub monitor-used : (nm : Name) → Member nm (unwrap_or a.monitor []) → Member (event-use nm) (uses c)
   monitor-used nm m = in-body (event-use nm) (in-monitor c a nm m)
+
+-- ---- declarations
+
+item-used : (c : Component) (i : SourceItem) (d : DeclTree) → Member d (item_decls i) → (u : Use) → Member u (decl_uses d) → Member u (item_uses c i)
+item-used c (decl_item x) d m u k = elim m [ inl w ↦ subst (λ y. Member u (decl_uses y)) w k | inr w ↦ absurd w ]
+item-used c (component_item n b) d m u k = absurd m
+item-used c (definition_item n ps b) d m u k = absurd m
+item-used c (instance_item i) d m u k = absurd m
+
+in-decls : (c : Component) (b : SourceBody) (d : DeclTree) → Member d (decls_in b) → (u : Use) → Member u (decl_uses d) → Member u (body_uses c b)
+in-decls c (group_body is) d m u k =
+    let i = member-flat_map item_decls d (list_of_items is) m in
+    flat_map-member (item_uses c) i.0 (list_of_items is) u i.1 (item-used c i.0 d i.2 u k)
+in-decls c (automaton_body a) d m u k =
+    append-left u (flat_map decl_uses a.decls ++ asking event_asked (unwrap_or a.alphabet []) ++ asking event_asked (unwrap_or a.monitor [])) (flat_map location_uses a.locs)
+    (append-left u (flat_map decl_uses a.decls ++ asking event_asked (unwrap_or a.alphabet [])) (asking event_asked (unwrap_or a.monitor []))
+    (append-left u (flat_map decl_uses a.decls) (asking event_asked (unwrap_or a.alphabet [])) (flat_map-member decl_uses d a.decls u m k)))
+
+pub decl-used : (c : Component) (d : DeclTree) → Member d (decls_of c) → (u : Use) → Member u (decl_uses d) → Member u (uses c)
+decl-used c d m u k = append-right u (flat_map param_uses (params_of c)) (body_uses c (body_of c)) (in-decls c (body_of c) d m u k)

@@ -3,7 +3,6 @@
 ghost use Rattle.std.specs.Prelude.{◌≡◌, true};
 ghost use Rattle.cif_model.specs.Facts.{is_net};
 ghost use Rattle.cif_source.specs.Source.{Source};
-ghost use Rattle.cif_built.specs.Built.{is_built};
 ghost use Rattle.cif_image.specs.Flat.{net_of_source};
 ghost use Rattle.cif_image.specs.Represents.{Represents};
 ghost use Rattle.cif_image.specs.Small.{HasSmallParts};
@@ -15,10 +14,10 @@ use cif_fits::{
     sent_values_keep_their_kinds, values_of_updates_keep_their_kinds,
 };
 
-/// Where a source of the forms built so far keeps its rules, and its numbers are small, what its net names is
-/// there, each expression has its kind, and so on.
+/// Where a source keeps its rules, and its numbers are small, what its net names is there, each expression has its kind, and so
+/// on.
 pub fn nets_of_sources_are_nets()
-    ensures { (t : Source) → is_built t ≡ true → KeepsBefore t algebraic → HasSmallParts t → HasSmallArguments t →
+    ensures { (t : Source) → KeepsBefore t algebraic → HasSmallParts t → HasSmallArguments t →
         is_net (net_of_source t) ≡ true }
 {
     expressions_keep_their_kinds();
@@ -30,6 +29,5 @@ pub fn nets_of_sources_are_nets()
 
 /// Where it keeps its rules, its net has its choices, its steps and its outputs.
 pub fn nets_represent_their_sources()
-    ensures { (t : Source) → is_built t ≡ true → KeepsBefore t algebraic →
-        Represents (net_of_source t) t }
+    ensures { (t : Source) → KeepsBefore t algebraic → Represents (net_of_source t) t }
 {}

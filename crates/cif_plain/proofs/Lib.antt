@@ -16,3 +16,5 @@ pub mod Ranging
 pub mod Cleared
 pub mod Plain
 pub mod Faced
+pub mod Reading
+pub mod Keeping

@@ -59,7 +59,7 @@ module _ (n p : Net) (s : Settled n p) where
       ∙ solved.step-same (pos 0) (ev t (pos 0)) (def t (pos 0)) (λ g h. refl) (λ g k. refl) (def-after t (pos 0)) n p s (λ g b i. def-value t (pos 0) g (alg_replaced s.by b)) (pred (length n.algs)) k.0 a k.1
       (below-pred (s.rank k.0) (length n.algs) (length n.algs) (s.bounded k.0 (slice_get-below n.algs k.0 a k.1)) refl)
 
-  true-same : (t : State) (e : NetExpr) → true_in q t (replaced s.by e) ≡ true_in n t e
+  pub true-same : (t : State) (e : NetExpr) → true_in q t (replaced s.by e) ≡ true_in n t e
   true-same t e = ap is_true (value-same t (pos 0) e)
 
   sent-same : (t : State) (o : Option NetExpr) → option_map (value_in q t (pos 0)) (option_map (replaced s.by) o) ≡ option_map (value_in n t (pos 0)) o

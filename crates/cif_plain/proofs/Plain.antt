@@ -1,5 +1,5 @@
--- A net in which algebraic variables are replaced by their definitions is plain, where the net without state invariants
--- divides by no 0, stays in 64 bits and is not too large.
+-- In a net in which algebraic variables are replaced by their definitions expressions are plain, where those of the net divide
+-- by no 0 and stay in 64 bits.
 use Rattle.std.proofs.Common.{◌≡◌, Bool, true, false, not, ◌&&◌, List, [], ◌∷◌, ◌++◌, map, inl, inr, refl, ◌∙◌, ap}
 use Rattle.std.specs.Prelude.{flat_map}
 use Rattle.std.specs.List.{list_all}
@@ -31,10 +31,9 @@ pass-map : {A B : Type 0} (f : A → B) (u : B → Bool) (xs : List A) → ((x :
 pass-map f u [] h = refl
 pass-map f u (x ∷ xs) h = and-both _ _ (h x (inl refl)) (pass-map f u xs (λ y m. h y (inr m)))
 
-module _ (n p : Net) (net : is_net n ≡ true) (none : n.invariants ≡ []) (s : Settled n p)
+module _ (n p : Net) (net : is_net n ≡ true) (s : Settled n p)
     (divide : list_all (λ (x : Evaluated). divides (declared_ranges n x.received) x.value) (evaluated n) ≡ true)
-    (narrow : list_all (λ (x : Evaluated). is_narrow_expr (declared_ranges n x.received) x.value) (evaluated n) ≡ true)
-    (small : is_too_large n ≡ false) where
+    (narrow : list_all (λ (x : Evaluated). is_narrow_expr (declared_ranges n x.received) x.value) (evaluated n) ≡ true) where
   abbrev q : Net
   q = net_replaced s.by n
 
@@ -64,16 +63,25 @@ module _ (n p : Net) (net : is_net n ≡ true) (none : n.invariants ≡ []) (s :
       (ap (λ g. divides g (replaced s.by x.value)) same ∙ all-more (is_clean (declared_ranges n x.received)) (part_divides (declared_ranges n x.received)) (λ e t. and-left _ _ t) (parts (replaced s.by x.value)) c))
       (ap (λ g. is_narrow_expr g (replaced s.by x.value)) same ∙ all-more (is_clean (declared_ranges n x.received)) (λ e. is_narrow (range_of (declared_ranges n x.received) e)) (λ e t. and-right _ _ t) (parts (replaced s.by x.value)) c)
 
-  replaced-plain : is_plain q ≡ true
-  replaced-plain =
-      and-both _ _
-      (and-both _ _
-      (and-both _ _ (net-stands n p net s) (ap (list_all (is_plain_expr q)) (evaluated-written s.by n) ∙ pass-map (evaluated_replaced s.by n) (is_plain_expr q) (evaluated n) expr-plain))
-      (ap (λ js. list_all (invariant_keeps q) (map (λ (i : NetInvariant). record i { pred = replaced s.by i.pred }) js)) none))
-      (ap not (too_large-same n p net s ∙ small))
+  pub all-plain : list_all (is_plain_expr q) (evaluated q) ≡ true
+  all-plain = ap (list_all (is_plain_expr q)) (evaluated-written s.by n) ∙ pass-map (evaluated_replaced s.by n) (is_plain_expr q) (evaluated n) expr-plain
 
-pub plain : (n p : Net) → is_net n ≡ true → n.invariants ≡ [] → Unfolds n p
+pub is-net : (n p : Net) → is_net n ≡ true → Unfolds n p → is_net p ≡ true
+is-net n p net u = let s = settled n p net u in ap is_net s.whole ∙ net-stands n p net s
+
+pub plain-exprs : (n p : Net) → is_net n ≡ true → Unfolds n p
+    → list_all (λ (x : Evaluated). divides (declared_ranges n x.received) x.value) (evaluated n) ≡ true
+    → list_all (λ (x : Evaluated). is_narrow_expr (declared_ranges n x.received) x.value) (evaluated n) ≡ true
+    → list_all (is_plain_expr p) (evaluated p) ≡ true
+plain-exprs n p net u divide narrow =
+    let s = settled n p net u in
+    ap (λ q. list_all (is_plain_expr q) (evaluated q)) s.whole ∙ all-plain n p net s divide narrow
+
+-- where its state invariants read no input and hold in the initial state, and the net is not too large
+pub plain : (n p : Net) → is_net n ≡ true → list_all (invariant_keeps p) p.invariants ≡ true → Unfolds n p
     → list_all (λ (x : Evaluated). divides (declared_ranges n x.received) x.value) (evaluated n) ≡ true
     → list_all (λ (x : Evaluated). is_narrow_expr (declared_ranges n x.received) x.value) (evaluated n) ≡ true
     → is_too_large n ≡ false → is_plain p ≡ true
-plain n p net none u divide narrow small = let s = settled n p net u in ap is_plain s.whole ∙ replaced-plain n p net none s divide narrow small
+plain n p net keep u divide narrow small =
+    let s = settled n p net u in
+    and-both _ _ (and-both _ _ (and-both _ _ (is-net n p net u) (plain-exprs n p net u divide narrow)) keep) (ap (λ q. not (is_too_large q)) s.whole ∙ ap not (too_large-same n p net s ∙ small))

@@ -1,1 +1,2 @@
 pub mod Face
+pub mod Invariants

@@ -60,8 +60,9 @@ refusal_text path (why.ConstantRange at) = with_number (codes "18 ConstantRange 
 refusal_text path (why.AlgCycle alg) = joined (codes "19 AlgCycle alg " ∷ path ∷ [])
 refusal_text path (why.ZeroDivisor at) = with_number (codes "20 ZeroDivisor at ") at
 refusal_text path (why.TooWide at) = with_number (codes "21 TooWide at ") at
+refusal_text path (why.InvariantReadsInput at) = with_number (codes "22 InvariantReadsInput at ") at
+refusal_text path (why.InvariantFalse at) = with_number (codes "23 InvariantFalse at ") at
 refusal_text path (why.TooLarge nodes depth) = with_numbers (codes "24 TooLarge nodes ") nodes (codes " depth ") depth
-refusal_text path (why.NotBuilt at) = with_number (codes "30 NotBuilt at ") at
 
 -- an event is told by its path
 abbrev pub profile_text : Text → ProfileWhy → Text

@@ -58,10 +58,12 @@ pub enum Refusal {
     ZeroDivisor { at: u32 },
     /// The value of the expression that begins there, or of a part of a sum or product there, may leave 64 bits.
     TooWide { at: u32 },
+    /// The state invariant whose predicate begins there depends on an input.
+    InvariantReadsInput { at: u32 },
+    /// The state invariant whose predicate begins there does not hold in the initial state.
+    InvariantFalse { at: u32 },
     /// The choices of all events have too many nodes, or an expression is too deep. Each number stops one past its limit.
     TooLarge { nodes: u32, depth: u32 },
-    /// The source has a tree, and the tool takes no such tree yet: what begins there is none that it generates programs for.
-    NotBuilt { at: u32 },
 }
 
 /// Why no program is written for a source that breaks no other rule.

@@ -104,10 +104,13 @@ fn refusal_text(alloc: Global, path: &[u8], why: Refusal) -> Result<Text, Memory
         Refusal::AlgCycle { alg: _ } => joined(alloc, &[b"19 AlgCycle alg ", path]),
         Refusal::ZeroDivisor { at } => with_number(alloc, b"20 ZeroDivisor at ", at),
         Refusal::TooWide { at } => with_number(alloc, b"21 TooWide at ", at),
+        Refusal::InvariantReadsInput { at } => {
+            with_number(alloc, b"22 InvariantReadsInput at ", at)
+        }
+        Refusal::InvariantFalse { at } => with_number(alloc, b"23 InvariantFalse at ", at),
         Refusal::TooLarge { nodes, depth } => {
             with_numbers(alloc, b"24 TooLarge nodes ", nodes, b" depth ", depth)
         }
-        Refusal::NotBuilt { at } => with_number(alloc, b"30 NotBuilt at ", at),
     }
 }
 

@@ -1,18 +1,20 @@
--- What holds in the body of a component holds in its declarations, its equations, its edges with the values that they send, and the
--- arguments of its instances, and bounds what its edges assign.
+-- What holds in the body of a component holds in its declarations, its equations, its invariants, its edges with the values that they
+-- send, and the arguments of its instances, and bounds what its edges assign.
 use Rattle.std.proofs.Common.{◌≡◌, ℕ, ◌<◌, inl, inr, List, [], ◌∷◌, map, length, Some, None, refl, sym, ◌∙◌, ap, subst, arith}
 use Rattle.std.specs.Prelude.{flat_map, filter_map}
 use Rattle.std.specs.List.{AllByRecursion, sum_by}
 use Rattle.std.proofs.lemmas.List.Sums.{sum_by-cons}
 use Rattle.cif_ast.specs.Tree.{Tree, declaration, component, definition, instance, ItemTrees, no_items, items, BodyTree, group, automaton}
 use Rattle.cif_ast.specs.View.{view}
-use Rattle.cif_ast.specs.Throughout.{HoldsInTree, HoldsInUpdateTrees, HoldsInExpr, HoldsInDecl, HoldsInRole, HoldsInEventUse, HoldsInEdge, HoldsInLocEquation, HoldsInLoc, HoldsInItemTrees, HoldsInBodyTree}
+use Rattle.cif_ast.specs.Throughout.{HoldsInTree, HoldsInUpdateTrees, HoldsInExpr, HoldsInInv, HoldsInDecl, HoldsInRole, HoldsInEventUse, HoldsInEdge, HoldsInLocEquation, HoldsInLoc, HoldsInItemTrees, HoldsInBodyTree}
 use Rattle.cif_ast.specs.Countable.{count_of_edge, count_of_loc, count_of_body_tree}
 use Rattle.cif_ast.specs.SmallNumbers.{AreFewLiterals, small_parts}
 use Rattle.cif_ast.specs.declared.names.Ident.{Ident}
 use Rattle.cif_ast.specs.declared.expressions.Expr.{Expr}
 use Rattle.cif_ast.specs.declared.declarations.Decl.{Decl}
 use Rattle.cif_ast.specs.declared.declarations.Decl.TheVariants as decl
+use Rattle.cif_ast.specs.declared.declarations.Inv.{Inv}
+use Rattle.cif_ast.specs.declared.declarations.Inv.TheVariants as inv
 use Rattle.cif_ast.specs.declared.edges.Edge.{Edge}
 use Rattle.cif_ast.specs.declared.edges.EventUse.{EventUse}
 use Rattle.cif_ast.specs.declared.edges.Loc.{Loc}
@@ -22,10 +24,11 @@ use Rattle.cif_ast.specs.declared.edges.Role.TheVariants as role
 use Rattle.cif_system.specs.Words.{Member}
 use Rattle.cif_system.proofs.Lists.{some-same, none-some}
 use Rattle.cif_system.proofs.Distinct.{member-append}
-use Rattle.cif_source.specs.Source.{TypeTree, role_tree, UseTree, use_tree, EdgeTree, edge_tree, EquationTree, equation_tree, LocationTree, location_tree, InstanceTree, DeclTree, enum_decl, alg_decl, equation_decl, decl_tree, source_items, source_body, list_of_items}
+use Rattle.cif_source.specs.Source.{TypeTree, role_tree, UseTree, use_tree, EdgeTree, edge_tree, EquationTree, equation_tree, LocationTree, location_tree, InstanceTree, InvariantTree, invariant_tree, DeclTree, enum_decl, alg_decl, equation_decl, invariant_decl, decl_tree, source_items, source_body, list_of_items}
 use Rattle.cif_source.specs.Objects.{item_decls, items_in, decls_in, locs_in}
 use Rattle.cif_source.specs.Scoping.{as_instance}
 use Rattle.cif_rules.specs.BodyRules.{targets_of_all}
+use Rattle.cif_rules.specs.Demands.{predicate_of}
 use Rattle.cif_image.specs.Flat.{sent_tree}
 use Rattle.cif_small.proofs.UpdateLaws.{holds-view_updates, assigned-counted}
 
@@ -87,6 +90,23 @@ decl-equation (decl.Disc ty name value) h q is = cc
 decl-equation (decl.Inv i) h q is = cc
 decl-equation (decl.Marked p) h q is = cc
 
+inv-predicate : (i : Inv) → HoldsInInv small_parts i → HoldsInTree small_parts (predicate_of (invariant_tree i))
+inv-predicate (inv.State p) h = h.0
+inv-predicate (inv.Needs events p) h = h.1.0
+inv-predicate (inv.Disables p events) h = h.0.0
+
+decl-predicate : (d : Decl) → HoldsInDecl small_parts d → (i : InvariantTree) → invariant_decl i ≡ decl_tree d → HoldsInTree small_parts (predicate_of i)
+decl-predicate (decl.Inv x) h i is = let same : invariant_tree x ≡ i = cc in subst (λ y. HoldsInTree small_parts (predicate_of y)) same (inv-predicate x h)
+decl-predicate (decl.Alg ty name value) h i is = cc
+decl-predicate (decl.TypeName name ty) h i is = cc
+decl-predicate (decl.Enum name literals) h i is = cc
+decl-predicate (decl.Event class c name) h i is = cc
+decl-predicate (decl.Const ty name value) h i is = cc
+decl-predicate (decl.Input ty name) h i is = cc
+decl-predicate (decl.Disc ty name value) h i is = cc
+decl-predicate (decl.Equation name value) h i is = cc
+decl-predicate (decl.Marked p) h i is = cc
+
 -- what holds of each declaration with small parts holds of those of a body
 module _ (P : DeclTree → Type 0) (each : (d : Decl) → HoldsInDecl small_parts d → P (decl_tree d)) where
   decls-each : (ds : List Decl) → AllByRecursion (HoldsInDecl small_parts) ds → (x : DeclTree) → Member x (map decl_tree ds) → P x
@@ -112,6 +132,10 @@ body-values b h ty n e m =
 -- and its equations
 pub body-equations : (b : BodyTree) → HoldsInBodyTree small_parts b → (q : EquationTree) → Member (equation_decl q) (decls_in (source_body b)) → HoldsInTree small_parts q.value
 body-equations b h q m = body-each (λ x. (q : EquationTree) → equation_decl q ≡ x → HoldsInTree small_parts q.value) decl-equation b h (equation_decl q) m q refl
+
+-- and the predicates of its invariants and exclusions
+pub body-predicates : (b : BodyTree) → HoldsInBodyTree small_parts b → (i : InvariantTree) → Member (invariant_decl i) (decls_in (source_body b)) → HoldsInTree small_parts (predicate_of i)
+body-predicates b h i m = body-each (λ x. (i : InvariantTree) → invariant_decl i ≡ x → HoldsInTree small_parts (predicate_of i)) decl-predicate b h (invariant_decl i) m i refl
 
 equations-small : (qs : List LocEquation) → AllByRecursion (HoldsInLocEquation small_parts) qs → (q : EquationTree) → Member q (map equation_tree qs) → HoldsInTree small_parts q.value
 equations-small [] h q m = absurd m

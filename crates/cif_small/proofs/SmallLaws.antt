@@ -10,14 +10,14 @@ use Rattle.cif_ast.specs.SmallNumbers.{HasSmallNumbers, small_parts}
 use Rattle.cif_ast.specs.declared.components.Spec.{Spec}
 use Rattle.cif_system.specs.Words.{Member}
 use Rattle.cif_system.proofs.Distinct.{member-append}
-use Rattle.cif_source.specs.Source.{EdgeTree, LocationTree, enum_decl, alg_decl, equation_decl, param_tree, SourceBody, source_item, source_items, source_body, source_of}
+use Rattle.cif_source.specs.Source.{EdgeTree, LocationTree, enum_decl, alg_decl, equation_decl, invariant_decl, param_tree, SourceBody, source_item, source_items, source_body, source_of}
 use Rattle.cif_source.specs.Components.{Component, whole, part, blank, body_of}
 use Rattle.cif_source.specs.Objects.{bodies, bodies_in, bodies_at, bodies_under, items_in, decls_in, locs_in}
 use Rattle.cif_source.specs.Scoping.{as_instance}
 use Rattle.cif_rules.specs.BodyRules.{edges_of}
 use Rattle.cif_image.specs.Small.{HasSmallParts}
 use Rattle.cif_fits.specs.Forms.{HasSmallArguments}
-use Rattle.cif_small.proofs.BodyLaws.{body-literals, body-values, body-equations, body-located, body-edges, edge-sent, edge-guards, edge-updates, edge-few, body-arguments}
+use Rattle.cif_small.proofs.BodyLaws.{body-literals, body-values, body-equations, body-predicates, body-located, body-edges, edge-sent, edge-guards, edge-updates, edge-few, body-arguments}
 
 -- a body that is written, in which small parts stand, and that is counted below the limit
 pub record IsSmallBody (limit : ℕ) (b : SourceBody) : Type 0 where
@@ -88,4 +88,5 @@ small-arguments spec small =
     record {
       given = λ c m i k. body-arguments (all c m).written (all c m).holds i (subst (λ b. Member i (filter_map as_instance (items_in b))) (all c m).is k);
       sent = λ c m x k. edge-sent limit x (body-edges limit (all c m).written (all c m).holds (all c m).few x (subst (λ b. Member x (flat_map (λ (l : LocationTree). l.edges) (locs_in b))) (all c m).is k));
+      predicates = λ c m i k. body-predicates (all c m).written (all c m).holds i (subst (λ b. Member (invariant_decl i) (decls_in b)) (all c m).is k);
     }

@@ -12,7 +12,8 @@ pub fn counted_trees_have_small_parts()
     ensures { (spec : Spec) → IsCountable spec → HasSmallNumbers spec → HasSmallParts (source_of spec) }
 {}
 
-/// In the source of a specification in which no number is too large, none in an argument of an instance or in a sent value is.
+/// In the source of a specification in which no number is too large, none in an argument of an instance, in a sent value or in the
+/// predicate of an invariant is.
 pub fn trees_have_small_arguments()
     ensures { (spec : Spec) → HasSmallNumbers spec → HasSmallArguments (source_of spec) }
 {}

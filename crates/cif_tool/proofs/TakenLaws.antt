@@ -2,14 +2,14 @@
 use Rattle.std.proofs.Common.{ℕ, sym, subst}
 use Rattle.grammar.specs.Pieces.{Text}
 use Rattle.st_ast.specs.Tree.{Program}
-use Rattle.cif_accept.specs.Built.{Built}
+use Rattle.cif_source.specs.Source.{Source}
 use Rattle.cif_generate.specs.Meaning.{IsTextOf, meant_by}
 use Rattle.cif_generate.proofs.GenerateLaws.{never_faults}
 use Rattle.cif_replay.specs.Replaying.{AllEnd}
 use Rattle.cif_replay.proofs.ReplayLemmas.{refused_reads_none}
 use Rattle.cif_tool.specs.Laws.{IsTaken}
 
-pub taken : (unc con : ℕ) (t : Built) (text : Text) → IsTextOf unc con t text → IsTaken (meant_by t) text
+pub taken : (unc con : ℕ) (t : Source) (text : Text) → IsTextOf unc con t text → IsTaken (meant_by t) text
 taken unc con t text h =
     let f = never_faults unc con t text h in
     record {

@@ -18,8 +18,9 @@ use Rattle.cif_run.specs.declared.ended.Ended.{Ended}
 use Rattle.cif_run.specs.Groups.{judged, group_of, IsUnlessMemory}
 use Rattle.cif_run.specs.Works.{Comes, Content, Reading, StopsIn, Writing}
 use Rattle.cif_run.proofs.CallLaws.{answers, came_how, ended_so, within_comes}
-use Rattle.cif_accept.specs.Built.{Built, ReadsAsBuilt}
-use Rattle.cif_accept.specs.Accepts.{BuiltEnds, SourceHasTooMany, SourceIs, SourceRefused, no_ends, source_limit, source_work}
+use Rattle.cif_source.specs.Source.{Source}
+use Rattle.cif_front.specs.Loads.{ReadsAsSource}
+use Rattle.cif_accept.specs.Accepts.{CommandEnds, SourceHasTooMany, SourceIs, SourceRefused, no_ends, source_limit, source_work}
 use Rattle.cif_image.specs.NetRules.{UnclassedDue}
 use Rattle.cif_accept.proofs.AcceptLaws as accept
 use Rattle.cif_accept.proofs.SourceLaws.{refused_of}
@@ -103,15 +104,15 @@ module _ (words : List Text) (c : Reading) (o : Writing) (e : Ended) (came : Com
 
   -- ---- a source
 
-  -- a command over a source, which tells of what the source is built into where it has an event without a class
+  -- a command over a source, which tells of the source where it has an event without a class
   record Over (file : Text) : Type 1 where
-    P : Built → Text → Type 0
-    E : BuiltEnds
+    P : Source → Text → Type 0
+    E : CommandEnds
     comes : Comes (source_work c.content file P E) c o e
-    silent : (t : Built) → ((g : Generate) → IsGenerate words g → AreClassed t) → (s : Status) (name : Text) → E t s name → ⊥
+    silent : (t : Source) → ((g : Generate) → IsGenerate words g → AreClassed t) → (s : Status) (name : Text) → E t s name → ⊥
 
   -- an event without a class is told where there is one
-  classed_silent : (t : Built) → AreClassed t → (s : Status) (name : Text) → is_unclassed t s name → ⊥
+  classed_silent : (t : Source) → AreClassed t → (s : Status) (name : Text) → is_unclassed t s name → ⊥
   classed_silent t are (status.OutsideProfile (profile.Unclassed event)) name h = are event h.0
   classed_silent t are (status.OutsideProfile (profile.TooManyChoices n)) name h = h
   classed_silent t are _ name h = h
@@ -119,7 +120,7 @@ module _ (words : List Text) (c : Reading) (o : Writing) (e : Ended) (came : Com
   as_source : (file : Text) → AsksSource words file → Over file
   as_source file h = go h.0.command h.0.request h.1 h.2
     where
-      here : (P : Built → Text → Type 0) (E : BuiltEnds) (f : Text) → Some f ≡ Some file → Comes (source_work c.content f P E) c o e → Comes (source_work c.content file P E) c o e
+      here : (P : Source → Text → Type 0) (E : CommandEnds) (f : Text) → Some f ≡ Some file → Comes (source_work c.content f P E) c o e → Comes (source_work c.content file P E) c o e
       here P E f is w = let at : f ≡ file = cc in subst (λ n. Comes (source_work c.content n P E) c o e) at w
 
       go : (k : Command) (q : Request k) → IsFor k words q → source_of k q ≡ Some file → Over file
@@ -156,17 +157,17 @@ module _ (words : List Text) (c : Reading) (o : Writing) (e : Ended) (came : Com
       go replay q is h = absurd h
 
   pub unclassed : (event : ℕ) → r ≡ status.OutsideProfile (profile.Unclassed event)
-      → (g : Generate) × IsGenerate words g × ((t : Built) × SourceIs c.content g.file t × UnclassedDue t event)
+      → (g : Generate) × IsGenerate words g × ((t : Source) × SourceIs c.content g.file t × UnclassedDue t event)
   unclassed event z = let h = ended (status.OutsideProfile (profile.Unclassed event)) (λ x. cc) refl (λ x. cc) z in go h.0.command h.0.request h.1 h.2
     where
       go : (k : Command) (q : Request k) → IsFor k words q → (work_of k q c.content).ends (status.OutsideProfile (profile.Unclassed event)) e.variable
-          → (g : Generate) × IsGenerate words g × ((t : Built) × SourceIs c.content g.file t × UnclassedDue t event)
+          → (g : Generate) × IsGenerate words g × ((t : Source) × SourceIs c.content g.file t × UnclassedDue t event)
       go check q is h = elim h [ inl x ↦ absurd x | inr x ↦ absurd x.2 ]
       go generate q is h = elim h [ inl x ↦ absurd x | inr x ↦ (q, is, (x.0, x.1, x.2.0)) ]
       go replay q is h = absurd h
 
   pub unclassed_is_told : (g : Generate) (bytes : Text) → IsGenerate words g → c.content g.file ≡ Some bytes → (Rose (c.faults g.file) (c.faults_after g.file) → ⊥)
-      → length bytes ≤ source_limit → (t : Built) → ReadsAsBuilt bytes t → (event : ℕ) → UnclassedDue t event
+      → length bytes ≤ source_limit → (t : Source) → ReadsAsSource bytes t → (event : ℕ) → UnclassedDue t event
       → IsUnlessMemory r (status.OutsideProfile (profile.Unclassed event))
   unclassed_is_told g bytes is = generates.unclassed_is_told g c o e (of_command generate g is) r same bytes
 
@@ -177,19 +178,19 @@ module _ (words : List Text) (c : Reading) (o : Writing) (e : Ended) (came : Com
     pub longer_is_too_big : source_limit < length bytes → IsUnlessMemory r (status.TooBig 1)
     longer_is_too_big = accept.longer_is_too_big file over.P over.E c o e over.comes r same bytes names.1 sure
 
-    pub other_text_is_refused : length bytes ≤ source_limit → ((t : Built) → ReadsAsBuilt bytes t → ⊥)
+    pub other_text_is_refused : length bytes ≤ source_limit → ((t : Source) → ReadsAsSource bytes t → ⊥)
         → ((why : Refusal) × (r ≡ status.Refused why)) ⊎ ((count : ℕ) × (r ≡ status.OutsideProfile (profile.TooManyChoices count))) ⊎ (r ≡ status.Memory)
     other_text_is_refused = accept.other_text_is_refused file over.P over.E c o e over.comes r same bytes names.1 sure
 
-    pub built_is_done : length bytes ≤ source_limit → (Rose o.faults o.faults_after → ⊥) → (t : Built) → ReadsAsBuilt bytes t
+    pub source_is_done : length bytes ≤ source_limit → (Rose o.faults o.faults_after → ⊥) → (t : Source) → ReadsAsSource bytes t
         → ((g : Generate) → IsGenerate words g → AreClassed t) → IsUnlessMemory r status.Done
-    built_is_done short quiet t reads classed =
-        accept.built_is_done file over.P over.E c o e over.comes r same bytes names.1 sure short t reads quiet (over.silent t classed)
+    source_is_done short quiet t reads classed =
+        accept.source_is_done file over.P over.E c o e over.comes r same bytes names.1 sure short t reads quiet (over.silent t classed)
 
-  pub checked : r ≡ status.Done → (k : Check) → IsCheck words k → ((t : Built) × SourceIs c.content k.file t) × (o.new ≡ grown o.old accepted)
+  pub checked : r ≡ status.Done → (k : Check) → IsCheck words k → ((t : Source) × SourceIs c.content k.file t) × (o.new ≡ grown o.old accepted)
   checked q k is = checks.checked k c o e (of_command check k is) r same q
 
-  pub generated : (P : Generate → Built → Text → Type 0) → ((g : Generate) (t : Built) (text : Text) → IsTextOf g.unc g.con t text → P g t text)
+  pub generated : (P : Generate → Source → Text → Type 0) → ((g : Generate) (t : Source) (text : Text) → IsTextOf g.unc g.con t text → P g t text)
       → Generated r words c.content o.old o.new P
   generated P from q g is = generates.writes g c o e (of_command generate g is) r same (P g) (from g) q
 

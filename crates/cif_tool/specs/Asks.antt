@@ -5,7 +5,7 @@ use Rattle.cif_io.specs.Faults.{Rose}
 use Rattle.cif_run.specs.declared.status.Status.{Status}
 use Rattle.cif_run.specs.declared.status.Status.TheVariants as status
 use Rattle.cif_run.specs.Works.{Content, Work}
-use Rattle.cif_accept.specs.Built.{Built}
+use Rattle.cif_source.specs.Source.{Source}
 use Rattle.cif_generate.specs.Words.{Generate, IsGenerate}
 use Rattle.cif_generate.specs.Generates.{Writes}
 use Rattle.cif_replay.specs.Words.{Replay, IsReplay}
@@ -41,9 +41,8 @@ AsksSource words file = (a : Asked) × IsAsked words a × (source_of a.command a
 abbrev pub NamesSource : List Text → Content → Text → Text → Type 0
 NamesSource words content file bytes = AsksSource words file × (content file ≡ Some bytes)
 
--- After Done of `generate`: its file holds a source, and what was written is as P says of the command and what the source is
--- built into.
-abbrev pub Generated : Status → List Text → Content → Option Text → Option Text → (Generate → Built → Text → Type 0) → Type 0
+-- after Done of `generate`: its file holds a source, and what was written is as P says of the command and the source
+abbrev pub Generated : Status → List Text → Content → Option Text → Option Text → (Generate → Source → Text → Type 0) → Type 0
 Generated s words content old new P = s ≡ status.Done → (g : Generate) → IsGenerate words g → Writes content g.file old new (P g)
 
 -- ---- a program and rows

@@ -7,14 +7,14 @@ ghost use Rattle.plc_rows.specs.Rows.{RowsOf};
 ghost use Rattle.cif_run.specs.Lines.{line_of};
 ghost use Rattle.cif_run.specs.declared.status.Status.{Status};
 ghost use Rattle.cif_run.specs.declared.status.Refusal.{Refusal};
-ghost use Rattle.cif_accept.specs.Built.{Built};
+ghost use Rattle.cif_source.specs.Source.{Source};
 ghost use Rattle.cif_generate.specs.Words.{IsGenerate};
 ghost use Rattle.cif_generate.specs.Meaning.{IsTextOf, meant_by};
 ghost use Rattle.cif_tool.specs.Laws.{IsTaken};
 
 /// A text that `generate` wrote is a program for `replay`, which no rule refuses, and of which every scan over rows in range ends.
 pub fn replay_takes_what_generate_writes()
-    ensures { (unc con : ℕ) (t : Built) (text : List ℕ) → IsTextOf unc con t text → IsTaken (meant_by t) text }
+    ensures { (unc con : ℕ) (t : Source) (text : List ℕ) → IsTextOf unc con t text → IsTaken (meant_by t) text }
 {}
 
 /// The words `generate a.cif --unc 3`.

@@ -20,7 +20,8 @@ ghost use Rattle.cif_run.specs.declared.status.StRefusal.{StRefusal};
 ghost use Rattle.cif_run.specs.Groups.{IsUnlessMemory};
 ghost use Rattle.cif_run.specs.Works.{Comes, Output, Overlong, Unread, reading, writing};
 ghost use Rattle.cif_run.specs.Tells.{Told};
-ghost use Rattle.cif_accept.specs.Built.{Built, ReadsAsBuilt};
+ghost use Rattle.cif_source.specs.Source.{Source};
+ghost use Rattle.cif_front.specs.Loads.{ReadsAsSource};
 ghost use Rattle.cif_accept.specs.Accepts.{SourceHasTooMany, SourceIs, SourceRefused, source_limit};
 ghost use Rattle.cif_image.specs.NetRules.{UnclassedDue};
 ghost use Rattle.cif_check.specs.Words.{Check, IsCheck};
@@ -142,35 +143,35 @@ pub fn tool<F: Files, O: Sink, E: Sink>(
         (O.written out.old) (O.written out.new)
         (λ g t text. AreClassed t) }
 
-    // The source of `check` and `generate`: it is refused, or has too many choices, exactly where it reads as nothing that is built;
-    // `generate` refuses one with an event without a class; and else the command is done.
+    // The source of `check` and `generate`: it is refused, or has too many choices, exactly where it reads as no source that breaks
+    // no rule; `generate` refuses one with an event without a class; and else the command is done.
     ensures refused { (why : Refusal) → result ≡ Status.Refused why → (file : List ℕ)
         × AsksSource (map string_bytes words.now) file × SourceRefused (F.content files.old) file why }
     ensures too_many_choices { (count : ℕ) → result ≡ Status.OutsideProfile (ProfileWhy.TooManyChoices count) → (file : List ℕ)
         × AsksSource (map string_bytes words.now) file × SourceHasTooMany (F.content files.old) file count }
     ensures unclassed { (event : ℕ) → result ≡ Status.OutsideProfile (ProfileWhy.Unclassed event) → (g : Generate)
         × IsGenerate (map string_bytes words.now) g
-        × ((t : Built) × SourceIs (F.content files.old) g.file t × UnclassedDue t event) }
+        × ((t : Source) × SourceIs (F.content files.old) g.file t × UnclassedDue t event) }
     ensures other_text_is_refused { (file bytes : List ℕ) →
         NamesSource (map string_bytes words.now) (F.content files.old) file bytes →
         (Rose (F.faults files.old file) (F.faults files.new file) → ⊥) → length bytes ≤ source_limit →
-        ((t : Built) → ReadsAsBuilt bytes t → ⊥) →
+        ((t : Source) → ReadsAsSource bytes t → ⊥) →
         ((why : Refusal) × (result ≡ Status.Refused why))
         ⊎ ((count : ℕ) × (result ≡ Status.OutsideProfile (ProfileWhy.TooManyChoices count))) ⊎ (result ≡ Status.Memory) }
     ensures unclassed_is_told { (g : Generate) (bytes : List ℕ) →
         IsGenerate (map string_bytes words.now) g → F.content files.old g.file ≡ Some bytes →
         (Rose (F.faults files.old g.file) (F.faults files.new g.file) → ⊥) → length bytes ≤ source_limit →
-        (t : Built) → ReadsAsBuilt bytes t → (event : ℕ) → UnclassedDue t event →
+        (t : Source) → ReadsAsSource bytes t → (event : ℕ) → UnclassedDue t event →
         IsUnlessMemory result (Status.OutsideProfile (ProfileWhy.Unclassed event)) }
-    ensures built_is_done { (file bytes : List ℕ) →
+    ensures source_is_done { (file bytes : List ℕ) →
         NamesSource (map string_bytes words.now) (F.content files.old) file bytes →
         (Rose (F.faults files.old file) (F.faults files.new file) → ⊥) → length bytes ≤ source_limit →
-        (Rose (O.faults out.old) (O.faults out.new) → ⊥) → (t : Built) → ReadsAsBuilt bytes t →
+        (Rose (O.faults out.old) (O.faults out.new) → ⊥) → (t : Source) → ReadsAsSource bytes t →
         ((g : Generate) → IsGenerate (map string_bytes words.now) g → AreClassed t) →
         IsUnlessMemory result Status.Done }
     // `check` writes `ok`, whatever is told, and only over a source.
     ensures checked { result ≡ Status.Done → (k : Check) → IsCheck (map string_bytes words.now) k →
-        ((t : Built) × SourceIs (F.content files.old) k.file t)
+        ((t : Source) × SourceIs (F.content files.old) k.file t)
         × (O.written out.new ≡ grown (O.written out.old) accepted) }
 
     // The program of `replay`: it is refused exactly where it reads as none.

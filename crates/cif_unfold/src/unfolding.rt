@@ -1,20 +1,16 @@
 //! The whole net.
 
-ghost use Rattle.std.specs.Prelude.{◌≡◌, true, false, [], IfOk};
-ghost use Rattle.std.specs.List.{list_all};
-ghost use Rattle.cif_model.specs.Counts.{is_too_large};
+ghost use Rattle.std.specs.Prelude.{◌≡◌, IfOk};
 ghost use Rattle.cif_model.specs.Inline.{Unfolds};
 ghost use Rattle.cif_model.specs.Meaning.{system_of_net};
-ghost use Rattle.cif_model.specs.Rules.{evaluated};
 ghost use Rattle.cif_net.specs.View.{net_of_parts, net_tree};
-ghost use Rattle.cif_measure.specs.Rules.{declared_divides, declared_is_narrow};
 ghost use Rattle.cif_algebraic.specs.Orders.{IsOrderOf};
 
 use crate::defining::definitions;
 use crate::replacing::Replacing;
 use cif_base::{Items, Memory};
-use cif_net::{Alg, Auto, Event, Exclusion, Input, Invariant, Net, Plain, Var, nets_are_nets};
-use cif_plain::{unfolded_nets_are_plain, unfolded_nets_mean_the_same};
+use cif_net::{Alg, Auto, Event, Exclusion, Input, Invariant, Net, Var, nets_are_nets};
+use cif_plain::{unfolded_nets_are_nets, unfolded_nets_mean_the_same};
 use std::alloc::Global;
 
 /// The parts of a net, of which it is not kept that they make a net.
@@ -62,17 +58,13 @@ fn unfolded_parts(alloc: Global, net: Net, order: &[u32]) -> Result<Parts, Memor
 /// The net in which each algebraic variable is replaced by its definition, in which they are replaced too (CIF 3 language reference,
 /// "Algebraic variables"). In the order each of them stands after those that its definitions name. It means the same. The time is
 /// linear in what is written.
-pub fn unfold(alloc: Global, net: Net, order: &[u32]) -> Result<Plain, Memory>
-    requires order { IsOrderOf (net_tree net) order.now }
-    requires invariants { (net_tree net).invariants ≡ [] }
-    requires divides { list_all (declared_divides (net_tree net)) (evaluated (net_tree net)) ≡ true }
-    requires narrow { list_all (declared_is_narrow (net_tree net)) (evaluated (net_tree net)) ≡ true }
-    requires small { is_too_large (net_tree net) ≡ false }
-    ensures unfolds { IfOk result (λ p. Unfolds (net_tree net) (net_tree p.net)) }
-    ensures same { IfOk result (λ p. system_of_net (net_tree p.net) ≡ system_of_net (net_tree net)) }
+pub fn unfold(alloc: Global, net: Net, order: &[u32]) -> Result<Net, Memory>
+    requires { IsOrderOf (net_tree net) order.now }
+    ensures unfolds { IfOk result (λ p. Unfolds (net_tree net) (net_tree p)) }
+    ensures same { IfOk result (λ p. system_of_net (net_tree p) ≡ system_of_net (net_tree net)) }
 {
     nets_are_nets();
-    unfolded_nets_are_plain();
+    unfolded_nets_are_nets();
     unfolded_nets_mean_the_same();
     let Parts {
         autos,
@@ -83,15 +75,13 @@ pub fn unfold(alloc: Global, net: Net, order: &[u32]) -> Result<Plain, Memory>
         exclusions,
         invariants,
     } = unfolded_parts(alloc, net, order)?;
-    Ok(Plain {
-        net: Net {
-            autos,
-            events,
-            inputs,
-            vars,
-            algs,
-            exclusions,
-            invariants,
-        },
+    Ok(Net {
+        autos,
+        events,
+        inputs,
+        vars,
+        algs,
+        exclusions,
+        invariants,
     })
 }

@@ -1,13 +1,13 @@
 -- What a choice with data does whose test holds, and whose sent value is in the range of the channel: where all new values are
 -- in range it leads to the state after its step, and where one is not it leaves the state as it is.
-use Rattle.std.proofs.Common.{◌≡◌, ℕ, zero, suc, ◌+◌, ◌^◌, ◌<◌, ◌≤◌, ℤ, pos, Bool, true, false, not, ◌&&◌, List, [], ◌∷◌, ◌++◌, map, find, length, Option, Some, None, nat_eq, cond, refl, sym, ap, subst, ◌∙◌, arith, eqb-true, unwrap_or, if◌then◌else◌}
-use Rattle.std.specs.Prelude.{slice_get, slice_set, option_map, option_to_list}
+use Rattle.std.proofs.Common.{◌≡◌, ℕ, zero, suc, ◌+◌, ◌^◌, ◌<◌, ◌≤◌, ℤ, pos, Bool, true, false, not, ◌&&◌, List, [], ◌∷◌, ◌++◌, map, find, length, Option, Some, None, Ok, nat_eq, cond, refl, sym, ap, subst, ◌∙◌, arith, eqb-true, unwrap_or, if◌then◌else◌}
+use Rattle.std.specs.Prelude.{slice_get, slice_index_or, slice_set, option_map, option_to_list}
 use Rattle.std.specs.List.{AllZip, list_all, enumerate_from, range_with_len}
 use Rattle.std.proofs.lemmas.List.{get_or-set_same}
 use Rattle.std.proofs.lemmas.Map.Views.{any-filter_same}
 use Rattle.grammar.specs.Pieces.{Text}
 use Rattle.cif_base.specs.declared.types.Ty.{Ty}
-use Rattle.cif_system.specs.System.{State, in_range, value_channel}
+use Rattle.cif_system.specs.System.{EndsInside, IsState, State, Stored, in_range, value_channel}
 use Rattle.cif_system.specs.Step.{after, assigned, assigned_fits, fits_channel, makes_step, meets_invariants, new_value, new_values, sent_fits}
 use Rattle.cif_system.proofs.Lists.{map-length}
 use Rattle.cif_system.proofs.StateLaws.{step-state}
@@ -15,14 +15,16 @@ use Rattle.cif_term.specs.Tree.{NetExpr}
 use Rattle.cif_model.specs.Net.{NetChan, no_net_chan, void_net_chan, net_chan_of, NetAuto, NetEvent, NetInvariant, NetStored, Net}
 use Rattle.cif_model.specs.Exprs.{targets}
 use Rattle.cif_model.specs.Facts.{has, is_type, stored_stands}
-use Rattle.cif_model.specs.Listing.{NetChoice, edge_in}
-use Rattle.cif_model.specs.Meaning.{channel_in, event_in, invariant_in, net_assigned_all, system_of_net, true_in, type_range}
+use Rattle.cif_model.specs.Listing.{NetChoice, all_hold, edge_in}
+use Rattle.cif_model.specs.Meaning.{channel_in, event_in, net_assigned_all, stored_in, system_of_net, true_in, type_range}
+use Rattle.cif_model.specs.Reads.{names_no_alg}
 use Rattle.cif_model.specs.Shown.{channel_type}
 use Rattle.cif_model.specs.Table.{MovesParties, SendsAndAssigns, agrees_in, carried_type, permitted_in}
-use Rattle.st_ast.specs.Tree.{Program, Stms, append, assign, branches, choice, named, no_branches, no_other, no_stms, stms, stms_of, truth}
+use Rattle.cif_model.proofs.Passing.{and-left, and-right}
+use Rattle.st_ast.specs.Tree.{Expr, Program, Stms, append, assign, branches, choice, named, no_branches, no_other, no_stms, stms, stms_of, truth}
 use Rattle.st_ast.specs.Names.{place_of}
-use Rattle.st_ast.specs.Values.{Memory, is_true, of_bool}
-use Rattle.st_ast.specs.Exec.{Outcome, Ended, exec}
+use Rattle.st_ast.specs.Values.{Memory, is_true, of_bool, value_of, with_value}
+use Rattle.st_ast.specs.Exec.{Outcome, Ended, Faulted, exec}
 use Rattle.st_ast.proofs.Runs.{append_runs, assign_runs, cons_runs}
 use Rattle.plc_face.specs.declared.letter.Letter.{Letter}
 use Rattle.plc_face.specs.declared.letter.Letter.TheVariants as letter
@@ -30,26 +32,30 @@ use Rattle.plc_face.specs.Names.{name_for}
 use Rattle.plc_face.specs.Face.{HoldsAt, IsDeclared, StateOf, places_of}
 use Rattle.plc_face.specs.Frame.{Stands, fired, names_of, writable}
 use Rattle.plc_face.proofs.NameLaws.{letters-differ}
-use Rattle.plc_face.proofs.FaceLaws.{Kept, Typed, get_or-of, hold-kept}
+use Rattle.plc_face.proofs.FaceLaws.{Kept, Typed, get_or-of, hold-kept, pairwise-length}
 use Rattle.plc_gen.specs.Faces.{face_of_net, st_type, stored_face}
-use Rattle.plc_gen.specs.Events.{moves_text}
+use Rattle.plc_gen.specs.Events.{moves_text, tested}
 use Rattle.plc_gen.proofs.Choosing.{choice_in}
 use Rattle.plc_gen.proofs.Making.{Closed, Does, Ready, range-length}
 use Rattle.plc_gen.proofs.Moving.{Moved, all-moved, faces}
 use Rattle.plc_gen.proofs.Writing.{AllAmong, among-left, names-among, writes-then}
-use Rattle.plc_expr.specs.Texts.{Naming}
-use Rattle.plc_expr.specs.Safe.{IsTruth, value_at}
+use Rattle.plc_expr.specs.Texts.{Naming, before, temps, text}
+use Rattle.cif_safe.specs.Safe.{IsTruth, Setting, value_at}
 use Rattle.plc_expr.specs.Held.{held_at}
 use Rattle.plc_act.specs.Writes.{NewNames, any_tested, chosen, updates_temps, writes}
 use Rattle.plc_act.specs.Acts.{act, assigned_vars, computed, copy, may_stay, stored, store, surely_set}
 use Rattle.plc_act.specs.Asked.{setting_of, AllUpdates, CanTake, IsSafeSet, IsSafeCondition, Promises, Receives}
 use Rattle.plc_act.specs.Sends.{carries, received_in, sends_fit, sent_in}
 use Rattle.plc_act.specs.Declared.{OwnStand}
+use Rattle.plc_act.specs.Keeps.{after_naming, asked, kept_temps, where_hold, where_kept}
 use Rattle.plc_act.specs.Own.{variable_name}
+use Rattle.plc_act.specs.Ready.{IsReadyAfter, state_after}
+use Rattle.plc_act.proofs.Asking.{after-state, keeps-is, value-assigned}
 use Rattle.plc_act.proofs.Pairs.{all_fit, fits_pair, fit-one}
 use Rattle.plc_act.proofs.Writing.{Grounds, same-at, updates-wrote}
 use Rattle.plc_act.proofs.Targets.{all-updates, assigned-has, decides, others-stay, untested-fit}
 use Rattle.plc_act.proofs.Memories.{IsLater, IsReady, grounds, later-kept, later-state, writes-own, Assigned, Tested, fired-other}
+use Rattle.plc_act.proofs.Testing.{Asks, all-value, asks-run}
 use Rattle.plc_act.proofs.Taking.{Copied, copies-run, old, old-in, variable-at}
 use Rattle.plc_act.proofs.Storing.{HaveNew, Stored as Storage, stores-run}
 
@@ -100,30 +106,36 @@ pub record IsData (n : Net) (c : NetChoice) : Type 0 where
   pub tests : (s : State) → true_in n s c.test ≡ (agrees_in n s c && permitted_in n s c)
   pub values : (s : State) → SendsAndAssigns n s c
   pub carried : (t : Ty) → carried_type n c ≡ Some t → is_type t ≡ true
+  pub all : c.invariants ≡ range_with_len 0 (length n.invariants)
+  pub free : list_all (λ (i : NetInvariant). names_no_alg i.pred) n.invariants ≡ true
 
 abbrev pub pairs_of : Net → NetChoice → State → List (ℕ × ℤ)
 pairs_of n c s = net_assigned_all n s (received_in n s c) c.writes
 
-five : (a sf af q mi : Bool) → mi ≡ true → (a && sf && af && q && mi) ≡ ((a && q) && (sf && af))
-five a sf af q mi y = rw y (cut a sf af q)
-  where
-    cut : (a sf af q : Bool) → (a && sf && af && q && true) ≡ ((a && q) && (sf && af))
-    cut true true true true = refl
-    cut true true true false = refl
-    cut true true false true = refl
-    cut true true false false = refl
-    cut true false true true = refl
-    cut true false true false = refl
-    cut true false false true = refl
-    cut true false false false = refl
-    cut false true true true = refl
-    cut false true true false = refl
-    cut false true false true = refl
-    cut false true false false = refl
-    cut false false true true = refl
-    cut false false true false = refl
-    cut false false false true = refl
-    cut false false false false = refl
+-- the new values are in their ranges, and the state invariants hold after
+abbrev pub allowed : Net → NetChoice → State → Bool
+allowed n c s = all_fit n (pairs_of n c s) && meets_invariants (system_of_net n) (state_after n c s)
+
+five : (a sf af q mi : Bool) → (a && sf && af && q && mi) ≡ ((a && q) && (sf && (af && mi)))
+five true true true q mi = refl
+five true true false true mi = refl
+five true true false false mi = refl
+five true false af true mi = refl
+five true false af false mi = refl
+five false sf af q mi = refl
+
+four : (a b d e : Bool) → a ≡ true → b ≡ true → d ≡ true → e ≡ true → (a && b && d && e) ≡ true
+four a b d e p q r t = ap (λ z. z && b && d && e) p ∙ ap (λ z. z && d && e) q ∙ ap (λ z. z && e) r ∙ t
+
+-- a step needs the test
+pub after-test : (t : State) (b f mk : Bool) → mk ≡ (b && f) → (if b then (if mk then Some t else None) else None) ≡ (if mk then Some t else None)
+after-test t true f mk e = refl
+after-test t false f mk e = rw e refl
+
+-- and of two both
+both-tests : (t : State) (b f mk : Bool) → mk ≡ (b && f) → (if b then (if f then Some t else None) else None) ≡ (if mk then Some t else None)
+both-tests t true f mk e = ap (λ z. if z then Some t else None) (sym e)
+both-tests t false f mk e = rw e refl
 
 -- what is sent is in the range of the channel, by the system and by the net
 sent-fits : (events : List NetEvent) (e : ℕ) (o : Option ℤ)
@@ -152,15 +164,26 @@ module _ (n : Net) (c : NetChoice) (s : State) (h : IsData n c) where
   sent-is : sent_fits (system_of_net n) s c.event (choice_in n c) ≡ sends_fit n s c
   sent-is = ap (list_all (fits_channel (slice_get (system_of_net n).events c.event))) (sym (h.values s).0) ∙ sent-fits n.events c.event (sent_in n s c)
 
-  -- it makes a step where its test holds, what it sends is in the channel's range, and its new values are in their ranges
-  pub makes-is : n.invariants ≡ [] → makes_step (system_of_net n) s c.event (choice_in n c) ≡ (true_in n s c.test && (sends_fit n s c && all_fit n (pairs_of n c s)))
-  makes-is none =
+  -- it makes a step where its test holds, what it sends is in the channel's range, its new values are in their ranges, and the
+  -- invariants hold after
+  pub makes-is : makes_step (system_of_net n) s c.event (choice_in n c) ≡ (true_in n s c.test && (sends_fit n s c && allowed n c s))
+  makes-is =
       five (agrees_in n s c) (sent_fits (system_of_net n) s c.event (choice_in n c)) (assigned_fits (system_of_net n) s (choice_in n c)) (permitted_in n s c)
-      (meets_invariants (system_of_net n) (after (system_of_net n) s (choice_in n c)))
-      (ap (λ (is : List NetInvariant). list_all (λ (f : State → Bool). f (after (system_of_net n) s (choice_in n c))) (map (invariant_in n) is)) none)
-      ∙ ap (λ b. b && (sent_fits (system_of_net n) s c.event (choice_in n c) && assigned_fits (system_of_net n) s (choice_in n c))) (sym (h.tests s))
-      ∙ ap (λ b. true_in n s c.test && (b && assigned_fits (system_of_net n) s (choice_in n c))) sent-is
-      ∙ ap (λ ws. true_in n s c.test && (sends_fit n s c && all_fit n ws)) (sym pairs-are)
+      (meets_invariants (system_of_net n) (state_after n c s))
+      ∙ ap (λ b. b && (sent_fits (system_of_net n) s c.event (choice_in n c) && (assigned_fits (system_of_net n) s (choice_in n c) && meets_invariants (system_of_net n) (state_after n c s)))) (sym (h.tests s))
+      ∙ ap (λ b. true_in n s c.test && (b && (assigned_fits (system_of_net n) s (choice_in n c) && meets_invariants (system_of_net n) (state_after n c s)))) sent-is
+      ∙ ap (λ ws. true_in n s c.test && (sends_fit n s c && (all_fit n ws && meets_invariants (system_of_net n) (state_after n c s)))) (sym pairs-are)
+
+  -- those that are asked tell whether the invariants hold after
+  pub asked-is : IsState (system_of_net n) s → meets_invariants (system_of_net n) s ≡ true → meets_invariants (system_of_net n) (state_after n c s) ≡ list_all (true_in n (state_after n c s)) (asked n c)
+  asked-is is_state before = keeps-is n c s is_state (received_in n s c) pairs-are h.all h.free before
+
+  -- where the test holds and the values are in range, it leads to a state
+  pub leads : EndsInside (system_of_net n) → IsState (system_of_net n) s → true_in n s c.test ≡ true → sends_fit n s c ≡ true → all_fit n (pairs_of n c s) ≡ true → IsState (system_of_net n) (state_after n c s)
+  leads inside is_state test sent fit =
+      after-state (system_of_net n) inside s c.event (choice_in n c) is_state
+      (four (agrees_in n s c) (sent_fits (system_of_net n) s c.event (choice_in n c)) (assigned_fits (system_of_net n) s (choice_in n c)) (permitted_in n s c)
+      (and-left _ _ (sym (h.tests s) ∙ test)) (sent-is ∙ sent) (ap (all_fit n) (sym pairs-are) ∙ fit) (and-right _ _ (sym (h.tests s) ∙ test)))
 
 -- ---- the stores and the moves
 
@@ -307,10 +330,13 @@ module _ (n : Net) (p : Program) (own : List Text) (w : Naming) (y : NewNames) (
       any-filter_same (nat_eq v) (λ u. not (has (surely_set c.writes) u)) (not (has (surely_set c.writes) v))
       (λ k e. ap (λ u. not (has (surely_set c.writes) u)) (sym (eqb-true v k e))) (assigned_vars c.writes)
 
-  module _ (got : Receives p.vars w (carried_type n c) (received_in n s c) m0) (promised : Promises p.vars w (setting_of n s (received_in n s c)) base low count) where
+  module _ (got : Receives p.vars w (carried_type n c) (received_in n s c) m0) (promised : (v : Naming) (x : Setting) → v.own ≡ w.own → Promises p.vars v x base low count) where
+    abbrev now : Promises p.vars w (setting_of n s (received_in n s c)) base low count
+    now = promised w (setting_of n s (received_in n s c)) refl
+
     -- the premises of an assignment and of a condition
     abbrev pub Ready_at : ℕ → NetExpr → Type 0
-    Ready_at k e = IsReady n p own w y base low count c.writes (carried_type n c) o s (carried_type n c) (received_in n s c) m0 st.state got (λ t e. e) stored_stand promised k e
+    Ready_at k e = IsReady n p own w y base low count c.writes (carried_type n c) o s (carried_type n c) (received_in n s c) m0 st.state got (λ t e. e) stored_stand now k e
 
     abbrev pub ReadySet : ℕ → ℕ → NetExpr → Type 0
     ReadySet k v e = Ready_at k e × CanTake (slice_get n.vars v) (value_at (setting_of n s (received_in n s c)) e)
@@ -319,9 +345,12 @@ module _ (n : Net) (p : Program) (own : List Text) (w : Naming) (y : NewNames) (
     ReadyCondition k e = Ready_at k e × IsTruth (value_at (setting_of n s (received_in n s c)) e)
 
     abbrev g : Grounds n s (received_in n s c) p.vars w y base low count IsAfter Ready_at (Assigned n p own w y base low count c.writes) (Tested n p own w y base low count c.writes)
-    g = grounds n p own w y base low count c.writes (carried_type n c) o s (carried_type n c) (received_in n s c) m0 st.state got (λ t e. e) stored_stand promised
+    g = grounds n p own w y base low count c.writes (carried_type n c) o s (carried_type n c) (received_in n s c) m0 st.state got (λ t e. e) stored_stand now
 
-    module _ (k turns : ℕ) (all : AllUpdates ReadySet ReadyCondition k c.writes) (room : (low ≤ k) × (k + updates_temps c.writes ≤ count)) where
+    module _ (k turns : ℕ) (all : AllUpdates ReadySet ReadyCondition k c.writes) (room : (low ≤ k) × (k + updates_temps c.writes + kept_temps n c ≤ count)) where
+      room_updates : (low ≤ k) × (k + updates_temps c.writes ≤ count)
+      room_updates = let few = room.1 in (room.0, omega (arith, few))
+
       record Computed (m1 : Memory) : Type 0 where
         pub after : Memory
         pub ends : exec p.vars (computed n w y k c.writes) turns m1 ≡ Ended turns after
@@ -331,10 +360,10 @@ module _ (n : Net) (p : Program) (own : List Text) (w : Naming) (y : NewNames) (
 
       computed-run : (m1 : Memory) → IsAfter m1 → Computed m1
       computed-run m1 later =
-          let copies = copies-run n p own w y base low count c.writes (carried_type n c) o named_so stored_stand s m0 st.state (received_in n s c) got promised (may_stay c.writes) may-stay-in turns m1 later in
+          let copies = copies-run n p own w y base low count c.writes (carried_type n c) o named_so stored_stand s m0 st.state (received_in n s c) got now (may_stay c.writes) may-stay-in turns m1 later in
           let wrote = updates-wrote n s (received_in n s c) p.vars w y base low count IsAfter Ready_at (Assigned n p own w y base low count c.writes) (Tested n p own w y base low count c.writes) g c.writes k turns copies.after
           (all-updates ReadySet (λ i v e. (has (targets c.writes) v ≡ true) × Ready_at i e × CanTake (slice_get n.vars v) (value_at (setting_of n s (received_in n s c)) e)) ReadyCondition ReadyCondition
-          (λ v. has (targets c.writes) v ≡ true) (λ i v e in_it q. (in_it, q.0, q.1)) (λ i e q. q) c.writes k (λ v e. e) all) room copies.later in
+          (λ v. has (targets c.writes) v ≡ true) (λ i v e in_it q. (in_it, q.0, q.1)) (λ i e q. q) c.writes k (λ v e. e) all) room_updates copies.later in
           record {
             after = wrote.after;
             ends = append_runs p.vars (stms_of (map (copy w y) (may_stay c.writes))) (writes n w y k c.writes) turns turns m1 copies.after copies.ends ∙ wrote.ends;
@@ -371,54 +400,108 @@ module _ (n : Net) (p : Program) (own : List Text) (w : Naming) (y : NewNames) (
             let z = close all_moved.after all_moved.typed in
             record { does = took fit turns a later new ss z.0 makes; leaves = subst Q (sym (took-last fit turns a later new ss z.0 makes)) z.1 }
 
-        -- an IF with the mark
-        if-marked : (a : Memory) (b : Bool) (t : State) → IsAfter a → held_at p.vars a y.in_range ≡ of_bool b → (b ≡ true → Acts Q (Some t) (exec p.vars rest turns a) turns)
-            → Acts Q (if b then Some t else None) (exec p.vars (chosen (branches (named y.in_range) rest no_branches) no_stms) turns a) turns
-        if-marked a true t later e inside =
-            same-act Q (Some t) (exec p.vars (chosen (branches (named y.in_range) rest no_branches) no_stms) turns a) (exec p.vars rest turns a) turns
-            (cons_runs p.vars (choice (branches (named y.in_range) rest no_branches) no_other) no_stms turns turns a (inside refl).does.after
-            (ap (λ z. if is_true z then exec p.vars rest turns a else Ended turns a) e ∙ (inside refl).does.ends) ∙ sym (inside refl).does.ends)
+        -- an IF with a test that has a value
+        if-tested : (a : Memory) (test : Expr) (body : Stms) (b : Bool) (d : Option State) → IsAfter a → value_of p.vars test a ≡ Ok (of_bool b) → (b ≡ true → Acts Q d (exec p.vars body turns a) turns)
+            → Acts Q (if b then d else None) (exec p.vars (tested test body) turns a) turns
+        if-tested a test body true d later e inside =
+            same-act Q d (exec p.vars (tested test body) turns a) (exec p.vars body turns a) turns
+            (cons_runs p.vars (choice (branches test body no_branches) no_other) no_stms turns turns a (inside refl).does.after
+            (ap (λ r. with_value r Faulted (λ z. if is_true z then exec p.vars body turns a else Ended turns a)) e ∙ (inside refl).does.ends) ∙ sym (inside refl).does.ends)
             (inside refl)
-        if-marked a false t later e inside =
-            same-act Q None (exec p.vars (chosen (branches (named y.in_range) rest no_branches) no_stms) turns a) (Ended turns a) turns
-            (cons_runs p.vars (choice (branches (named y.in_range) rest no_branches) no_other) no_stms turns turns a a
-            (ap (λ z. if is_true z then exec p.vars rest turns a else Ended turns a) e))
+        if-tested a test body false d later e inside =
+            same-act Q None (exec p.vars (tested test body) turns a) (Ended turns a) turns
+            (cons_runs p.vars (choice (branches test body no_branches) no_other) no_stms turns turns a a
+            (ap (λ r. with_value r Faulted (λ z. if is_true z then exec p.vars body turns a else Ended turns a)) e))
             (quiet Q turns a later)
 
-        -- The choice makes its step where all new values are in range, and else nothing that is seen has changed.
-        pub act-does : true_in n s c.test ≡ true → sends_fit n s c ≡ true
-            → Acts Q (if makes_step (system_of_net n) s c.event (choice_in n c) then Some next_state else None) (exec p.vars (act n w y k c.writes (moves_text n c.moves ss)) turns m0) turns
-        act-does test sent = go (any_tested n c.writes) refl
+        abbrev from_kept : ℕ
+        from_kept = k + updates_temps c.writes
+
+        abbrev keeps : Bool
+        keeps = list_all (true_in n (state_after n c s)) (asked n c)
+
+        -- The new values are there and in range: the invariants that are asked hold after, and it makes a step, or one of them doesn't.
+        keeping : (a : Memory) → IsAfter a → ((v : ℕ) → has (targets c.writes) v ≡ true → held_at p.vars a (y.next v) ≡ new_of v) → (fit : all_fit n (pairs_of n c s) ≡ true)
+            → makes_step (system_of_net n) s c.event (choice_in n c) ≡ keeps → IsReadyAfter n p w y base c s from_kept (all_hold (asked n c))
+            → Acts Q (if keeps then Some next_state else None) (exec p.vars (where_kept n w y from_kept c rest) turns a) turns
+        keeping a later new fit makes ready_after = go (asked n c) refl ready_after room.1
+          where
+            is-new : (v : ℕ) → v < length n.vars → new_of v ≡ slice_index_or (state_after n c s).vals v (pos 0)
+            is-new v below =
+                let long = pairwise-length (λ (d : Stored) z. in_range d.range z ≡ true) (map stored_in n.vars) s.vals st.state.is_state.values in
+                let same = map-length stored_in n.vars in
+                ap (λ ws. new_value ws v (old n p s v)) (pairs-are n c s h)
+                ∙ ap (λ i. new_value (assigned (system_of_net n) s (choice_in n c)) i (old n p s v)) (omega arith)
+                ∙ sym (value-assigned (assigned (system_of_net n) s (choice_in n c)) 0 s.vals v (omega (arith, below, long, same)))
+
+            asked-then : (es : List NetExpr) → asked n c ≡ es
+                → Asks n p own w y base low count c o named_so s m0 st.state (promised (after_naming n w y c) (setting_of n (state_after n c s) (pos 0)) refl) new_of is-new
+                (λ v h. sym (others-stay n s (received_in n s c) v c.writes h (old n p s v))) from_kept (all_hold es) turns a
+                → Acts Q (if list_all (true_in n (state_after n c s)) es then Some next_state else None)
+                (exec p.vars (append (before (after_naming n w y c) from_kept (all_hold es)) (tested (text (after_naming n w y c) from_kept (all_hold es)) rest)) turns a) turns
+            asked-then es is q =
+                same-act Q (if list_all (true_in n (state_after n c s)) es then Some next_state else None)
+                (exec p.vars (append (before (after_naming n w y c) from_kept (all_hold es)) (tested (text (after_naming n w y c) from_kept (all_hold es)) rest)) turns a)
+                (exec p.vars (tested (text (after_naming n w y c) from_kept (all_hold es)) rest) turns q.after) turns
+                (append_runs p.vars (before (after_naming n w y c) from_kept (all_hold es)) (tested (text (after_naming n w y c) from_kept (all_hold es)) rest) turns turns a q.after q.ends)
+                (if-tested q.after (text (after_naming n w y c) from_kept (all_hold es)) rest (list_all (true_in n (state_after n c s)) es) (Some next_state) q.later
+                (q.value ∙ ap Ok (all-value n (state_after n c s) es)) (λ hold. taking q.after q.later q.new fit (makes ∙ ap (list_all (true_in n (state_after n c s))) is ∙ hold)))
+
+            go : (es : List NetExpr) → asked n c ≡ es → IsReadyAfter n p w y base c s from_kept (all_hold es) → from_kept + temps (all_hold es) ≤ count
+                → Acts Q (if list_all (true_in n (state_after n c s)) es then Some next_state else None) (exec p.vars (where_hold (after_naming n w y c) from_kept es rest) turns a) turns
+            go [] is is_ready few = taking a later new fit (makes ∙ ap (list_all (true_in n (state_after n c s))) is)
+            go (e ∷ es) is is_ready few =
+                asked-then (e ∷ es) is
+                (asks-run n p own w y base low count c o named_so s m0 st.state (promised (after_naming n w y c) (setting_of n (state_after n c s) (pos 0)) refl) new_of is-new
+                (λ v h. sym (others-stay n s (received_in n s c) v c.writes h (old n p s v))) from_kept (all_hold (e ∷ es)) is_ready (omega (arith, room.0)) few turns a later new)
+
+        abbrev body : Stms
+        body = where_kept n w y from_kept c rest
+
+        -- The choice makes its step where all new values are in range and the invariants hold after, and else nothing that is seen
+        -- has changed.
+        pub act-does : true_in n s c.test ≡ true → sends_fit n s c ≡ true → (IsState (system_of_net n) (state_after n c s) → IsReadyAfter n p w y base c s (k + updates_temps c.writes) (all_hold (asked n c)))
+            → Acts Q (if makes_step (system_of_net n) s c.event (choice_in n c) then Some next_state else None)
+            (exec p.vars (act n w y k c.writes (where_kept n w y (k + updates_temps c.writes) c (stored w y c.writes (moves_text n c.moves ss)))) turns m0) turns
+        act-does test sent ready_after = go (any_tested n c.writes) refl
           where
             start : IsAfter m0
             start = record { typed = st.typed; others = λ j apart. refl }
 
-            makes-fit : makes_step (system_of_net n) s c.event (choice_in n c) ≡ all_fit n (pairs_of n c s)
-            makes-fit = makes-is n c s h ready.none ∙ ap (λ b. b && (sends_fit n s c && all_fit n (pairs_of n c s))) test ∙ ap (λ b. b && all_fit n (pairs_of n c s)) sent
+            makes-both : makes_step (system_of_net n) s c.event (choice_in n c) ≡ (all_fit n (pairs_of n c s) && keeps)
+            makes-both =
+                makes-is n c s h ∙ ap (λ b. b && (sends_fit n s c && allowed n c s)) test ∙ ap (λ b. b && allowed n c s) sent
+                ∙ ap (λ b. all_fit n (pairs_of n c s) && b) (asked-is n c s h st.state.is_state st.keeps)
+
+            kept-then : (a : Memory) → IsAfter a → ((v : ℕ) → has (targets c.writes) v ≡ true → held_at p.vars a (y.next v) ≡ new_of v) → all_fit n (pairs_of n c s) ≡ true
+                → Acts Q (if keeps then Some next_state else None) (exec p.vars body turns a) turns
+            kept-then a later new fit =
+                keeping a later new fit (makes-both ∙ ap (λ b. b && keeps) fit) (ready_after (leads n c s h ready.inside st.state.is_state test sent fit))
 
             go : (b : Bool) → any_tested n c.writes ≡ b
                 → Acts Q (if makes_step (system_of_net n) s c.event (choice_in n c) then Some next_state else None)
-                (exec p.vars (if b then stms (assign y.in_range (truth true)) (append (computed n w y k c.writes) (chosen (branches (named y.in_range) rest no_branches) no_stms))
-                else append (computed n w y k c.writes) rest) turns m0) turns
+                (exec p.vars (if b then stms (assign y.in_range (truth true)) (append (computed n w y k c.writes) (chosen (branches (named y.in_range) body no_branches) no_stms))
+                else append (computed n w y k c.writes) body) turns m0) turns
             go true t =
                 let m1 : Memory = slice_set m0 (place_of p.vars y.in_range) (pos 1) in
                 let later : IsAfter m1 = g.mark_kept true m0 t start in
                 let q = computed-run m1 later in
                 same-act Q (if makes_step (system_of_net n) s c.event (choice_in n c) then Some next_state else None)
-                (exec p.vars (stms (assign y.in_range (truth true)) (append (computed n w y k c.writes) (chosen (branches (named y.in_range) rest no_branches) no_stms))) turns m0)
-                (exec p.vars (chosen (branches (named y.in_range) rest no_branches) no_stms) turns q.after) turns
-                (cons_runs p.vars (assign y.in_range (truth true)) (append (computed n w y k c.writes) (chosen (branches (named y.in_range) rest no_branches) no_stms)) turns turns m0 m1
+                (exec p.vars (stms (assign y.in_range (truth true)) (append (computed n w y k c.writes) (chosen (branches (named y.in_range) body no_branches) no_stms))) turns m0)
+                (exec p.vars (tested (named y.in_range) body) turns q.after) turns
+                (cons_runs p.vars (assign y.in_range (truth true)) (append (computed n w y k c.writes) (chosen (branches (named y.in_range) body no_branches) no_stms)) turns turns m0 m1
                 (assign_runs p.vars y.in_range (truth true) (place_of p.vars y.in_range) (pos 1) turns m0 refl refl (g.mark_type true t))
-                ∙ append_runs p.vars (computed n w y k c.writes) (chosen (branches (named y.in_range) rest no_branches) no_stms) turns turns m1 q.after q.ends)
-                (subst (λ b. Acts Q (if b then Some next_state else None) (exec p.vars (chosen (branches (named y.in_range) rest no_branches) no_stms) turns q.after) turns) (sym makes-fit)
-                (if-marked q.after (all_fit n (pairs_of n c s)) next_state q.later
-                (q.mark t true (get_or-set_same m0 (place_of p.vars y.in_range) (pos 1) (pos 0) (g.mark_room m0 t start)))
-                (λ fit. taking q.after q.later q.new fit (makes-fit ∙ fit))))
+                ∙ append_runs p.vars (computed n w y k c.writes) (chosen (branches (named y.in_range) body no_branches) no_stms) turns turns m1 q.after q.ends)
+                (subst (λ d. Acts Q d (exec p.vars (tested (named y.in_range) body) turns q.after) turns)
+                (both-tests next_state (all_fit n (pairs_of n c s)) keeps (makes_step (system_of_net n) s c.event (choice_in n c)) makes-both)
+                (if-tested q.after (named y.in_range) body (all_fit n (pairs_of n c s)) (if keeps then Some next_state else None) q.later
+                (ap Ok (q.mark t true (get_or-set_same m0 (place_of p.vars y.in_range) (pos 1) (pos 0) (g.mark_room m0 t start))))
+                (λ fit. kept-then q.after q.later q.new fit)))
             go false t =
                 let q = computed-run m0 start in
                 let fit : all_fit n (pairs_of n c s) ≡ true = untested-fit n s (received_in n s c) c.writes k t
                 (all-updates ReadySet (λ i v e. IsSafeSet n (setting_of n s (received_in n s c)) v e) ReadyCondition (λ i e. IsSafeCondition (setting_of n s (received_in n s c)) e)
                 (λ v. has (targets c.writes) v ≡ true) (λ i v e in_it r. (r.0.0, r.1)) (λ i e r. (r.0.0, r.1)) c.writes k (λ v e. e) all) in
-                same-act Q (if makes_step (system_of_net n) s c.event (choice_in n c) then Some next_state else None) (exec p.vars (append (computed n w y k c.writes) rest) turns m0) (exec p.vars rest turns q.after) turns
-                (append_runs p.vars (computed n w y k c.writes) rest turns turns m0 q.after q.ends)
-                (subst (λ b. Acts Q (if b then Some next_state else None) (exec p.vars rest turns q.after) turns) (sym (makes-fit ∙ fit)) (taking q.after q.later q.new fit (makes-fit ∙ fit)))
+                same-act Q (if makes_step (system_of_net n) s c.event (choice_in n c) then Some next_state else None) (exec p.vars (append (computed n w y k c.writes) body) turns m0) (exec p.vars body turns q.after) turns
+                (append_runs p.vars (computed n w y k c.writes) body turns turns m0 q.after q.ends)
+                (subst (λ b. Acts Q (if b then Some next_state else None) (exec p.vars body turns q.after) turns) (sym (makes-both ∙ ap (λ b. b && keeps) fit)) (kept-then q.after q.later q.new fit))

@@ -37,7 +37,7 @@ module _ (vars : List StVar) where
   abbrev Clean : Stms → Type 0
   Clean ss = AllChecked vars ss
 
-  sort-of-new : (t : Ty) → sort_of_type (new_type t) ≡ sort_by (is_bool_type t)
+  pub sort-of-new : (t : Ty) → sort_of_type (new_type t) ≡ sort_by (is_bool_type t)
   sort-of-new cif_ty.Bool = refl
   sort-of-new (cif_ty.Int lo hi) = refl
   sort-of-new (cif_ty.Enum size) = refl
@@ -227,10 +227,14 @@ module _ (n : Net) (received : Option Ty) (vars : List StVar) (w : Naming) (y : 
           stores-clean is (λ k h. all k (in-right _ _ h)),
         )
 
-    -- what the choice does breaks no check, where what follows the stores doesn't
-    pub act-clean : (us : NetUpdates) (k : ℕ) (rest : Stms) → ((i : ℕ) → has (targets us) i ≡ true → V i) → (any_tested n us ≡ true → OwnIs vars y.in_range ty.Bool) → Own k (updates_types n received us) → updates_stand n received us ≡ true
-        → NoAlgs (updates_exprs us) → AllChecked vars rest → AllChecked vars (act n w y k us rest)
-    act-clean us k rest is mark o h none clean = go (any_tested n us) refl
+    -- storing the new values breaks no check, where what follows doesn't
+    pub stored-clean : (us : NetUpdates) (rest : Stms) → ((i : ℕ) → has (targets us) i ≡ true → V i) → AllChecked vars rest → AllChecked vars (stored w y us rest)
+    stored-clean us rest is clean = checked-append vars (stms_of (map (store w y) (assigned_vars us))) rest (stores-clean (assigned_vars us) (λ i e. is i (sym (assigned-has us i) ∙ e))) clean
+
+    -- nor does what the choice does, where what follows the new values doesn't
+    pub act-clean : (us : NetUpdates) (k : ℕ) (body : Stms) → ((i : ℕ) → has (targets us) i ≡ true → V i) → (any_tested n us ≡ true → OwnIs vars y.in_range ty.Bool) → Own k (updates_types n received us) → updates_stand n received us ≡ true
+        → NoAlgs (updates_exprs us) → AllChecked vars body → AllChecked vars (act n w y k us body)
+    act-clean us k body is mark o h none clean = go (any_tested n us) refl
       where
         may-stay-is : (i : ℕ) → has (may_stay us) i ≡ true → V i
         may-stay-is i e = is i (sym (assigned-has us i) ∙ filtered (assigned_vars us) e)
@@ -253,18 +257,15 @@ module _ (n : Net) (received : Option Ty) (vars : List StVar) (w : Naming) (y : 
             checked-append vars (stms_of (map (copy w y) (may_stay us))) (writes n w y k us) (copies-clean (may_stay us) may-stay-is)
             (writes-clean us k (λ i e. is i (subst (λ vs. has vs i ≡ true) (sym (targets-are us)) e)) o h none)
 
-        stored-clean : AllChecked vars (stored w y us rest)
-        stored-clean = checked-append vars (stms_of (map (store w y) (assigned_vars us))) rest (stores-clean (assigned_vars us) (λ i e. is i (sym (assigned-has us i) ∙ e))) clean
-
         go : (b : Bool) → any_tested n us ≡ b
-            → AllChecked vars (if b then stms (assign y.in_range (truth true)) (append (computed n w y k us) (chosen (branches (named y.in_range) (stored w y us rest) no_branches) no_stms))
-            else append (computed n w y k us) (stored w y us rest))
-        go false t = checked-append vars (computed n w y k us) (stored w y us rest) computed-clean stored-clean
+            → AllChecked vars (if b then stms (assign y.in_range (truth true)) (append (computed n w y k us) (chosen (branches (named y.in_range) body no_branches) no_stms))
+            else append (computed n w y k us) body)
+        go false t = checked-append vars (computed n w y k us) body computed-clean clean
         go true t = (
           set-clean vars y.in_range (truth true) ty.Bool true (mark t) refl (refl, refl),
-          checked-append vars (computed n w y k us) (chosen (branches (named y.in_range) (stored w y us rest) no_branches) no_stms) computed-clean
-              (chosen-clean vars (branches (named y.in_range) (stored w y us rest) no_branches) no_stms
-              (branch-clean vars (named y.in_range) (stored w y us rest) no_branches (name-sort vars y.in_range ty.Bool true (mark t) refl) stored-clean
+          checked-append vars (computed n w y k us) (chosen (branches (named y.in_range) body no_branches) no_stms) computed-clean
+              (chosen-clean vars (branches (named y.in_range) body no_branches) no_stms
+              (branch-clean vars (named y.in_range) body no_branches (name-sort vars y.in_range ty.Bool true (mark t) refl) clean
               record { known = refl; are_boolean = refl; no_faults = λ i. refl }) tt),
         )
 

@@ -1,11 +1,10 @@
 -- The part of an event whose choices have safe expressions tries the event.
-use Rattle.std.proofs.Common.{◌≡◌, ℕ, ◌+◌, ◌<◌, ℤ, true, List, [], flat_map, length, Option, sym, ◌∙◌}
+use Rattle.std.proofs.Common.{◌≡◌, ℕ, ◌+◌, ◌<◌, true, List, flat_map, length, Option, sym, ◌∙◌}
 use Rattle.std.specs.Prelude.{nat_eq}
-use Rattle.std.specs.List.{AllByRecursion}
+use Rattle.std.specs.List.{AllByRecursion, list_all}
 use Rattle.cif_base.specs.declared.types.Ty.{Ty}
-use Rattle.cif_system.specs.System.{State}
 use Rattle.cif_term.specs.Tree.{NetExpr}
-use Rattle.cif_model.specs.Net.{Net}
+use Rattle.cif_model.specs.Net.{NetInvariant, Net}
 use Rattle.cif_model.specs.Exprs.{targets}
 use Rattle.cif_model.specs.Facts.{has, is_net}
 use Rattle.cif_model.specs.Kinds.{Kind, fits, is_bool}
@@ -23,10 +22,11 @@ use Rattle.plc_gen.specs.Small.{are_small}
 use Rattle.plc_gen.proofs.Choosing.{all-filter, all-of}
 use Rattle.plc_gen.proofs.Facts.{standing}
 use Rattle.plc_expr.specs.Held.{IsThere}
-use Rattle.plc_expr.specs.Texts.{temps}
+use Rattle.cif_safe.specs.Safe.{Setting}
+use Rattle.plc_expr.specs.Texts.{Naming, temps}
 use Rattle.plc_expr.specs.Sorts.{is_boolean, own_types}
-use Rattle.plc_act.specs.Asked.{Promises, setting_of}
-use Rattle.plc_act.specs.Own.{event_vars, sent_name}
+use Rattle.plc_act.specs.Asked.{Promises}
+use Rattle.plc_act.specs.Own.{event_vars, new_names, sent_name}
 use Rattle.plc_act.specs.Parts.{AreDeclared, all_temps, data_first, data_part, event_faces, event_naming, ifs_from}
 use Rattle.plc_act.specs.Ready.{IsSafeChoice}
 use Rattle.plc_act.proofs.Targets.{once-all}
@@ -38,16 +38,16 @@ module _ (n : Net) (cs : List NetChoice) (p : Program) (base j e : ℕ) where
   abbrev here : List NetChoice
   here = choices_of cs e
 
-  pub safe-parts-tried : is_net n ≡ true → IsGuarded n cs → n.invariants ≡ [] → are_small n.vars ≡ true → are_small n.inputs ≡ true → e < length n.events
+  pub safe-parts-tried : is_net n ≡ true → IsGuarded n cs → list_all (λ (i : NetInvariant). names_no_alg i.pred) n.invariants ≡ true → are_small n.vars ≡ true → are_small n.inputs ≡ true → e < length n.events
       → AllByRecursion (IsSafeChoice n) (choices_of cs e) → IsDeclared p.vars fired ty.Bool → AreDeclared p base j (event_faces n (choices_of cs e))
       → ((r : Option Ty) (x : NetExpr) → length (own_types n r x) ≡ temps x)
       → ((r : Option Ty) (k : Kind) (x : NetExpr) → fits n r k x ≡ true → names_no_alg x ≡ true → is_boolean n r x ≡ is_bool k)
       → ((r : Option Ty) (k : Kind) (x : NetExpr) → fits n r k x ≡ true → names_no_alg x ≡ true → AllByRecursion (IsThere n r) (names_in x))
-      → ((s : State) (r : ℤ) → Promises p.vars (event_naming n (choices_of cs e) j) (setting_of n s r) base (ifs_from n (choices_of cs e) j) (ifs_from n (choices_of cs e) j + all_temps (choices_of cs e)))
+      → ((v : Naming) (x : Setting) → v.own ≡ (event_naming n (choices_of cs e) j).own → Promises p.vars v x base (ifs_from n (choices_of cs e) j) (ifs_from n (choices_of cs e) j + all_temps n (choices_of cs e)))
       → TriesEvent (face_of_net n) (system_of_net n) p (data_part n j (choices_of cs e)) e
-  safe-parts-tried is guarded none small_vars small_inputs within safe mark declared own_length told named promised =
+  safe-parts-tried is guarded free small_vars small_inputs within safe mark declared own_length told named promised =
       let stands = all-filter (λ (c : NetChoice). choice_stands n c ≡ true) (λ (c : NetChoice). nat_eq c.event e) cs (all-of (λ (c : NetChoice). choice_stands n c ≡ true) cs guarded.stands) in
       let there = λ (v : ℕ) (h : has (event_vars here) v ≡ true). vars-there n v here stands (sym (once-all (flat_map (λ (c : NetChoice). targets c.writes) here) v) ∙ h) in
-      parts-tried n cs p base j e is guarded none within mark declared own_length promised
-      (all-ready n (standing n is) small_vars small_inputs p (sent_name n here (data_first n here j)) base own_length told named here (ifs_from n here j) stands safe
+      parts-tried n cs p base j e is guarded free within mark declared own_length promised
+      (all-ready n (standing n is) small_vars small_inputs p (sent_name n here (data_first n here j)) base own_length told named free (new_names n here (data_first n here j)) here (ifs_from n here j) stands safe
       (declares-ifs n p base j here declared (types-length n own_length here) there))

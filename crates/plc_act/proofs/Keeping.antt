@@ -21,7 +21,7 @@ use Rattle.st_ast.specs.declared.tree.StTy.TheVariants as ty
 use Rattle.plc_face.specs.Face.{range_of}
 use Rattle.plc_expr.specs.Texts.{Naming, temps, branches_temps}
 use Rattle.plc_expr.specs.Sorts.{is_boolean, type_by, own_types, form_types, terms_types, factors_types, list_types, branches_types}
-use Rattle.plc_expr.specs.Safe.{Setting, HasBits, IsSafe, IsSafeForm, AreSafeTerms, AreSafeFactors, AreSafeTruths, AreSafeBranches, value_at}
+use Rattle.cif_safe.specs.Safe.{Setting, HasBits, IsSafe, IsSafeForm, AreSafeTerms, AreSafeFactors, AreSafeTruths, AreSafeBranches, value_at}
 use Rattle.plc_act.proofs.Kept.{HoldTypes}
 use Rattle.plc_expr.specs.Held.{Held, HeldForm, HeldTerms, HeldFactors, HeldList, HeldBranches}
 

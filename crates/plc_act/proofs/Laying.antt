@@ -68,7 +68,7 @@ member-at j (z ∷ xs) (suc i) x e = inr (subst (λ k. Member (name_for letter.T
 
 -- ---- the variables of an event
 
-module _ (n : Net) (p : Program) (base j : ℕ) (cs : List NetChoice) (d : AreDeclared p base j (event_faces n cs)) (count_is : length (flat_map (choice_types n) cs) ≡ all_temps cs)
+module _ (n : Net) (p : Program) (base j : ℕ) (cs : List NetChoice) (d : AreDeclared p base j (event_faces n cs)) (count_is : length (flat_map (choice_types n) cs) ≡ all_temps n cs)
     (vars_there : (v : ℕ) → has (event_vars cs) v ≡ true → (q : NetStored) × (slice_get n.vars v ≡ Some q)) where
   abbrev pub own_names : List Text
   own_names = map own_name (enumerate_from j (event_faces n cs))
@@ -83,7 +83,7 @@ module _ (n : Net) (p : Program) (base j : ℕ) (cs : List NetChoice) (d : AreDe
   first_own = ifs_from n cs j
 
   abbrev pub end_own : ℕ
-  end_own = first_own + all_temps cs
+  end_own = first_own + all_temps n cs
 
   temp-at : (i : ℕ) (x : VariableFace) → slice_get (event_faces n cs) i ≡ Some x → IsTemp p own_names (name_for letter.T (j + i) x.path) x.ty
   temp-at i x at =
@@ -171,7 +171,7 @@ module _ (n : Net) (p : Program) (base j : ℕ) (cs : List NetChoice) (d : AreDe
   types-below : (k : ℕ) → first_own ≤ k → k < end_own → (t : StTy) × (slice_get (flat_map (choice_types n) cs) (k - first_own) ≡ Some t)
   types-below k from below_k = get-below (flat_map (choice_types n) cs) (k - first_own) (omega (arith, count_is, from, below_k))
 
-  pub faces-length : length (event_faces n cs) ≡ dones + (ranges + (news + (sents + all_temps cs)))
+  pub faces-length : length (event_faces n cs) ≡ dones + (ranges + (news + (sents + all_temps n cs)))
   faces-length =
       length-append (done_faces n cs) (data_faces n cs)
       ∙ ap (λ q. dones + q) (length-append (range_faces n cs) (map (new_face n) (event_vars cs) ++ (sent_faces n cs ++ ifs)))

@@ -5,6 +5,9 @@ pub mod Targets
 pub mod Memories
 pub mod Taking
 pub mod Storing
+pub mod Reading
+pub mod Asking
+pub mod Testing
 pub mod Acting
 pub mod Sending
 pub mod Offering
@@ -13,7 +16,6 @@ pub mod Whole
 pub mod Rows
 pub mod Laying
 pub mod Parts
-pub mod Reading
 pub mod Keeping
 pub mod Kept
 pub mod Readying

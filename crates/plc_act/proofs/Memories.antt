@@ -34,7 +34,7 @@ use Rattle.plc_gen.specs.Faces.{face_of_net}
 use Rattle.plc_gen.proofs.Making.{fired_is}
 use Rattle.plc_gen.proofs.Writing.{Among, among-first, among-rest, among-right}
 use Rattle.plc_expr.specs.Texts.{Naming, temps}
-use Rattle.plc_expr.specs.Safe.{Setting, IsSafe}
+use Rattle.cif_safe.specs.Safe.{Setting, IsSafe}
 use Rattle.plc_expr.specs.Held.{Reads, Prepares}
 use Rattle.plc_act.specs.Writes.{NewNames, is_tested, any_tested}
 use Rattle.plc_act.specs.Declared.{IsTemp, OwnStand}
@@ -166,6 +166,24 @@ module _ (n : Net) (p : Program) (own : List Text) (w : Naming) (y : NewNames) (
     apart-places : (x z : Text) (t : StTy) → IsTemp p own x t → same_name x z ≡ false → place_of p.vars x ≢ place_of p.vars z
     apart-places x z t h apart = let d = declared-of p.vars x t h.is_declared in places-differ p.vars x z d.variable d.at apart
 
+    -- the own variables of expressions are there
+    pub own-inside : (m0 m : Memory) → IsLater m0 m → base + count ≤ length m
+    own-inside m0 m h =
+        let few = o.own_inside in
+        let long = pairwise-length (λ (v : StVar) z. IsTrue (in_range (range_of v.ty) z)) p.vars m h.typed in omega (arith, few, long)
+
+    -- a place that none of them has lies before or behind them
+    pub past-own : (j : ℕ) → ((k : ℕ) → low ≤ k → k < count → j ≢ base + k) → base + low ≤ j → base + count ≤ j
+    past-own j apart above = let b : low ≤ j - base → j - base < count → j ≢ base + (j - base) = apart (j - base) in grind (arith, b, above)
+
+    pub past-some : (j k c : ℕ) → ((i : ℕ) → low ≤ i → i < count → j ≢ base + i) → low ≤ k → k + c ≤ count → base + k ≤ j → base + k + c ≤ j
+    past-some j k c apart from few above = let b : low ≤ j - base → j - base < count → j ≢ base + (j - base) = apart (j - base) in grind (arith, b, above, from, few)
+
+    pub next-own : (v k : ℕ) → Assigned v → low ≤ k → k < count → place_of p.vars (y.next v) ≢ base + k
+    next-own v k i from below_k e =
+        let new = o.next v i in
+        apart-places (y.next v) (w.own k) (new_type new.stored.type_of) new.temp (o.next_own v k i from below_k) (e ∙ sym (o.own_places k from below_k))
+
     -- ---- what is promised of expressions
 
     module _ (s : State) (receives : Option Ty) (r : ℤ) (m0 : Memory) (st : StateOf (face_of_net n) (system_of_net n) p m0 s) (got : Receives p.vars w receives r m0) (only : (t : Ty) → receives ≡ Some t → carried ≡ Some t)
@@ -201,24 +219,16 @@ module _ (n : Net) (p : Program) (own : List Text) (w : Naming) (y : NewNames) (
           (receives-on m a (λ j apart. same j (past j apart)) (received-later m h))
         where
           past : (j : ℕ) → IsOther j → base + low ≤ j → base + count ≤ j
-          past j apart above = let b : low ≤ j - base → j - base < count → j ≢ base + (j - base) = apart.no_own (j - base) in grind (arith, b, above)
+          past j apart above = past-own j apart.no_own above
 
           kept : (l : Letter) → (l ≡ letter.T → ⊥) → Kept p m a l
           kept l other i path t at = same (place_of p.vars (name_for l i path)) (past (place_of p.vars (name_for l i path)) (other-letter l other i path t at))
 
-      inside : (m : Memory) → IsLater m0 m → base + count ≤ length m
-      inside m h =
-          let few = o.own_inside in
-          let long = pairwise-length (λ (v : StVar) z. IsTrue (in_range (range_of v.ty) z)) p.vars m h.typed in omega (arith, few, long)
-
       prepared-later : (e : NetExpr) (k turns : ℕ) (m : Memory) → IsReady k e → (low ≤ k) × (k + temps e ≤ count) → IsLater m0 m → (q : Prepares p.vars w x base k e turns m) → IsLater m0 q.after
       prepared-later e k turns m is few h q = record {
         typed = is.2 turns m h.typed (reads-later m k e h is) q;
-        others = λ j apart. q.beside.others j (λ above. beyond j apart above) ∙ h.others j apart;
+        others = λ j apart. q.beside.others j (λ above. past-some j k (temps e) apart.no_own few.0 few.1 above) ∙ h.others j apart;
       }
-        where
-          beyond : (j : ℕ) → IsOther j → base + k ≤ j → base + k + temps e ≤ j
-          beyond j apart above = let a : low ≤ j - base → j - base < count → j ≢ base + (j - base) = apart.no_own (j - base) in grind (arith, a, above, few.0, few.1)
 
       next-later : (v : ℕ) (z : ℤ) (m : Memory) → Assigned v → CanTake (slice_get n.vars v) z → IsLater m0 m → IsLater m0 (slice_set m (place_of p.vars (y.next v)) z)
       next-later v z m i takes h =
@@ -237,15 +247,13 @@ module _ (n : Net) (p : Program) (own : List Text) (w : Naming) (y : NewNames) (
 
       pub grounds : Grounds n s r p.vars w y base low count (IsLater m0) IsReady Assigned Tested
       grounds = record {
-        prepares = λ e k turns m is few h. promised.prepares e k turns m (λ a same. reads-beside m a k e h is same) (inside m h) is.0 few.0 few.1;
+        prepares = λ e k turns m is few h. promised.prepares e k turns m (λ a same. reads-beside m a k e h is same) (own-inside m0 m h) is.0 few.0 few.1;
         prepared_kept = prepared-later;
         held_kept = λ e k m after is few same held. promised.held_kept e k m after few.0 few.1 same held;
         valued = λ e k m is h held. promised.valued e k m (reads-later m k e h is) is.0 held;
         next_room = λ v m i h. let new = o.next v i in room (y.next v) (new_type new.stored.type_of) m new.temp h.typed;
         next_apart = λ v u i j other. let new = o.next v i in apart-places (y.next v) (y.next u) (new_type new.stored.type_of) new.temp (o.next_apart v u i j other);
-        next_own = λ v k i from below e.
-            let new = o.next v i in
-            apart-places (y.next v) (w.own k) (new_type new.stored.type_of) new.temp (o.next_own v k i from below) (e ∙ sym (o.own_places k from below));
+        next_own = next-own;
         next_type = λ v z i takes.
             let new = o.next v i in
             ap (λ t. is_within t z) (declared-type p.vars (y.next v) (new_type new.stored.type_of) new.temp.is_declared)

@@ -7,7 +7,7 @@ use Rattle.cif_model.specs.Kinds.{in_32_bits}
 use Rattle.st_ast.specs.Values.{Memory, of_bool, is_true, fits, overflow, value_of}
 use Rattle.st_ast.specs.declared.tree.StVar.{StVar}
 use Rattle.plc_expr.specs.Texts.{number_text}
-use Rattle.plc_expr.specs.Safe.{IsTruth}
+use Rattle.cif_safe.specs.Safe.{IsTruth}
 
 pub truth-of : (b : Bool) → is_true (of_bool b) ≡ b
 truth-of true = refl

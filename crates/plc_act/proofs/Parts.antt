@@ -1,21 +1,22 @@
 -- The part of an event whose choices have data tries the event.
-use Rattle.std.proofs.Common.{◌≡◌, ℕ, suc, ◌+◌, ◌<◌, ◌≤◌, ℤ, Bool, true, false, ◌&&◌, ◌||◌, List, [], ◌∷◌, ◌++◌, length, flat_map, Option, Some, None, nat_eq, inr, refl, sym, ap, subst, ◌∙◌, arith, if◌then◌else◌}
+use Rattle.std.proofs.Common.{◌≡◌, ℕ, suc, ◌+◌, ◌<◌, ◌≤◌, Bool, true, false, ◌&&◌, ◌||◌, List, [], ◌∷◌, ◌++◌, length, flat_map, Option, Some, None, nat_eq, inr, refl, sym, ap, subst, ◌∙◌, arith, if◌then◌else◌}
 use Rattle.std.specs.Prelude.{codes, nat_lt, slice_get}
 use Rattle.std.specs.List.{AllByRecursion, list_all, list_any}
 use Rattle.std.proofs.lemmas.List.{length-append}
 use Rattle.grammar.specs.Pieces.{Text}
 use Rattle.cif_base.specs.declared.types.Ty.{Ty}
-use Rattle.cif_system.specs.System.{State}
 use Rattle.cif_term.specs.Tree.{NetExpr, NetUpdate, net_set, net_choose, NetUpdates, no_net_updates, net_updates, NetUpdateBranches, no_net_update_branches, net_update_branches}
-use Rattle.cif_model.specs.Net.{NetStored, Net}
+use Rattle.cif_model.specs.Net.{NetInvariant, NetStored, Net}
 use Rattle.cif_model.specs.Exprs.{targets}
 use Rattle.cif_model.specs.Facts.{channel_of, has, is_net}
 use Rattle.cif_model.specs.Shown.{channel_type}
-use Rattle.cif_model.specs.Listing.{NetChoice}
+use Rattle.cif_model.specs.Listing.{NetChoice, all_hold}
 use Rattle.cif_model.specs.Meaning.{system_of_net}
+use Rattle.cif_model.specs.Reads.{names_no_alg}
 use Rattle.cif_model.specs.Table.{IsGuarded, carried_type, choice_stands}
 use Rattle.cif_model.proofs.Passing.{and-left, and-right}
 use Rattle.st_ast.specs.Tree.{Program}
+use Rattle.st_ast.specs.declared.tree.StTy.{StTy}
 use Rattle.st_ast.specs.declared.tree.StTy.TheVariants as ty
 use Rattle.plc_face.specs.declared.letter.Letter.TheVariants as letter
 use Rattle.plc_face.specs.Face.{IsDeclared}
@@ -24,11 +25,13 @@ use Rattle.plc_face.proofs.NameLaws.{names-differ}
 use Rattle.plc_gen.specs.Faces.{face_of_net}
 use Rattle.plc_gen.specs.Events.{all_bare, choices_of, done_face, needs_mark, own_name}
 use Rattle.plc_gen.proofs.Choosing.{all-filter, all-of}
+use Rattle.cif_safe.specs.Safe.{Setting}
 use Rattle.plc_expr.specs.Texts.{Naming, temps}
 use Rattle.plc_expr.specs.Sorts.{own_types}
 use Rattle.plc_act.specs.Writes.{NewNames, any_tested, conditions_temps, updates_temps, update_temps, bodies_temps}
-use Rattle.plc_act.specs.Asked.{setting_of, Promises}
+use Rattle.plc_act.specs.Asked.{Promises}
 use Rattle.plc_act.specs.Sends.{event_type, sent_temps}
+use Rattle.plc_act.specs.Keeps.{asked}
 use Rattle.plc_act.specs.Own.{data_faces, new_face, range_face, range_faces, choice_temps, choice_types, conditions_types, updates_types, update_types, bodies_types, event_vars, new_names, place_in, sent_number, sent_types, tests_range}
 use Rattle.plc_act.specs.Declared.{OwnStand}
 use Rattle.plc_act.specs.Events.{all_written, is_bare}
@@ -74,18 +77,20 @@ module _ (n : Net) (own_length : (r : Option Ty) (e : NetExpr) → length (own_t
   sent-length None = refl
   sent-length (Some e) = own_length None e
 
-  pub choice-length : (c : NetChoice) → length (choice_types n c) ≡ choice_temps c
+  pub choice-length : (c : NetChoice) → length (choice_types n c) ≡ choice_temps n c
   choice-length c =
-      length-append (own_types n None c.test) (sent_types n c.sent ++ updates_types n (carried_type n c) c.writes)
-      ∙ ap (λ q. q + length (sent_types n c.sent ++ updates_types n (carried_type n c) c.writes)) (own_length None c.test)
-      ∙ ap (λ q. temps c.test + q) (length-append (sent_types n c.sent) (updates_types n (carried_type n c) c.writes)
-      ∙ ap (λ q. q + length (updates_types n (carried_type n c) c.writes)) (sent-length c.sent) ∙ ap (λ q. sent_temps c.sent + q) (updates-length n (carried_type n c) (own_length (carried_type n c)) c.writes))
+      let us : List StTy = updates_types n (carried_type n c) c.writes in
+      let ks : List StTy = own_types n None (all_hold (asked n c)) in
+      length-append (own_types n None c.test) (sent_types n c.sent ++ (us ++ ks)) ∙ ap (λ q. q + length (sent_types n c.sent ++ (us ++ ks))) (own_length None c.test)
+      ∙ ap (λ q. temps c.test + q) (length-append (sent_types n c.sent) (us ++ ks) ∙ ap (λ q. q + length (us ++ ks)) (sent-length c.sent)
+      ∙ ap (λ q. sent_temps c.sent + q) (length-append us ks ∙ ap (λ q. q + length ks) (updates-length n (carried_type n c) (own_length (carried_type n c)) c.writes)
+      ∙ ap (λ q. updates_temps c.writes + q) (own_length None (all_hold (asked n c)))))
 
-  pub types-length : (cs : List NetChoice) → length (flat_map (choice_types n) cs) ≡ all_temps cs
+  pub types-length : (cs : List NetChoice) → length (flat_map (choice_types n) cs) ≡ all_temps n cs
   types-length [] = refl
   types-length (c ∷ cs) =
       length-append (choice_types n c) (flat_map (choice_types n) cs)
-      ∙ ap (λ q. q + length (flat_map (choice_types n) cs)) (choice-length c) ∙ ap (λ q. choice_temps c + q) (types-length cs)
+      ∙ ap (λ q. q + length (flat_map (choice_types n) cs)) (choice-length c) ∙ ap (λ q. choice_temps n c + q) (types-length cs)
 
 -- ---- lists of choices
 
@@ -97,7 +102,7 @@ any-left : (a b : Bool) → a ≡ true → (a || b) ≡ true
 any-left true b e = refl
 any-left false b e = absurd cc
 
-module _ (n : Net) (p : Program) (base j : ℕ) (cs : List NetChoice) (d : AreDeclared p base j (event_faces n cs)) (count_is : length (flat_map (choice_types n) cs) ≡ all_temps cs)
+module _ (n : Net) (p : Program) (base j : ℕ) (cs : List NetChoice) (d : AreDeclared p base j (event_faces n cs)) (count_is : length (flat_map (choice_types n) cs) ≡ all_temps n cs)
     (vars_there : (v : ℕ) → has (event_vars cs) v ≡ true → (q : NetStored) × (slice_get n.vars v ≡ Some q)) where
   abbrev low : ℕ
   low = first_own n p base j cs d count_is vars_there
@@ -110,9 +115,9 @@ module _ (n : Net) (p : Program) (base j : ℕ) (cs : List NetChoice) (d : AreDe
 
   -- the choices from some place on stand
   all-stand : (ds : List NetChoice) (k : ℕ) → ((v : ℕ) → has (flat_map (λ (c : NetChoice). targets c.writes) ds) v ≡ true → has (event_vars cs) v ≡ true)
-      → (list_any (λ (c : NetChoice). any_tested n c.writes) ds ≡ true → tests_range n cs ≡ true) → low ≤ k → k + all_temps ds ≤ count → AllByRecursion (λ (c : NetChoice). carried_type n c ≡ event_type n cs) ds
-      → AllFrom (IsReadyChoice n p (event_naming n cs j) base) k ds
-      → AllFrom (ChoiceStands n p own (event_naming n cs j) (new_names n cs (data_first n cs j)) base low count) k ds
+      → (list_any (λ (c : NetChoice). any_tested n c.writes) ds ≡ true → tests_range n cs ≡ true) → low ≤ k → k + all_temps n ds ≤ count → AllByRecursion (λ (c : NetChoice). carried_type n c ≡ event_type n cs) ds
+      → AllFrom n (IsReadyChoice n p (event_naming n cs j) (new_names n cs (data_first n cs j)) base) k ds
+      → AllFrom n (ChoiceStands n p own (event_naming n cs j) (new_names n cs (data_first n cs j)) base low count) k ds
   all-stand [] k sub tests from room carried ready = tt
   all-stand (c ∷ ds) k sub tests from room carried ready = (
     record {
@@ -124,7 +129,7 @@ module _ (n : Net) (p : Program) (base j : ℕ) (cs : List NetChoice) (d : AreDe
       from = from;
       room = omega (arith, room);
     },
-    all-stand ds (k + choice_temps c) (λ v h. sub v (has-append (targets c.writes) (flat_map (λ (q : NetChoice). targets q.writes) ds) v ∙ any-right _ _ h)) (λ t. tests (any-right _ _ t))
+    all-stand ds (k + choice_temps n c) (λ v h. sub v (has-append (targets c.writes) (flat_map (λ (q : NetChoice). targets q.writes) ds) v ∙ any-right _ _ h)) (λ t. tests (any-right _ _ t))
         (omega (arith, from)) (omega (arith, room)) carried.1 ready.1,
   )
 
@@ -164,11 +169,11 @@ module _ (n : Net) (p : Program) (base j : ℕ) (cs : List NetChoice) (d : AreDe
 module _ (n : Net) (w : Naming) (y : NewNames) where
   bare-is : (k : ℕ) (cs : List NetChoice) → all_bare (all_written n w y k cs) ≡ list_all (is_bare n) cs
   bare-is k [] = refl
-  bare-is k (c ∷ cs) = ap (λ b. is_bare n c && b) (bare-is (k + choice_temps c) cs)
+  bare-is k (c ∷ cs) = ap (λ b. is_bare n c && b) (bare-is (k + choice_temps n c) cs)
 
   written-length : (k : ℕ) (cs : List NetChoice) → length (all_written n w y k cs) ≡ length cs
   written-length k [] = refl
-  written-length k (c ∷ cs) = ap suc (written-length (k + choice_temps c) cs)
+  written-length k (c ∷ cs) = ap suc (written-length (k + choice_temps n c) cs)
 
   pub mark-is : (k : ℕ) (cs : List NetChoice) → needs_mark (all_written n w y k cs) ≡ needs_done n cs
   mark-is k cs = ap (λ b. if b then false else nat_lt 1 (length (all_written n w y k cs))) (bare-is k cs) ∙ ap (λ l. if list_all (is_bare n) cs then false else nat_lt 1 l) (written-length k cs)
@@ -201,18 +206,18 @@ module _ (n : Net) (cs : List NetChoice) (p : Program) (base j e : ℕ) where
   here = choices_of cs e
 
   -- the part of the event tries it
-  pub parts-tried : is_net n ≡ true → IsGuarded n cs → n.invariants ≡ [] → e < length n.events
+  pub parts-tried : is_net n ≡ true → IsGuarded n cs → list_all (λ (i : NetInvariant). names_no_alg i.pred) n.invariants ≡ true → e < length n.events
       → IsDeclared p.vars fired ty.Bool → AreDeclared p base j (event_faces n (choices_of cs e)) → ((r : Option Ty) (x : NetExpr) → length (own_types n r x) ≡ temps x)
-      → ((s : State) (r : ℤ) → Promises p.vars (event_naming n (choices_of cs e) j) (setting_of n s r) base (ifs_from n (choices_of cs e) j) (ifs_from n (choices_of cs e) j + all_temps (choices_of cs e)))
-      → AllFrom (IsReadyChoice n p (event_naming n (choices_of cs e) j) base) (ifs_from n (choices_of cs e) j) (choices_of cs e)
+      → ((v : Naming) (x : Setting) → v.own ≡ (event_naming n (choices_of cs e) j).own → Promises p.vars v x base (ifs_from n (choices_of cs e) j) (ifs_from n (choices_of cs e) j + all_temps n (choices_of cs e)))
+      → AllFrom n (IsReadyChoice n p (event_naming n (choices_of cs e) j) (new_names n (choices_of cs e) (data_first n (choices_of cs e) j)) base) (ifs_from n (choices_of cs e) j) (choices_of cs e)
       → TriesEvent (face_of_net n) (system_of_net n) p (data_part n j (choices_of cs e)) e
-  parts-tried is guarded none within mark declared own_length promised ready =
+  parts-tried is guarded free within mark declared own_length promised ready =
       let count_is = types-length n own_length here in
       let there = λ (v : ℕ) (h : has (event_vars here) v ≡ true).
       vars-there n v here (all-filter (λ (c : NetChoice). choice_stands n c ≡ true) (λ (c : NetChoice). nat_eq c.event e) cs (all-of (λ (c : NetChoice). choice_stands n c ≡ true) cs guarded.stands))
       (sym (once-all (flat_map (λ (c : NetChoice). targets c.writes) here) v) ∙ h) in
-      events-tried n cs p (own_names n p base j here declared count_is there) (event_naming n here j) (new_names n here (data_first n here j)) base (ifs_from n here j) (ifs_from n here j + all_temps here) (ifs_from n here j) e (own_name (j, done_face))
-      is guarded none within mark (λ v. refl) promised
+      events-tried n cs p (own_names n p base j here declared count_is there) (event_naming n here j) (new_names n here (data_first n here j)) base (ifs_from n here j) (ifs_from n here j + all_temps n here) (ifs_from n here j) e (own_name (j, done_face))
+      is guarded free within mark (λ v. refl) promised
       (all-stand n p base j here declared count_is there here (ifs_from n here j) (λ v h. once-all (flat_map (λ (c : NetChoice). targets c.writes) here) v ∙ h) (λ t. t) (omega arith) (omega arith)
       (one-type n e here (of-event cs e)) ready)
       (λ t. done-stands n p base j here declared count_is there (sym (mark-is n (event_naming n here j) (new_names n here (data_first n here j)) (ifs_from n here j) here) ∙ t))

@@ -5,7 +5,7 @@ use Rattle.cif_term.specs.Tree.{NetExpr}
 use Rattle.st_ast.specs.Values.{Memory}
 use Rattle.st_ast.specs.declared.tree.StVar.{StVar}
 use Rattle.plc_expr.specs.Texts.{Naming, temps}
-use Rattle.plc_expr.specs.Safe.{Setting}
+use Rattle.cif_safe.specs.Safe.{Setting}
 use Rattle.plc_expr.specs.Held.{OwnPlaces, IsBeside}
 use Rattle.plc_expr.proofs.Values.{text-value}
 use Rattle.plc_expr.proofs.Memories.{held-same}

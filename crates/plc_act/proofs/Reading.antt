@@ -1,5 +1,5 @@
 -- What expressions name is read from each memory that stands for a state and holds what is received, as it is in the state.
-use Rattle.std.proofs.Common.{◌≡◌, ℕ, zero, suc, ◌+◌, ◌<◌, ℤ, pos, true, List, [], ◌∷◌, map, length, Option, Some, None, Ok, get_or, refl, sym, ap, ◌∙◌, arith}
+use Rattle.std.proofs.Common.{◌≡◌, ℕ, zero, suc, ◌+◌, ◌<◌, ℤ, pos, nat_eq, true, List, [], ◌∷◌, map, length, Option, Some, None, Ok, get_or, refl, sym, ap, ◌∙◌, arith}
 use Rattle.std.specs.Prelude.{is_some, slice_get, slice_index_or, option_map}
 use Rattle.std.specs.List.{AllByRecursion}
 use Rattle.std.proofs.lemmas.Option.{slice_get-map}
@@ -7,24 +7,29 @@ use Rattle.grammar.specs.Pieces.{Text}
 use Rattle.cif_base.specs.declared.types.Ty.{Ty}
 use Rattle.cif_system.specs.System.{State}
 use Rattle.cif_term.specs.Tree.{NetExpr}
-use Rattle.cif_model.specs.Net.{NetAuto, NetStored, Net}
+use Rattle.cif_model.specs.Net.{NetAuto, NetEdge, NetStored, Net}
+use Rattle.cif_model.specs.Listing.{NetChoice}
 use Rattle.cif_model.specs.Meaning.{system_of_net}
 use Rattle.cif_model.specs.Reads.{Read, a_var, an_input, an_alg, a_place, the_received, names_in}
-use Rattle.st_ast.specs.Tree.{Program}
+use Rattle.st_ast.specs.Tree.{Program, truth}
 use Rattle.st_ast.specs.Names.{place_of}
-use Rattle.st_ast.specs.Values.{Memory, of_bool, same_number}
+use Rattle.st_ast.specs.Values.{Memory, of_bool, same_number, value_of}
 use Rattle.plc_face.specs.declared.letter.Letter.TheVariants as letter
 use Rattle.plc_face.specs.Names.{name_for}
 use Rattle.plc_face.specs.Face.{StateOf, place_face}
 use Rattle.plc_face.proofs.FaceLaws.{get_or-of}
 use Rattle.plc_gen.specs.Faces.{auto_face, face_of_net, stored_face}
-use Rattle.plc_gen.specs.Places.{place_name}
+use Rattle.plc_gen.specs.Places.{is_in_place, place_name}
 use Rattle.plc_gen.proofs.Making.{face-at}
 use Rattle.plc_gen.proofs.Moving.{faces}
 use Rattle.plc_gen.proofs.Writing.{hold-at}
 use Rattle.plc_expr.specs.Held.{held_at, IsRead, IsThere, Reads}
 use Rattle.plc_act.specs.Asked.{setting_of, Receives}
+use Rattle.plc_act.specs.Keeps.{after_naming, taken_edge}
 use Rattle.plc_act.specs.Own.{data_naming, input_name, variable_name}
+use Rattle.plc_act.specs.Ready.{HoldsAfter, state_after}
+use Rattle.plc_act.specs.Writes.{NewNames}
+use Rattle.plc_act.proofs.Asking.{moved_to, place-after}
 use Rattle.plc_act.proofs.Taking.{variable-at}
 
 get-some : {A : Type 0} (xs : List A) (k : ℕ) → k < length xs → (a : A) × (slice_get xs k ≡ Some a)
@@ -38,7 +43,7 @@ number-at (l ∷ ls) zero = refl
 number-at (l ∷ ls) (suc k) = number-at ls k
 
 module _ (n : Net) (p : Program) (received : Text) (s : State) (r : ℤ) (m : Memory) (st : StateOf (face_of_net n) (system_of_net n) p m s) where
-  reads-place : (k : ℕ) → k < length n.autos → held_at p.vars m (place_name n k) ≡ pos (slice_index_or s.locs k 0)
+  pub reads-place : (k : ℕ) → k < length n.autos → held_at p.vars m (place_name n k) ≡ pos (slice_index_or s.locs k 0)
   reads-place k h =
       let a = get-some n.autos k h in
       let zero-plus : 0 + k ≡ k = omega arith in
@@ -49,7 +54,7 @@ module _ (n : Net) (p : Program) (received : Text) (s : State) (r : ℤ) (m : Me
       ∙ get_or-of m (place_of p.vars (name_for letter.L (0 + k) a.0.path)) (get_or (map pos s.locs) k (pos 0)) (pos 0) held.holds
       ∙ number-at s.locs k
 
-  reads-input : (k : ℕ) → k < length n.inputs → held_at p.vars m (input_name n k) ≡ slice_index_or s.ins k (pos 0)
+  pub reads-input : (k : ℕ) → k < length n.inputs → held_at p.vars m (input_name n k) ≡ slice_index_or s.ins k (pos 0)
   reads-input k h =
       let a = get-some n.inputs k h in
       let zero-plus : 0 + k ≡ k = omega arith in
@@ -59,7 +64,7 @@ module _ (n : Net) (p : Program) (received : Text) (s : State) (r : ℤ) (m : Me
       ap (λ x. held_at p.vars m x) name
       ∙ get_or-of m (place_of p.vars (name_for letter.H (0 + k) a.0.path)) (slice_index_or s.ins k (pos 0)) (pos 0) held.holds
 
-  reads-variable : (k : ℕ) → k < length n.vars → held_at p.vars m (variable_name n k) ≡ slice_index_or s.vals k (pos 0)
+  pub reads-variable : (k : ℕ) → k < length n.vars → held_at p.vars m (variable_name n k) ≡ slice_index_or s.vals k (pos 0)
   reads-variable k h = let a = get-some n.vars k h in get_or-of m (place_of p.vars (variable_name n k)) (slice_index_or s.vals k (pos 0)) (pos 0) (variable-at n p s m k a.0 a.1 st).holds
 
   module _ (t : Option Ty) (got : Receives p.vars (data_naming n received) t r m) where
@@ -81,3 +86,31 @@ module _ (n : Net) (p : Program) (received : Text) (s : State) (r : ℤ) (m : Me
     -- the names of an expression
     pub reads-named : (e : NetExpr) → AllByRecursion (IsThere n t) (names_in e) → Reads p.vars (data_naming n received) (setting_of n s r) m e
     reads-named e all = reads-all (names_in e) all
+
+-- after a choice, from a memory that holds the values after it
+module _ (n : Net) (p : Program) (received : Text) (y : NewNames) (c : NetChoice) (s : State) (m : Memory) (st : StateOf (face_of_net n) (system_of_net n) p m s)
+    (holds : HoldsAfter n p (data_naming n received) y c s m) where
+  abbrev IsReadAfter : Read → Type 0
+  IsReadAfter x = IsRead p.vars (after_naming n (data_naming n received) y c) (setting_of n (state_after n c s) (pos 0)) m x
+
+  after-one : (x : Read) → IsThere n None x → IsReadAfter x
+  after-one (a_var k) h = holds k h
+  after-one (an_input k) h = reads-input n p received s (pos 0) m st k h
+  after-one (an_alg k) h = absurd h
+  after-one the_received h = absurd cc
+  after-one (a_place k) h = λ q. go q (taken_edge n c k) refl
+    where
+      place : (o : Option NetEdge) → taken_edge n c k ≡ o → slice_index_or (state_after n c s).locs k 0 ≡ moved_to (slice_index_or s.locs k 0) o
+      place o e = place-after n c s st.is_state k ∙ ap (moved_to (slice_index_or s.locs k 0)) e
+
+      go : (q : ℕ) (o : Option NetEdge) → taken_edge n c k ≡ o
+          → value_of p.vars (elim o [ None ↦ is_in_place n k q | Some x ↦ truth (nat_eq x.to q) ]) m ≡ Ok (of_bool (nat_eq (slice_index_or (state_after n c s).locs k 0) q))
+      go q None e = ap (λ z. Ok (of_bool (same_number z (pos q)))) (reads-place n p received s (pos 0) m st k h) ∙ ap (λ l. Ok (of_bool (nat_eq l q))) (sym (place None e))
+      go q (Some x) e = ap (λ l. Ok (of_bool (nat_eq l q))) (sym (place (Some x) e))
+
+  after-all : (xs : List Read) → AllByRecursion (IsThere n None) xs → AllByRecursion IsReadAfter xs
+  after-all [] all = tt
+  after-all (x ∷ xs) all = (after-one x all.0, after-all xs all.1)
+
+  pub reads-after : (e : NetExpr) → AllByRecursion (IsThere n None) (names_in e) → Reads p.vars (after_naming n (data_naming n received) y c) (setting_of n (state_after n c s) (pos 0)) m e
+  reads-after e all = after-all (names_in e) all

@@ -11,14 +11,14 @@ use Rattle.cif_system.specs.System.{IsState, Range, State, in_range}
 use Rattle.cif_system.proofs.Lists.{none-some, some-same}
 use Rattle.cif_system.proofs.Picks.{at-member}
 use Rattle.cif_term.specs.Tree.{NetExpr, NetUpdate, net_set, net_choose, NetUpdates, no_net_updates, net_updates, NetUpdateBranches, no_net_update_branches, net_update_branches}
-use Rattle.cif_model.specs.Net.{NetStored, Net}
+use Rattle.cif_model.specs.Net.{NetInvariant, NetStored, Net}
 use Rattle.cif_model.specs.Exprs.{updates_exprs, update_exprs, branches_exprs}
 use Rattle.cif_model.specs.Facts.{assigns_kind, branches_stand, channel_of, is_type, literals_fit, stored_stands, update_stands, updates_stand, var_kind}
 use Rattle.cif_model.specs.Interval.{stored_range}
 use Rattle.cif_model.specs.Kinds.{Kind, bool_kind, enum_kind, int_kind, fits, has_type, is_bool, is_int, kind_of, kinds_in}
-use Rattle.cif_model.specs.Listing.{NetChoice}
+use Rattle.cif_model.specs.Listing.{NetChoice, all_hold, exprs_of}
 use Rattle.cif_model.specs.Meaning.{system_of_net, type_range, value_in}
-use Rattle.cif_model.specs.Reads.{names_in}
+use Rattle.cif_model.specs.Reads.{names_in, names_no_alg}
 use Rattle.cif_model.specs.Rules.{is_plain_expr}
 use Rattle.cif_model.specs.Shown.{channel_range}
 use Rattle.cif_model.specs.Table.{carried_type, choice_exprs, choice_stands, sent_stands}
@@ -35,17 +35,19 @@ use Rattle.plc_gen.specs.Small.{are_small, is_small}
 use Rattle.plc_gen.proofs.Facts.{Standing}
 use Rattle.plc_expr.specs.Texts.{Naming, temps}
 use Rattle.plc_expr.specs.Sorts.{is_boolean, own_types}
-use Rattle.plc_expr.specs.Safe.{HasBits, IsSafe, IsTruth, Setting, value_at}
+use Rattle.cif_safe.specs.Safe.{AreSafeTruths, HasBits, IsSafe, IsTruth, Setting, value_at}
 use Rattle.plc_expr.specs.Held.{IsThere}
-use Rattle.plc_act.specs.Writes.{is_tested, conditions_temps, updates_temps, bodies_temps}
+use Rattle.plc_act.specs.Writes.{NewNames, is_tested, conditions_temps, updates_temps, bodies_temps}
 use Rattle.plc_act.specs.Sends.{carries, received_in, sent_temps}
 use Rattle.plc_act.specs.Asked.{AllUpdates, OfUpdate, OfBranches, CanSend, CanTake, IsFit, setting_of}
+use Rattle.plc_act.specs.Keeps.{after_naming, asked}
 use Rattle.plc_act.specs.Own.{choice_temps, choice_types, conditions_types, sent_types, updates_types, update_types, bodies_types, data_naming}
-use Rattle.plc_act.specs.Ready.{AllFrom, IsReady, IsReadySent, IsReadySet, IsReadyTest, IsReadyChoice, IsSafeChoice}
+use Rattle.plc_act.specs.Ready.{AllFrom, IsReady, IsReadySent, IsReadySet, IsReadyTest, IsReadyAfter, IsReadyChoice, IsSafeChoice, state_after}
+use Rattle.plc_act.proofs.Asking.{IsPredicate, asked-are, conjunction-is}
 use Rattle.plc_act.proofs.Keeping.{Passes, own-typed, some-kind, value-bits}
 use Rattle.plc_act.proofs.Kept.{Declares, declares-parts, typed-beside}
 use Rattle.plc_act.proofs.Parts.{choice-length, conditions-length, sent-length, updates-length, bodies-length}
-use Rattle.plc_act.proofs.Reading.{reads-named}
+use Rattle.plc_act.proofs.Reading.{reads-after, reads-named}
 
 -- ---- numbers
 
@@ -225,33 +227,72 @@ module _ (n : Net) (net : Standing n) (small_vars : are_small n.vars ≡ true) (
     received-typed None (Some t) same fit u is = never same
     received-typed (Some e) (Some t) same fit u is = subst (λ v. in_range (type_range v) (value_in n s (pos 0) e) ≡ true) (some-same t u is) fit
 
-  pub ready-choice : (c : NetChoice) (k : ℕ) → choice_stands n c ≡ true → Declared k (choice_types n c) → IsSafeChoice n c → IsReadyChoice n p w base k c
-  ready-choice c k stands d safe =
-      let plain = plain-passes (channel_range (channel_of n c.event)) (choice_exprs c) (and-right _ _ (and-left _ _ stands)) in
-      let others = all-parts (λ e. Passes (names_in e)) (option_to_list c.sent) (updates_exprs c.writes) plain.1 in
-      let up : updates_stand n (carried_type n c) c.writes ≡ true = and-right _ _ (and-left _ _ (and-left _ _ stands)) in
-      let sends : sent_stands n (carried_type n c) c.sent ≡ true = and-right _ _ (and-left _ _ (and-left _ _ (and-left _ _ stands))) in
-      let q = declares-parts p.vars w base k (own_types n None c.test) (sent_types n c.sent ++ updates_types n (carried_type n c) c.writes) d in
-      let o = declares-parts p.vars w base (k + temps c.test) (sent_types n c.sent) (updates_types n (carried_type n c) c.writes)
-      (subst (λ l. Declared (k + l) (sent_types n c.sent ++ updates_types n (carried_type n c) c.writes)) (own_length None c.test) q.1) in
-      record {
-        test = λ s is_state.
-            ready-test s is_state None (pos 0) refl none-typed k c.test q.0 (and-left _ _ (and-left _ _ (and-left _ _ (and-left _ _ stands)))) (plain.0, (safe s is_state).test);
-        sent = λ s is_state holds.
-            let a = safe s is_state in sent-ready s is_state (k + temps c.test) (carried_type n c) c.sent o.0 sends (a.sends holds) others.0 (a.sent holds);
-        updates = λ s is_state holds fit.
-            let a = safe s is_state in
-            ready-updates s is_state (carried_type n c) (received_in n s c) (received-bits s is_state c.sent others.0 (a.sent holds)) (received-typed s is_state c.sent (carried_type n c) (a.sends holds) fit)
-            c.writes (k + temps c.test + sent_temps c.sent)
-            (subst (λ l. Declared (k + temps c.test + l) (updates_types n (carried_type n c) c.writes)) (sent-length n own_length c.sent) o.1) up
-            (both-all (λ e. Passes (names_in e)) (IsSafe (setting_of n s (received_in n s c))) (updates_exprs c.writes) others.1 (a.updates holds fit));
-      }
+  -- ---- the invariants that are asked
 
-  pub all-ready : (cs : List NetChoice) (k : ℕ) → AllByRecursion (λ (c : NetChoice). choice_stands n c ≡ true) cs → AllByRecursion (IsSafeChoice n) cs → Declared k (flat_map (choice_types n) cs)
-      → AllFrom (IsReadyChoice n p w base) k cs
-  all-ready [] k stands safe d = tt
-  all-ready (c ∷ cs) k stands safe d =
-      let q = declares-parts p.vars w base k (choice_types n c) (flat_map (choice_types n) cs) d in (
-        ready-choice c k stands.0 q.0 safe.0,
-        all-ready cs (k + choice_temps c) stands.1 safe.1 (subst (λ l. Declared (k + l) (flat_map (choice_types n) cs)) (choice-length n own_length c) q.1),
-      )
+  module _ (free : list_all (λ (i : NetInvariant). names_no_alg i.pred) n.invariants ≡ true) (y : NewNames) where
+    -- own variables are named after a choice as before it
+    declares-after : (c : NetChoice) (k : ℕ) (ts : List StTy) → Declared k ts → Declares p.vars (after_naming n w y c) base k ts
+    declares-after c k [] d = tt
+    declares-after c k (t ∷ ts) d = (d.0, declares-after c (k + 1) ts d.1)
+
+    safe-truths : (t : State) → IsState (system_of_net n) t → (es : List NetExpr) → AllByRecursion (IsPredicate n) es → AllByRecursion (IsSafe (setting_of n t (pos 0))) es → AreSafeTruths (setting_of n t (pos 0)) (exprs_of es)
+    safe-truths t is_t [] are safe = tt
+    safe-truths t is_t (e ∷ es) are safe = (
+      safe.0,
+      truth-lies (value_at (setting_of n t (pos 0)) e) (truths t is_t None (pos 0) refl none-typed e are.0.1 are.0.0),
+      safe-truths t is_t es are.1 safe.1,
+    )
+
+    kept-ready : (c : NetChoice) (k : ℕ) → Declared k (own_types n None (all_hold (asked n c))) → IsSafeChoice n c → (s : State) → IsState (system_of_net n) (state_after n c s)
+        → IsReadyAfter n p w y base c s k (all_hold (asked n c))
+    kept-ready c k d safe s is_t =
+        let e : NetExpr = all_hold (asked n c) in
+        let t : State = state_after n c s in
+        let is = conjunction-is n (asked n c) (asked-are n net.invariants free c) in
+        let fine : IsSafe (setting_of n t (pos 0)) e = safe-truths t is_t (asked n c) (asked-are n net.invariants free c) (safe t is_t).keeps in (
+          fine,
+          (λ m st holds. reads-after n p received y c s m st holds e (named None bool_kind e is.0 is.1)),
+          (λ turns m typed reads q.
+              typed-beside p.vars (after_naming n w y c) base q.after k (temps e) (own_types n None e) m (own_length None e) typed q.beside (declares-after c k (own_types n None e) d)
+              (own-typed n None p.vars (after_naming n w y c) (setting_of n t (pos 0)) q.after (own_length None) (bits t is_t None (pos 0) refl none-typed) (truths t is_t None (pos 0) refl none-typed) (told None)
+              bool_kind e k is.0 is.1 fine q.held)),
+        )
+
+    -- ---- the whole
+
+    pub ready-choice : (c : NetChoice) (k : ℕ) → choice_stands n c ≡ true → Declared k (choice_types n c) → IsSafeChoice n c → IsReadyChoice n p w y base k c
+    ready-choice c k stands d safe =
+        let plain = plain-passes (channel_range (channel_of n c.event)) (choice_exprs c) (and-right _ _ (and-left _ _ stands)) in
+        let others = all-parts (λ e. Passes (names_in e)) (option_to_list c.sent) (updates_exprs c.writes) plain.1 in
+        let up : updates_stand n (carried_type n c) c.writes ≡ true = and-right _ _ (and-left _ _ (and-left _ _ stands)) in
+        let sends : sent_stands n (carried_type n c) c.sent ≡ true = and-right _ _ (and-left _ _ (and-left _ _ (and-left _ _ stands))) in
+        let us : List StTy = updates_types n (carried_type n c) c.writes in
+        let ks : List StTy = own_types n None (all_hold (asked n c)) in
+        let q = declares-parts p.vars w base k (own_types n None c.test) (sent_types n c.sent ++ (us ++ ks)) d in
+        let o = declares-parts p.vars w base (k + temps c.test) (sent_types n c.sent) (us ++ ks)
+        (subst (λ l. Declared (k + l) (sent_types n c.sent ++ (us ++ ks))) (own_length None c.test) q.1) in
+        let u = declares-parts p.vars w base (k + temps c.test + sent_temps c.sent) us ks
+        (subst (λ l. Declared (k + temps c.test + l) (us ++ ks)) (sent-length n own_length c.sent) o.1) in
+        record {
+          test = λ s is_state.
+              ready-test s is_state None (pos 0) refl none-typed k c.test q.0 (and-left _ _ (and-left _ _ (and-left _ _ (and-left _ _ stands)))) (plain.0, (safe s is_state).test);
+          sent = λ s is_state holds.
+              let a = safe s is_state in sent-ready s is_state (k + temps c.test) (carried_type n c) c.sent o.0 sends (a.sends holds) others.0 (a.sent holds);
+          updates = λ s is_state holds fit.
+              let a = safe s is_state in
+              ready-updates s is_state (carried_type n c) (received_in n s c) (received-bits s is_state c.sent others.0 (a.sent holds)) (received-typed s is_state c.sent (carried_type n c) (a.sends holds) fit)
+              c.writes (k + temps c.test + sent_temps c.sent) u.0 up
+              (both-all (λ e. Passes (names_in e)) (IsSafe (setting_of n s (received_in n s c))) (updates_exprs c.writes) others.1 (a.updates holds fit));
+          keeps = λ s is_state is_t.
+              kept-ready c (k + temps c.test + sent_temps c.sent + updates_temps c.writes)
+              (subst (λ l. Declared (k + temps c.test + sent_temps c.sent + l) ks) (updates-length n (carried_type n c) (own_length (carried_type n c)) c.writes) u.1) safe s is_t;
+        }
+
+    pub all-ready : (cs : List NetChoice) (k : ℕ) → AllByRecursion (λ (c : NetChoice). choice_stands n c ≡ true) cs → AllByRecursion (IsSafeChoice n) cs → Declared k (flat_map (choice_types n) cs)
+        → AllFrom n (IsReadyChoice n p w y base) k cs
+    all-ready [] k stands safe d = tt
+    all-ready (c ∷ cs) k stands safe d =
+        let q = declares-parts p.vars w base k (choice_types n c) (flat_map (choice_types n) cs) d in (
+          ready-choice c k stands.0 q.0 safe.0,
+          all-ready cs (k + choice_temps n c) stands.1 safe.1 (subst (λ l. Declared (k + l) (flat_map (choice_types n) cs)) (choice-length n own_length c) q.1),
+        )

@@ -1,6 +1,6 @@
 -- What a choice does whose test holds: it sends its value, and where that is in the range of the channel it acts.
 use Rattle.std.proofs.Common.{◌≡◌, ◌≢◌, ℕ, ◌+◌, ◌^◌, ◌<◌, ◌≤◌, ℤ, pos, Bool, true, false, int_le, ◌&&◌, List, length, Option, Some, None, Ok, refl, sym, ap, subst, ◌∙◌, arith, if◌then◌else◌}
-use Rattle.std.specs.Prelude.{IsTrue, option_map, slice_get, slice_set}
+use Rattle.std.specs.Prelude.{IsTrue, option_map, slice_set}
 use Rattle.std.specs.List.{list_all}
 use Rattle.std.proofs.lemmas.List.{get_or-set_same, get_or-set_other}
 use Rattle.grammar.specs.Pieces.{Text}
@@ -17,7 +17,7 @@ use Rattle.cif_model.specs.Listing.{NetChoice}
 use Rattle.cif_model.specs.Meaning.{system_of_net, true_in, type_range}
 use Rattle.cif_model.specs.Table.{carried_type}
 use Rattle.cif_model.proofs.Passing.{and-left, and-right}
-use Rattle.st_ast.specs.Tree.{Program, Stms, append, assign, no_stms, stms}
+use Rattle.st_ast.specs.Tree.{Program, Stms, assign, no_stms, stms}
 use Rattle.st_ast.specs.Names.{place_of, same_name}
 use Rattle.st_ast.specs.Values.{Memory, is_true, of_bool, value_of}
 use Rattle.st_ast.specs.Exec.{Outcome, exec, is_within}
@@ -38,29 +38,24 @@ use Rattle.plc_gen.proofs.Making.{Closed, Ready}
 use Rattle.plc_gen.proofs.Marked.{Chosen, Prepared, done_in, prepared_does, tested_does}
 use Rattle.plc_gen.proofs.Writing.{writes-one}
 use Rattle.plc_expr.specs.Texts.{Naming, temps, text, before}
-use Rattle.plc_expr.specs.Safe.{value_at}
+use Rattle.cif_safe.specs.Safe.{Setting, value_at}
 use Rattle.plc_expr.specs.Held.{held_at, Prepares}
 use Rattle.plc_act.specs.Writes.{NewNames, is_tested, updates_temps}
-use Rattle.plc_act.specs.Acts.{act}
+use Rattle.plc_act.specs.Acts.{act, stored}
 use Rattle.plc_act.specs.Sends.{carries, lies_in, received_in, sends, sends_fit, sent_temps, where_fits}
-use Rattle.plc_act.specs.Asked.{setting_of, CanSend, IsFit, Promises, Receives}
+use Rattle.plc_act.specs.Asked.{setting_of, IsFit, Promises, Receives}
+use Rattle.plc_act.specs.Keeps.{kept_temps, where_kept}
 use Rattle.plc_act.specs.Own.{sent_type, variable_name}
 use Rattle.plc_act.specs.Declared.{IsTemp, OwnStand}
 use Rattle.plc_act.specs.Ready.{ChoiceStands, IsReady, IsReadySent}
 use Rattle.plc_act.proofs.Numbers.{number-value}
-use Rattle.plc_act.proofs.Pairs.{all_fit}
 use Rattle.plc_act.proofs.Writing.{Grounds, same-at}
 use Rattle.plc_act.proofs.Memories.{Assigned, IsLater, IsOther, IsReady as ReadyIn, Tested, among-temp, fired-other, fired-temp, grounds, later-state, writes-own}
-use Rattle.plc_act.proofs.Acting.{Acts, IsData, act-does, makes-is, pairs_of}
+use Rattle.plc_act.proofs.Acting.{Acts, IsData, act-does, after-test, allowed, makes-is}
 
 -- where the choice leads, if it makes a step
 abbrev pub made : Net → NetChoice → State → Option State
 made n c s = if makes_step (system_of_net n) s c.event (choice_in n c) then Some (after (system_of_net n) s (choice_in n c)) else None
-
--- a step needs the test
-pub after-test : (t : State) (b f mk : Bool) → mk ≡ (b && f) → (if b then (if mk then Some t else None) else None) ≡ (if mk then Some t else None)
-after-test t true f mk e = refl
-after-test t false f mk e = rw e refl
 
 -- the number of a name lies between two, as the text and the net say it
 lies-value : (vars : List StVar) (m : Memory) (name : Text) (q : Range) (z : ℤ) → in_32_bits q.lo ≡ true → in_32_bits q.hi ≡ true → held_at vars m name ≡ z
@@ -86,14 +81,16 @@ sent-within (cif_ty.Int lo hi) z = refl
 sent-within (cif_ty.Enum size) z = refl
 
 module _ (n : Net) (p : Program) (own : List Text) (w : Naming) (y : NewNames) (base low count : ℕ) (named_so : (v : ℕ) → w.variable v ≡ variable_name n v)
-    (stored_stand : list_all stored_stands n.vars ≡ true) (few : length n.vars < 2 ^ 32) (ready : Ready n p) (promised : (s : State) (r : ℤ) → Promises p.vars w (setting_of n s r) base low count)
+    (stored_stand : list_all stored_stands n.vars ≡ true) (few : length n.vars < 2 ^ 32) (ready : Ready n p) (promised : (v : Naming) (x : Setting) → v.own ≡ w.own → Promises p.vars v x base low count)
     (k : ℕ) (c : NetChoice) (h : IsData n c) (cs : ChoiceStands n p own w y base low count k c) (done : Text) (done_other : IsOther n p own w y base low count c.writes (place_of p.vars done))
     (done_apart : (t : Ty) → carried_type n c ≡ Some t → place_of p.vars done ≢ place_of p.vars w.received) (ss : Stms) where
   abbrev o : OwnStand n p own w y base low count (carried_type n c) c.writes
   o = cs.variables
 
   abbrev act_text : Stms
-  act_text = act n w y (k + temps c.test + sent_temps c.sent) c.writes (moves_text n c.moves ss)
+  act_text =
+      act n w y (k + temps c.test + sent_temps c.sent) c.writes
+      (where_kept n w y (k + temps c.test + sent_temps c.sent + updates_temps c.writes) c (stored w y c.writes (moves_text n c.moves ss)))
 
   abbrev pub Closes : ℕ → Type 0
   Closes turns = (b : Memory) → Typed p.vars b → (z : Closed n p ready own ss turns b) × (done_in n p own done z.after ≡ pos 1)
@@ -110,8 +107,8 @@ module _ (n : Net) (p : Program) (own : List Text) (w : Naming) (y : NewNames) (
     only : (t : Ty) → None ≡ Some t → carried_type n c ≡ Some t
     only t e = absurd (none-some t e)
 
-    abbrev g : Grounds n s (pos 0) p.vars w y base low count IsAfter (ReadyIn n p own w y base low count c.writes (carried_type n c) o s None (pos 0) m st.state tt only stored_stand (promised s (pos 0))) (Assigned n p own w y base low count c.writes) (Tested n p own w y base low count c.writes)
-    g = grounds n p own w y base low count c.writes (carried_type n c) o s None (pos 0) m st.state tt only stored_stand (promised s (pos 0))
+    abbrev g : Grounds n s (pos 0) p.vars w y base low count IsAfter (ReadyIn n p own w y base low count c.writes (carried_type n c) o s None (pos 0) m st.state tt only stored_stand (promised w (setting_of n s (pos 0)) refl)) (Assigned n p own w y base low count c.writes) (Tested n p own w y base low count c.writes)
+    g = grounds n p own w y base low count c.writes (carried_type n c) o s None (pos 0) m st.state tt only stored_stand (promised w (setting_of n s (pos 0)) refl)
 
     -- the statements before it have run: its text has its value
     pub record Before (i : ℕ) (e : NetExpr) : Type 0 where
@@ -153,8 +150,8 @@ module _ (n : Net) (p : Program) (own : List Text) (w : Naming) (y : NewNames) (
         let from = cs.from in
         let room = cs.room in
         chosen-from (made n c s) (exec p.vars act_text turns m)
-        (act-does n p own w y base low count c o named_so stored_stand few h ready s m st got (promised s (received_in n s c)) (k + temps c.test + sent_temps c.sent) turns
-        (cs.ready.updates s st.state.is_state test sent) (omega (arith, from), omega (arith, room)) (λ z. done_in n p own done z ≡ pos 1) ss close test sent)
+        (act-does n p own w y base low count c o named_so stored_stand few h ready s m st got promised (k + temps c.test + sent_temps c.sent) turns
+        (cs.ready.updates s st.state.is_state test sent) (omega (arith, from), omega (arith, room)) (λ z. done_in n p own done z ≡ pos 1) ss close test sent (cs.ready.keeps s st.state.is_state))
 
     -- ---- the value is sent
 
@@ -225,8 +222,8 @@ module _ (n : Net) (p : Program) (own : List Text) (w : Naming) (y : NewNames) (
         go true tested can =
             let small = bounds-small t (h.carried t is) tested in
             subst (λ d. Chosen n p own done d (exec p.vars (tested_text (lies_in w.received (type_range t)) act_text) turns m) turns m s)
-            (after-test (after (system_of_net n) s (choice_in n c)) (sends_fit n s c) (all_fit n (pairs_of n c s)) (makes_step (system_of_net n) s c.event (choice_in n c))
-            (makes-is n c s h ready.none ∙ ap (λ b. b && (sends_fit n s c && all_fit n (pairs_of n c s))) test))
+            (after-test (after (system_of_net n) s (choice_in n c)) (sends_fit n s c) (allowed n c s) (makes_step (system_of_net n) s c.event (choice_in n c))
+            (makes-is n c s h ∙ ap (λ b. b && (sends_fit n s c && allowed n c s)) test))
             (tested_does n p own done (lies_in w.received (type_range t)) act_text (sends_fit n s c) (made n c s) turns m s
             (lies-value p.vars m w.received (type_range t) z small.0 small.1 held ∙ ap (λ b. Ok (of_bool b)) (sym fit)) st (λ sent. act-chosen turns m s st close test sent got))
 
@@ -243,7 +240,7 @@ module _ (n : Net) (p : Program) (own : List Text) (w : Naming) (y : NewNames) (
         go (Some e) (Some t) sent is ready_sent =
             let z : ℤ = value_at (setting_of n s (pos 0)) e in
             let from = cs.from in
-            let room : k + (temps c.test + (temps e + updates_temps c.writes)) ≤ count = subst (λ q. k + (temps c.test + (sent_temps q + updates_temps c.writes)) ≤ count) sent cs.room in
+            let room : k + (temps c.test + (temps e + (updates_temps c.writes + kept_temps n c))) ≤ count = subst (λ q. k + (temps c.test + (sent_temps q + (updates_temps c.writes + kept_temps n c))) ≤ count) sent cs.room in
             let b = expr-before turns m s st (k + temps c.test) e ready_sent.0 (omega (arith, from)) (omega (arith, room)) in
             let m1 : Memory = b.prepared.after in
             let q = sent-run turns m1 s b.prepared.stands t is z ready_sent.1.1 (k + temps c.test) e b.value in

@@ -1,12 +1,12 @@
 -- What the statements of an event do whose choices have data: they make the event's first step, if it has one.
-use Rattle.std.proofs.Common.{◌≡◌, ◌≢◌, ℕ, suc, ◌+◌, ◌^◌, ◌<◌, ℤ, pos, Bool, true, false, not, ◌&&◌, List, [], ◌∷◌, map, find, length, Option, Some, None, get_or, cond, refl, sym, ap, subst, ◌∙◌, arith, eqb-true, if◌then◌else◌}
+use Rattle.std.proofs.Common.{◌≡◌, ◌≢◌, ℕ, suc, ◌+◌, ◌^◌, ◌<◌, pos, Bool, true, false, not, ◌&&◌, List, [], ◌∷◌, map, find, length, Option, Some, None, get_or, cond, refl, sym, ap, subst, ◌∙◌, arith, eqb-true, if◌then◌else◌}
 use Rattle.std.specs.Prelude.{IsTrue, is_none, nat_eq, nat_lt, option_map, slice_set}
 use Rattle.std.specs.List.{AllByRecursion, list_all}
 use Rattle.std.proofs.lemmas.Bool.Decides.{nat_tests}
 use Rattle.std.proofs.lemmas.List.{get_or-set_same, get_or-set_other}
 use Rattle.grammar.specs.Pieces.{Text}
 use Rattle.cif_base.specs.declared.types.Ty.{Ty}
-use Rattle.cif_system.specs.System.{State, IsState, in_range}
+use Rattle.cif_system.specs.System.{State, in_range}
 use Rattle.cif_system.specs.Step.{after, makes_step}
 use Rattle.cif_system.specs.Choices.{first_step}
 use Rattle.cif_term.specs.Tree.{NetExpr}
@@ -33,20 +33,23 @@ use Rattle.plc_face.specs.Names.{name_for}
 use Rattle.plc_gen.specs.Faces.{face_of_net}
 use Rattle.plc_gen.specs.Events.{all_bare, alone, chain, chain_branches, choices_of, event_text, marks, marks_with, needs_mark, parts_text}
 use Rattle.plc_gen.proofs.Choosing.{choice_in, choices-are}
+use Rattle.plc_gen.proofs.Facts.{none-of}
 use Rattle.plc_gen.proofs.Making.{Closed, Does, Ready, marks-close, marks-last}
 use Rattle.plc_gen.proofs.Marked.{Offer, Offers, all_parts, done_in, event_does, first_of, or_else}
 use Rattle.plc_gen.proofs.Writing.{Among, writes-none, writes-one, writes-then}
 use Rattle.plc_expr.specs.Texts.{Naming, temps}
+use Rattle.cif_safe.specs.Safe.{Setting}
 use Rattle.plc_act.specs.Writes.{NewNames, any_tested}
 use Rattle.plc_act.specs.Sends.{carries, received_in, sends_fit, sent_temps}
 use Rattle.plc_act.specs.Asked.{setting_of, IsSafeSet, IsSafeCondition, Promises}
+use Rattle.plc_act.specs.Keeps.{asked}
 use Rattle.plc_act.specs.Own.{variable_name, choice_temps, sent_type}
 use Rattle.plc_act.specs.Events.{all_written, data_written, is_bare}
-use Rattle.plc_act.specs.Ready.{AllFrom, ChoiceStands, DoneStands, IsReadySet, IsReadyTest}
+use Rattle.plc_act.specs.Ready.{AllFrom, ChoiceStands, DoneStands, IsReadySet, IsReadyTest, state_after}
 use Rattle.plc_act.proofs.Memories.{IsOther, among-temp, fired-other, fired-temp, other-at}
 use Rattle.plc_act.proofs.Pairs.{all_fit}
 use Rattle.plc_act.proofs.Targets.{all-updates, untested-fit}
-use Rattle.plc_act.proofs.Acting.{IsData, makes-is, pairs_of}
+use Rattle.plc_act.proofs.Acting.{IsData, allowed, asked-is, makes-is, pairs_of}
 use Rattle.plc_act.proofs.Sending.{made}
 use Rattle.plc_act.proofs.Offering.{bare-told, body-does, test-chosen}
 
@@ -60,7 +63,7 @@ of-event (c ∷ cs) e = go (nat_eq c.event e) refl (of-event cs e)
     go false is rest = rest
 
 module _ (n : Net) (p : Program) (own : List Text) (w : Naming) (y : NewNames) (base low count : ℕ) (named_so : (v : ℕ) → w.variable v ≡ variable_name n v)
-    (stored_stand : list_all stored_stands n.vars ≡ true) (few : length n.vars < 2 ^ 32) (ready : Ready n p) (promised : (s : State) (r : ℤ) → Promises p.vars w (setting_of n s r) base low count)
+    (stored_stand : list_all stored_stands n.vars ≡ true) (few : length n.vars < 2 ^ 32) (ready : Ready n p) (promised : (v : Naming) (x : Setting) → v.own ≡ w.own → Promises p.vars v x base low count)
     (e : ℕ) where
   -- what is asked of each choice
   abbrev pub Fits : ℕ → NetChoice → Type 0
@@ -72,22 +75,22 @@ module _ (n : Net) (p : Program) (own : List Text) (w : Naming) (y : NewNames) (
 
   abbrev pub offers_from : ℕ → List NetChoice → List Offer
   offers_from k [] = []
-  offers_from k (c ∷ cs) = offer k c ∷ offers_from (k + choice_temps c) cs
+  offers_from k (c ∷ cs) = offer k c ∷ offers_from (k + choice_temps n c) cs
 
   written-is : (k : ℕ) (cs : List NetChoice) → map (λ (f : Offer). f.written) (offers_from k cs) ≡ all_written n w y k cs
   written-is k [] = refl
-  written-is k (c ∷ cs) = ap (λ r. data_written n w y k c ∷ r) (written-is (k + choice_temps c) cs)
+  written-is k (c ∷ cs) = ap (λ r. data_written n w y k c ∷ r) (written-is (k + choice_temps n c) cs)
 
   -- the first of the offers is that of the first choice that makes a step
   first-is : (k : ℕ) (cs : List NetChoice) (s : State) → AllByRecursion (λ (c : NetChoice). c.event ≡ e) cs
       → first_of (offers_from k cs) s ≡ option_map (after (system_of_net n) s) (find (makes_step (system_of_net n) s e) (map (choice_in n) cs))
   first-is k [] s same = refl
   first-is k (c ∷ cs) s same =
-      ap (λ i. or_else (if makes_step (system_of_net n) s i (choice_in n c) then Some (after (system_of_net n) s (choice_in n c)) else None) (first_of (offers_from (k + choice_temps c) cs) s)) same.0
-      ∙ pick (makes_step (system_of_net n) s e (choice_in n c)) (first-is (k + choice_temps c) cs s same.1)
+      ap (λ i. or_else (if makes_step (system_of_net n) s i (choice_in n c) then Some (after (system_of_net n) s (choice_in n c)) else None) (first_of (offers_from (k + choice_temps n c) cs) s)) same.0
+      ∙ pick (makes_step (system_of_net n) s e (choice_in n c)) (first-is (k + choice_temps n c) cs s same.1)
     where
-      pick : (b : Bool) → first_of (offers_from (k + choice_temps c) cs) s ≡ option_map (after (system_of_net n) s) (find (makes_step (system_of_net n) s e) (map (choice_in n) cs))
-          → or_else (if b then Some (after (system_of_net n) s (choice_in n c)) else None) (first_of (offers_from (k + choice_temps c) cs) s)
+      pick : (b : Bool) → first_of (offers_from (k + choice_temps n c) cs) s ≡ option_map (after (system_of_net n) s) (find (makes_step (system_of_net n) s e) (map (choice_in n) cs))
+          → or_else (if b then Some (after (system_of_net n) s (choice_in n c)) else None) (first_of (offers_from (k + choice_temps n c) cs) s)
           ≡ option_map (after (system_of_net n) s) (cond b (Some (choice_in n c)) (find (makes_step (system_of_net n) s e) (map (choice_in n) cs)))
       pick true rest = refl
       pick false rest = rest
@@ -124,17 +127,20 @@ module _ (n : Net) (p : Program) (own : List Text) (w : Naming) (y : NewNames) (
       go None (Some t) h = refl
       go (Some e) t h = absurd cc
 
-  bare-makes : (k : ℕ) (c : NetChoice) (s : State) → Fits k c → is_bare n c ≡ true → IsState (system_of_net n) s → true_in n s c.test ≡ true → makes_step (system_of_net n) s c.event (choice_in n c) ≡ true
-  bare-makes k c s h bare is_state test =
+  bare-makes : (k : ℕ) (c : NetChoice) (m : Memory) (s : State) → Fits k c → is_bare n c ≡ true → Stands (face_of_net n) (system_of_net n) p m s → true_in n s c.test ≡ true
+      → makes_step (system_of_net n) s c.event (choice_in n c) ≡ true
+  bare-makes k c m s h bare st test =
       let sent = unsent-fits c s (and-left _ _ (and-left _ _ (and-left _ _ bare))) in
-      makes-is n c s h.0 ready.none ∙ ap (λ b. b && (sends_fit n s c && all_fit n (pairs_of n c s))) test ∙ ap (λ b. b && all_fit n (pairs_of n c s)) sent
-      ∙ untested-fit n s (received_in n s c) c.writes (k + temps c.test + sent_temps c.sent) (none-tested (any_tested n c.writes) (and-right _ _ (and-left _ _ (and-left _ _ bare))))
+      let unasked : asked n c ≡ [] = none-of (asked n c) (and-right _ _ (and-left _ _ bare)) in
+      makes-is n c s h.0 ∙ ap (λ b. b && (sends_fit n s c && allowed n c s)) test ∙ ap (λ b. b && allowed n c s) sent
+      ∙ ap (λ b. all_fit n (pairs_of n c s) && b) (asked-is n c s h.0 st.state.is_state st.keeps ∙ ap (list_all (true_in n (state_after n c s))) unasked)
+      ∙ ap (λ b. b && true) (untested-fit n s (received_in n s c) c.writes (k + temps c.test + sent_temps c.sent) (none-tested (any_tested n c.writes) (and-right _ _ (and-left _ _ (and-left _ _ bare))))
       (all-updates (IsReadySet n p w base s (carried_type n c) (received_in n s c)) (λ i v x. IsSafeSet n (setting_of n s (received_in n s c)) v x)
       (IsReadyTest n p w base s (carried_type n c) (received_in n s c)) (λ i x. IsSafeCondition (setting_of n s (received_in n s c)) x)
-      (λ v. Unit {0}) (λ i v x in_it r. (r.0.0, r.1)) (λ i x r. (r.0.0, r.1)) c.writes (k + temps c.test + sent_temps c.sent) (λ v q. tt) (h.1.ready.updates s is_state test sent))
+      (λ v. Unit {0}) (λ i v x in_it r. (r.0.0, r.1)) (λ i x r. (r.0.0, r.1)) c.writes (k + temps c.test + sent_temps c.sent) (λ v q. tt) (h.1.ready.updates s st.state.is_state test sent)))
 
   fails-makes : (c : NetChoice) (s : State) → IsData n c → true_in n s c.test ≡ false → makes_step (system_of_net n) s c.event (choice_in n c) ≡ false
-  fails-makes c s h test = makes-is n c s h ready.none ∙ ap (λ b. b && (sends_fit n s c && all_fit n (pairs_of n c s))) test
+  fails-makes c s h test = makes-is n c s h ∙ ap (λ b. b && (sends_fit n s c && allowed n c s)) test
 
   first-taken : (c : NetChoice) (s : State) (r : Option State) (out : Outcome) (turns : ℕ) (m : Memory) → makes_step (system_of_net n) s c.event (choice_in n c) ≡ true
       → Does n p own (made n c s) out turns m s → Does n p own (or_else (made n c s) r) out turns m s
@@ -152,26 +158,26 @@ module _ (n : Net) (p : Program) (own : List Text) (w : Naming) (y : NewNames) (
   abbrev chain_of : ℕ → List NetChoice → Act
   chain_of k cs = exec_choice p.vars (chain_branches (all_written n w y k cs)) (λ l i. exec_other p.vars no_other l i)
 
-  chain-does : (k : ℕ) (cs : List NetChoice) → AllFrom Fits k cs → all_bare (all_written n w y k cs) ≡ true → (turns : ℕ) (m : Memory) (s : State) → Stands (face_of_net n) (system_of_net n) p m s
+  chain-does : (k : ℕ) (cs : List NetChoice) → AllFrom n Fits k cs → all_bare (all_written n w y k cs) ≡ true → (turns : ℕ) (m : Memory) (s : State) → Stands (face_of_net n) (system_of_net n) p m s
       → Does n p own (first_of (offers_from k cs) s) (chain_of k cs turns m) turns m s
   chain-does k [] all bare turns m s st = nothing turns m s st
   chain-does k (c ∷ cs) all bare turns m s st =
       let is : is_bare n c ≡ true = and-left _ _ bare in
-      subst (λ r. Does n p own (or_else (made n c s) (first_of (offers_from (k + choice_temps c) cs) s))
-      (with_value r Faulted (λ z. if is_true z then exec p.vars ((data_written n w y k c).act marks) turns m else chain_of (k + choice_temps c) cs turns m)) turns m s)
+      subst (λ r. Does n p own (or_else (made n c s) (first_of (offers_from (k + choice_temps n c) cs) s))
+      (with_value r Faulted (λ z. if is_true z then exec p.vars ((data_written n w y k c).act marks) turns m else chain_of (k + choice_temps n c) cs turns m)) turns m s)
       (sym (bare-told n p own w y base low count named_so stored_stand few ready promised k c all.0.0 all.0.1 fired (fired-of k c all.0.1) (fired-apart k c all.0.1) marks turns m s st (eqb-true (temps c.test) 0 (and-right _ _ is))))
-      (pick (true_in n s c.test) refl is (chain-does (k + choice_temps c) cs all.1 (and-right _ _ bare) turns m s st))
+      (pick (true_in n s c.test) refl is (chain-does (k + choice_temps n c) cs all.1 (and-right _ _ bare) turns m s st))
     where
-      pick : (b : Bool) → true_in n s c.test ≡ b → is_bare n c ≡ true → Does n p own (first_of (offers_from (k + choice_temps c) cs) s) (chain_of (k + choice_temps c) cs turns m) turns m s
-          → Does n p own (or_else (made n c s) (first_of (offers_from (k + choice_temps c) cs) s))
-          (if is_true (of_bool b) then exec p.vars ((data_written n w y k c).act marks) turns m else chain_of (k + choice_temps c) cs turns m) turns m s
+      pick : (b : Bool) → true_in n s c.test ≡ b → is_bare n c ≡ true → Does n p own (first_of (offers_from (k + choice_temps n c) cs) s) (chain_of (k + choice_temps n c) cs turns m) turns m s
+          → Does n p own (or_else (made n c s) (first_of (offers_from (k + choice_temps n c) cs) s))
+          (if is_true (of_bool b) then exec p.vars ((data_written n w y k c).act marks) turns m else chain_of (k + choice_temps n c) cs turns m) turns m s
       pick true test is rest =
-          first-taken c s (first_of (offers_from (k + choice_temps c) cs) s) (exec p.vars ((data_written n w y k c).act marks) turns m) turns m
-          (bare-makes k c s all.0 is st.state.is_state test)
+          first-taken c s (first_of (offers_from (k + choice_temps n c) cs) s) (exec p.vars ((data_written n w y k c).act marks) turns m) turns m
+          (bare-makes k c m s all.0 is st test)
           (test-chosen n p own w y base low count named_so stored_stand few ready promised k c all.0.0 all.0.1 fired (fired-of k c all.0.1) (fired-apart k c all.0.1) marks turns m s st (close-marks turns) test).does
-      pick false test is rest = first-skipped c s (first_of (offers_from (k + choice_temps c) cs) s) (chain_of (k + choice_temps c) cs turns m) turns m (fails-makes c s all.0.0 test) rest
+      pick false test is rest = first-skipped c s (first_of (offers_from (k + choice_temps n c) cs) s) (chain_of (k + choice_temps n c) cs turns m) turns m (fails-makes c s all.0.0 test) rest
 
-  chain-runs : (k : ℕ) (c : NetChoice) (cs : List NetChoice) → AllFrom Fits k (c ∷ cs) → all_bare (all_written n w y k (c ∷ cs)) ≡ true → (turns : ℕ) (m : Memory) (s : State) → Stands (face_of_net n) (system_of_net n) p m s
+  chain-runs : (k : ℕ) (c : NetChoice) (cs : List NetChoice) → AllFrom n Fits k (c ∷ cs) → all_bare (all_written n w y k (c ∷ cs)) ≡ true → (turns : ℕ) (m : Memory) (s : State) → Stands (face_of_net n) (system_of_net n) p m s
       → Does n p own (first_of (offers_from k (c ∷ cs)) s) (exec p.vars (chain (all_written n w y k (c ∷ cs))) turns m) turns m s
   chain-runs k c cs all bare turns m s st =
       let d = chain-does k (c ∷ cs) all bare turns m s st in
@@ -227,14 +233,14 @@ module _ (n : Net) (p : Program) (own : List Text) (w : Naming) (y : NewNames) (
     done-apart-sent : (t : Ty) (c : NetChoice) → carried_type n c ≡ Some t → place_of p.vars done ≢ place_of p.vars w.received
     done-apart-sent t c is = let q = declared-of p.vars done ty.Bool d.variable.is_declared in places-differ p.vars done w.received q.variable q.at d.no_sent
 
-    offers-stand : (k : ℕ) (cs : List NetChoice) → AllFrom Fits k cs → AllByRecursion (Offers n p own done) (offers_from k cs)
+    offers-stand : (k : ℕ) (cs : List NetChoice) → AllFrom n Fits k cs → AllByRecursion (Offers n p own done) (offers_from k cs)
     offers-stand k [] all = tt
     offers-stand k (c ∷ cs) all = (
       λ turns m s st none. body-does n p own w y base low count named_so stored_stand few ready promised k c all.0.0 all.0.1 done (done-of k c all.0.1) (λ t is. done-apart-sent t c is) (marks_with done) turns m s st (close-both turns),
-      offers-stand (k + choice_temps c) cs all.1,
+      offers-stand (k + choice_temps n c) cs all.1,
     )
 
-    marked-does : (k : ℕ) (cs : List NetChoice) → AllFrom Fits k cs → (turns : ℕ) (m : Memory) (s : State) → Stands (face_of_net n) (system_of_net n) p m s
+    marked-does : (k : ℕ) (cs : List NetChoice) → AllFrom n Fits k cs → (turns : ℕ) (m : Memory) (s : State) → Stands (face_of_net n) (system_of_net n) p m s
         → Does n p own (first_of (offers_from k cs) s) (exec p.vars (stms (assign done (truth false)) (parts_text done (all_written n w y k cs))) turns m) turns m s
     marked-does k cs all turns m s st =
         subst (λ ws. Does n p own (first_of (offers_from k cs) s) (exec p.vars (stms (assign done (truth false)) (parts_text done ws)) turns m) turns m s) (written-is k cs)
@@ -256,7 +262,7 @@ module _ (n : Net) (p : Program) (own : List Text) (w : Naming) (y : NewNames) (
   many : (x : ℕ) → nat_lt 1 (suc (suc x)) ≡ true
   many x = grind (arith, nat_tests)
 
-  pub event-does : (done : Text) (k : ℕ) (cs : List NetChoice) → AllFrom Fits k cs → (needs_mark (all_written n w y k cs) ≡ true → DoneStands p own w y low count done)
+  pub event-does : (done : Text) (k : ℕ) (cs : List NetChoice) → AllFrom n Fits k cs → (needs_mark (all_written n w y k cs) ≡ true → DoneStands p own w y low count done)
       → (turns : ℕ) (m : Memory) (s : State) → Stands (face_of_net n) (system_of_net n) p m s
       → Does n p own (first_of (offers_from k cs) s) (exec p.vars (event_text done (all_written n w y k cs)) turns m) turns m s
   event-does done k [] all marked turns m s st = nothing turns m s st
@@ -269,10 +275,10 @@ module _ (n : Net) (p : Program) (own : List Text) (w : Naming) (y : NewNames) (
           (exec p.vars (if t then chain (all_written n w y k (c ∷ b ∷ cs)) else stms (assign done (truth false)) (parts_text done (all_written n w y k (c ∷ b ∷ cs)))) turns m) turns m s
       go true is = chain-runs k c (b ∷ cs) all is turns m s st
       go false is =
-          marked-does done (marked (ap (λ q. if q then false else nat_lt 1 (length (all_written n w y k (c ∷ b ∷ cs)))) is ∙ many (length (all_written n w y (k + choice_temps c + choice_temps b) cs)))) k (c ∷ b ∷ cs) all turns m s st
+          marked-does done (marked (ap (λ q. if q then false else nat_lt 1 (length (all_written n w y k (c ∷ b ∷ cs)))) is ∙ many (length (all_written n w y (k + choice_temps n c + choice_temps n b) cs)))) k (c ∷ b ∷ cs) all turns m s st
 
   -- the statements of the event try it
-  pub event-tried : (cs : List NetChoice) (done : Text) (k : ℕ) → full_choices n cs ≡ listed (system_of_net n) → e < length (system_of_net n).events → AllFrom Fits k (choices_of cs e)
+  pub event-tried : (cs : List NetChoice) (done : Text) (k : ℕ) → full_choices n cs ≡ listed (system_of_net n) → e < length (system_of_net n).events → AllFrom n Fits k (choices_of cs e)
       → (needs_mark (all_written n w y k (choices_of cs e)) ≡ true → DoneStands p own w y low count done)
       → TriesEvent (face_of_net n) (system_of_net n) p (record { own = own; body = event_text done (all_written n w y k (choices_of cs e)) }) e
   event-tried cs done k each within all marked turns m s st =

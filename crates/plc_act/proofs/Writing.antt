@@ -19,7 +19,7 @@ use Rattle.st_ast.specs.Exec.{Act, Outcome, Ended, Faulted, exec, exec_other, ex
 use Rattle.st_ast.specs.declared.tree.StVar.{StVar}
 use Rattle.st_ast.proofs.Runs.{append_runs, assign_runs, cons_runs}
 use Rattle.plc_expr.specs.Texts.{Naming, temps, text, before}
-use Rattle.plc_expr.specs.Safe.{Setting, value_at, IsTruth}
+use Rattle.cif_safe.specs.Safe.{Setting, value_at, IsTruth}
 use Rattle.plc_expr.specs.Held.{held_at, Held, Prepares}
 use Rattle.plc_act.specs.Writes.{NewNames, is_tested, tests_stored, tests, stays_in, range_test, conditions_temps, updates_temps, update_temps, bodies_temps, conditions_before, otherwise, chosen, writes, write, write_branches}
 use Rattle.plc_act.proofs.Numbers.{truth-of, truth-is, number-value}

@@ -47,9 +47,10 @@ computed n w y k us = append (stms_of (map (copy w y) (may_stay us))) (writes n 
 abbrev pub stored : Naming → NewNames → NetUpdates → Stms → Stms
 stored w y us rest = append (stms_of (map (store w y) (assigned_vars us))) rest
 
--- Without a new value that is tested there is nothing to ask of them, and without updates nothing to compute.
+-- The new values are computed, and where all of them are in range other statements follow. Without one that is tested there is
+-- nothing to ask of them, and without updates nothing to compute.
 abbrev pub act : Net → Naming → NewNames → ℕ → NetUpdates → Stms → Stms
-act n w y k us rest =
+act n w y k us body =
     if any_tested n us
-    then stms (assign y.in_range (truth true)) (append (computed n w y k us) (chosen (branches (named y.in_range) (stored w y us rest) no_branches) no_stms))
-    else append (computed n w y k us) (stored w y us rest)
+    then stms (assign y.in_range (truth true)) (append (computed n w y k us) (chosen (branches (named y.in_range) body no_branches) no_stms))
+    else append (computed n w y k us) body

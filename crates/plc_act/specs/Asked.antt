@@ -6,7 +6,7 @@ use Rattle.cif_term.specs.Tree.{NetExpr, NetUpdate, net_set, net_choose, NetUpda
 use Rattle.cif_model.specs.Net.{NetStored, Net}
 use Rattle.cif_model.specs.Unfolding.{at_or}
 use Rattle.cif_model.specs.Meaning.{alg_values, type_range}
-use Rattle.plc_expr.specs.Safe.{Setting, value_at, IsTruth, HasBits, IsSafe}
+use Rattle.cif_safe.specs.Safe.{Setting, value_at, IsTruth, HasBits, IsSafe}
 use Rattle.std.specs.List.{AllZip}
 use Rattle.st_ast.specs.Values.{Memory, value_of}
 use Rattle.st_ast.specs.declared.tree.StVar.{StVar}

@@ -1,6 +1,7 @@
 pub mod Writes
 pub mod Acts
 pub mod Sends
+pub mod Keeps
 pub mod Asked
 pub mod Own
 pub mod Declared

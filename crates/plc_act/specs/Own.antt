@@ -6,7 +6,7 @@ use Rattle.cif_base.specs.declared.types.Ty.{Ty}
 use Rattle.cif_term.specs.Tree.{NetExpr, NetUpdate, net_set, net_choose, NetUpdates, no_net_updates, net_updates, NetUpdateBranches, no_net_update_branches, net_update_branches}
 use Rattle.cif_model.specs.Net.{NetStored, Net}
 use Rattle.cif_model.specs.Exprs.{targets}
-use Rattle.cif_model.specs.Listing.{NetChoice}
+use Rattle.cif_model.specs.Listing.{NetChoice, all_hold}
 use Rattle.cif_model.specs.Table.{carried_type}
 use Rattle.grammar.specs.Pieces.{Text}
 use Rattle.st_ast.specs.declared.tree.StTy.{StTy}
@@ -21,6 +21,7 @@ use Rattle.plc_expr.specs.Sorts.{is_bool_type, own_types, type_by}
 use Rattle.plc_act.specs.Writes.{NewNames, is_tested, any_tested, updates_temps}
 use Rattle.plc_act.specs.Acts.{once}
 use Rattle.plc_act.specs.Sends.{event_type, sent_temps}
+use Rattle.plc_act.specs.Keeps.{asked, kept_temps}
 
 -- ---- the variables of the net
 
@@ -62,8 +63,8 @@ if_face t = record { path = codes "if"; ty = t; first = pos 0 }
 
 -- ---- the own variables of a choice's expressions, in the order of the statements
 
-abbrev pub choice_temps : NetChoice → ℕ
-choice_temps c = temps c.test + (sent_temps c.sent + updates_temps c.writes)
+abbrev pub choice_temps : Net → NetChoice → ℕ
+choice_temps n c = temps c.test + (sent_temps c.sent + (updates_temps c.writes + kept_temps n c))
 
 abbrev pub sent_types : Net → Option NetExpr → List StTy
 sent_types n None = []
@@ -88,7 +89,7 @@ abbrev mutual
   bodies_types n r (net_update_branches c us bs) = updates_types n r us ++ bodies_types n r bs
 
 abbrev pub choice_types : Net → NetChoice → List StTy
-choice_types n c = own_types n None c.test ++ (sent_types n c.sent ++ updates_types n (carried_type n c) c.writes)
+choice_types n c = own_types n None c.test ++ (sent_types n c.sent ++ (updates_types n (carried_type n c) c.writes ++ own_types n None (all_hold (asked n c))))
 
 -- ---- the own variables of an event
 

@@ -1,5 +1,5 @@
 -- The part of an event whose choices have data: its own variables, and its statements.
-use Rattle.std.specs.Prelude.{◌≡◌, ℕ, ◌+◌, ◌≤◌, ◌<◌, ◌^◌, Bool, false, nat_lt, List, [], ◌∷◌, ◌++◌, map, length, Some, None, slice_get, if◌then◌else◌}
+use Rattle.std.specs.Prelude.{◌≡◌, ℕ, ◌+◌, ◌≤◌, ◌<◌, ◌^◌, Bool, false, nat_lt, List, [], ◌∷◌, ◌++◌, map, length, Some, slice_get, if◌then◌else◌}
 use Rattle.std.specs.List.{list_all, enumerate_from}
 use Rattle.cif_model.specs.Net.{Net}
 use Rattle.cif_model.specs.Listing.{NetChoice}
@@ -44,9 +44,9 @@ data_part n j cs = record {
 }
 
 -- how many own variables the expressions of the choices have
-abbrev pub all_temps : List NetChoice → ℕ
-all_temps [] = 0
-all_temps (c ∷ cs) = choice_temps c + all_temps cs
+abbrev pub all_temps : Net → List NetChoice → ℕ
+all_temps n [] = 0
+all_temps n (c ∷ cs) = choice_temps n c + all_temps n cs
 
 -- These variables are declared with their types, numbered from j: the one with a number stands so many places after `base`.
 pub record AreDeclared (p : Program) (base j : ℕ) (faces : List VariableFace) : Type 0 where

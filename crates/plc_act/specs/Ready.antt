@@ -1,13 +1,14 @@
 -- What is asked of the choices of an event and of the program round them, so that the statements of the event try it.
-use Rattle.std.specs.Prelude.{◌≡◌, ℕ, ◌+◌, ◌≤◌, ◌<◌, ℤ, pos, true, false, List, [], ◌∷◌, Option, Some, None, is_some, option_to_list, slice_get}
+use Rattle.std.specs.Prelude.{◌≡◌, ℕ, ◌+◌, ◌≤◌, ◌<◌, ℤ, pos, true, false, List, [], ◌∷◌, Option, Some, None, is_some, length, option_to_list, slice_get, slice_index_or}
 use Rattle.cif_base.specs.declared.types.Ty.{Ty}
-use Rattle.cif_system.specs.System.{State, IsState, in_range}
+use Rattle.cif_system.specs.System.{State, IsState}
+use Rattle.cif_system.specs.Step.{after}
 use Rattle.cif_term.specs.Tree.{NetExpr}
 use Rattle.std.specs.List.{AllByRecursion}
 use Rattle.cif_model.specs.Net.{Net}
 use Rattle.cif_model.specs.Exprs.{updates_exprs}
-use Rattle.cif_model.specs.Meaning.{system_of_net, true_in, type_range}
-use Rattle.cif_model.specs.Listing.{NetChoice}
+use Rattle.cif_model.specs.Meaning.{system_of_net, true_in}
+use Rattle.cif_model.specs.Listing.{NetChoice, all_hold, full_choice}
 use Rattle.cif_model.specs.Table.{carried_type}
 use Rattle.grammar.specs.Pieces.{Text}
 use Rattle.st_ast.specs.Tree.{Program}
@@ -17,12 +18,13 @@ use Rattle.st_ast.specs.declared.tree.StTy.TheVariants as ty
 use Rattle.plc_face.specs.Face.{StateOf}
 use Rattle.plc_gen.specs.Faces.{face_of_net}
 use Rattle.plc_expr.specs.Texts.{Naming, temps}
-use Rattle.plc_expr.specs.Safe.{IsTruth, IsSafe, value_at}
-use Rattle.plc_expr.specs.Held.{Reads}
-use Rattle.plc_act.specs.Writes.{NewNames}
+use Rattle.cif_safe.specs.Safe.{IsTruth, IsSafe, value_at}
+use Rattle.plc_expr.specs.Held.{held_at, Reads}
+use Rattle.plc_act.specs.Writes.{NewNames, updates_temps}
 use Rattle.plc_act.specs.Sends.{received_in, sends_fit, sent_temps}
 use Rattle.plc_act.specs.Asked.{setting_of, AllUpdates, CanSend, CanTake, KeepsTypes, Receives}
 use Rattle.plc_act.specs.Own.{choice_temps}
+use Rattle.plc_act.specs.Keeps.{after_naming, asked, variable_after}
 use Rattle.plc_act.specs.Declared.{IsTemp, OwnStand}
 
 -- ---- expressions
@@ -48,38 +50,60 @@ IsReadySent n p w base s k None (Some e) = ⊥
 IsReadySent n p w base s k (Some t) None = ⊥
 IsReadySent n p w base s k (Some t) (Some e) = IsReady n p w base s None (pos 0) k e × CanSend t (value_at (setting_of n s (pos 0)) e)
 
+-- ---- after a choice
+
+abbrev pub state_after : Net → NetChoice → State → State
+state_after n c s = after (system_of_net n) s (full_choice n c).1
+
+-- the memory holds the value after the choice of each variable, under its name after it
+abbrev pub HoldsAfter : Net → Program → Naming → NewNames → NetChoice → State → Memory → Type 0
+HoldsAfter n p w y c s m = (v : ℕ) → v < length n.vars → held_at p.vars m (variable_after w y c v) ≡ slice_index_or (state_after n c s).vals v (pos 0)
+
+-- The expression is safe in the state after the choice. Its names after the choice are read from each memory that stands for the
+-- state before and holds the values after, and its own variables keep their types.
+abbrev pub IsReadyAfter : Net → Program → Naming → NewNames → (base : ℕ) → NetChoice → State → ℕ → NetExpr → Type 0
+IsReadyAfter n p w y base c s k e =
+    IsSafe (setting_of n (state_after n c s) (pos 0)) e
+    × ((m : Memory) → StateOf (face_of_net n) (system_of_net n) p m s → HoldsAfter n p w y c s m
+    → Reads p.vars (after_naming n w y c) (setting_of n (state_after n c s) (pos 0)) m e)
+    × KeepsTypes p.vars (after_naming n w y c) (setting_of n (state_after n c s) (pos 0)) base k e
+
 -- ---- choices
 
 -- In each state the test of the choice is ready. Where it holds so is what is sent, and where that is in the range of the
--- channel so are the updates.
-pub record IsReadyChoice (n : Net) (p : Program) (w : Naming) (base k : ℕ) (c : NetChoice) : Type 0 where
+-- channel so are the updates. Where it leads to a state, so are the invariants that are asked there.
+pub record IsReadyChoice (n : Net) (p : Program) (w : Naming) (y : NewNames) (base k : ℕ) (c : NetChoice) : Type 0 where
   pub test : (s : State) → IsState (system_of_net n) s → IsReadyTest n p w base s None (pos 0) k c.test
   pub sent : (s : State) → IsState (system_of_net n) s → true_in n s c.test ≡ true → IsReadySent n p w base s (k + temps c.test) (carried_type n c) c.sent
   pub updates : (s : State) → IsState (system_of_net n) s → true_in n s c.test ≡ true → sends_fit n s c ≡ true
       → AllUpdates (IsReadySet n p w base s (carried_type n c) (received_in n s c)) (IsReadyTest n p w base s (carried_type n c) (received_in n s c)) (k + temps c.test + sent_temps c.sent) c.writes
+  pub keeps : (s : State) → IsState (system_of_net n) s → IsState (system_of_net n) (state_after n c s)
+      → IsReadyAfter n p w y base c s (k + temps c.test + sent_temps c.sent + updates_temps c.writes) (all_hold (asked n c))
 
--- In each state the test of the choice is safe. Where it holds, a value is sent just where the event has a type, and its
--- expression is safe; and where the value is in the range of the channel, so are the expressions of the updates.
+-- In each state the test of the choice is safe, and so are the invariants that are asked. Where the test holds, a value is sent
+-- just where the event has a type, and its expression is safe; and where the value is in the range of the channel, so are the
+-- expressions of the updates.
 pub record IsSafeIn (n : Net) (c : NetChoice) (s : State) : Type 0 where
   pub test : IsSafe (setting_of n s (pos 0)) c.test
   pub sends : true_in n s c.test ≡ true → is_some c.sent ≡ is_some (carried_type n c)
   pub sent : true_in n s c.test ≡ true → AllByRecursion (IsSafe (setting_of n s (pos 0))) (option_to_list c.sent)
   pub updates : true_in n s c.test ≡ true → sends_fit n s c ≡ true → AllByRecursion (IsSafe (setting_of n s (received_in n s c))) (updates_exprs c.writes)
+  pub keeps : AllByRecursion (IsSafe (setting_of n s (pos 0))) (asked n c)
 
 abbrev pub IsSafeChoice : Net → NetChoice → Type 0
 IsSafeChoice n c = (s : State) → IsState (system_of_net n) s → IsSafeIn n c s
 
 -- of each choice with the number of its first own variable
-abbrev pub AllFrom : (P : ℕ → NetChoice → Type 0) → ℕ → List NetChoice → Type 0
-AllFrom P k [] = Unit {0}
-AllFrom P k (c ∷ cs) = P k c × AllFrom P (k + choice_temps c) cs
+abbrev pub AllFrom : Net → (P : ℕ → NetChoice → Type 0) → ℕ → List NetChoice → Type 0
+AllFrom n P k [] = Unit {0}
+AllFrom n P k (c ∷ cs) = P k c × AllFrom n P (k + choice_temps n c) cs
 
 -- its own variables and its expressions are as they are asked for
 pub record ChoiceStands (n : Net) (p : Program) (own : List Text) (w : Naming) (y : NewNames) (base low count k : ℕ) (c : NetChoice) : Type 0 where
   pub variables : OwnStand n p own w y base low count (carried_type n c) c.writes
-  pub ready : IsReadyChoice n p w base k c
+  pub ready : IsReadyChoice n p w y base k c
   pub from : low ≤ k
-  pub room : k + choice_temps c ≤ count
+  pub room : k + choice_temps n c ≤ count
 
 -- ---- the mark that a choice was made
 

@@ -1,6 +1,6 @@
 -- What a choice sends over its event (CIF 3 language reference, "Channels"). Its value goes to a variable of its own, which the
 -- updates read, and an integer is tested against the range of the channel before any of them is evaluated.
-use Rattle.std.specs.Prelude.{ℕ, ℤ, pos, Bool, true, List, [], ◌∷◌, Option, Some, None, is_some, option_map, if◌then◌else◌}
+use Rattle.std.specs.Prelude.{ℕ, ℤ, pos, Bool, true, List, [], ◌∷◌, Option, Some, None, option_map, if◌then◌else◌}
 use Rattle.cif_base.specs.declared.types.Ty.{Ty}
 use Rattle.cif_system.specs.System.{State, Range, in_range}
 use Rattle.cif_term.specs.Tree.{NetExpr}
@@ -9,7 +9,7 @@ use Rattle.cif_model.specs.Meaning.{type_range, value_in}
 use Rattle.cif_model.specs.Listing.{NetChoice}
 use Rattle.cif_model.specs.Table.{carried_type}
 use Rattle.grammar.specs.Pieces.{Text}
-use Rattle.st_ast.specs.Tree.{Expr, named, order, all_of, exprs, no_exprs, Stms, assign, no_stms, stms, append}
+use Rattle.st_ast.specs.Tree.{Expr, named, order, all_of, exprs, no_exprs, Stms, assign, stms, append}
 use Rattle.st_ast.specs.declared.tree.StOrder.TheVariants as cmp
 use Rattle.plc_gen.specs.Events.{tested}
 use Rattle.plc_expr.specs.Texts.{Naming, number_text, temps, text, before}

@@ -1,13 +1,12 @@
 //! What is proved of the statements of choices with data, as laws that a proof reads off: each the contract of a function
 //! without a body.
 
-ghost use Rattle.std.specs.Prelude.{◌≡◌, ◌+◌, ◌-◌, ◌<◌, ◌≤◌, ℕ, ℤ, true, List, [], length, Option};
-ghost use Rattle.std.specs.List.{AllByRecursion};
+ghost use Rattle.std.specs.Prelude.{◌≡◌, ◌+◌, ◌-◌, ◌<◌, ◌≤◌, ℕ, true, List, length, Option};
+ghost use Rattle.std.specs.List.{AllByRecursion, list_all};
 ghost use Rattle.grammar.specs.Pieces.{Text};
 ghost use Rattle.cif_base.specs.declared.types.Ty.{Ty};
-ghost use Rattle.cif_system.specs.System.{State};
 ghost use Rattle.cif_term.specs.Tree.{NetExpr};
-ghost use Rattle.cif_model.specs.Net.{Net};
+ghost use Rattle.cif_model.specs.Net.{NetInvariant, Net};
 ghost use Rattle.cif_model.specs.Facts.{is_net};
 ghost use Rattle.cif_model.specs.Kinds.{Kind, fits, is_bool};
 ghost use Rattle.cif_model.specs.Reads.{names_in, names_no_alg};
@@ -23,42 +22,44 @@ ghost use Rattle.plc_gen.specs.Faces.{face_of_net};
 ghost use Rattle.plc_gen.specs.Small.{are_small};
 ghost use Rattle.plc_gen.specs.Events.{choices_of, event_text, needs_mark};
 ghost use Rattle.plc_expr.specs.Held.{IsThere, OwnPlaces};
-ghost use Rattle.plc_expr.specs.Safe.{Setting};
+ghost use Rattle.cif_safe.specs.Safe.{Setting};
 ghost use Rattle.plc_expr.specs.Sorts.{is_boolean, own_types};
 ghost use Rattle.plc_expr.specs.Texts.{Naming, temps};
 ghost use Rattle.plc_act.specs.Writes.{NewNames};
-ghost use Rattle.plc_act.specs.Asked.{setting_of, Promises};
+ghost use Rattle.plc_act.specs.Asked.{Promises};
 ghost use Rattle.plc_act.specs.Own.{variable_name};
 ghost use Rattle.plc_act.specs.Events.{all_written};
 ghost use Rattle.plc_act.specs.Parts.{AreDeclared, all_temps, data_part, event_faces, event_naming, ifs_from};
 ghost use Rattle.plc_act.specs.Ready.{AllFrom, ChoiceStands, DoneStands, IsSafeChoice};
 
 /// The statements that are written for an event try it: of its choices, which may assign variables and send a value, the first
-/// is made that makes a step, with its new values, and where there is none nothing that is seen changes. The net has no state
-/// invariants. What is promised of expressions, and how the own variables stand, are premises.
+/// is made that makes a step, with its new values, and where there is none nothing that is seen changes. State invariants, which
+/// name no algebraic variable, are asked of the new values before any is stored. What is promised of expressions, and how the own
+/// variables stand, are premises.
 pub fn events_with_data_are_tried()
     ensures { (n : Net) (cs : List NetChoice) (p : Program) (own : List Text) (w : Naming) (y : NewNames) (base low count k e : ℕ) (done : Text) →
-        is_net n ≡ true → IsGuarded n cs → n.invariants ≡ [] → e < length n.events →
+        is_net n ≡ true → IsGuarded n cs → list_all (λ (i : NetInvariant). names_no_alg i.pred) n.invariants ≡ true → e < length n.events →
         IsDeclared p.vars fired ty.Bool → ((v : ℕ) → w.variable v ≡ variable_name n v) →
-        ((s : State) (r : ℤ) → Promises p.vars w (setting_of n s r) base low count) →
-        AllFrom (ChoiceStands n p own w y base low count) k (choices_of cs e) →
+        ((v : Naming) (x : Setting) → v.own ≡ w.own → Promises p.vars v x base low count) →
+        AllFrom n (ChoiceStands n p own w y base low count) k (choices_of cs e) →
         (needs_mark (all_written n w y k (choices_of cs e)) ≡ true → DoneStands p own w y low count done) →
         TriesEvent (face_of_net n) (system_of_net n) p (record { own = own; body = event_text done (all_written n w y k (choices_of cs e)) }) e }
 {}
 
 /// The part of an event whose choices assign variables, and may send a value that these read, tries the event, where its own
-/// variables are declared one after another and the expressions of its choices are safe in each state. The net has no state
-/// invariants, and enumerations that a u32 counts. What is promised of expressions is a premise: of their own variables, of
+/// variables are declared one after another and the expressions of its choices are safe in each state. The state invariants name
+/// no algebraic variable, and a u32 counts each enumeration. What is promised of expressions is a premise: of their own variables, of
 /// their kinds, of their names, and of their texts.
 pub fn parts_with_data_are_tried()
     ensures { (n : Net) (cs : List NetChoice) (p : Program) (base j e : ℕ) →
-        is_net n ≡ true → IsGuarded n cs → n.invariants ≡ [] → are_small n.vars ≡ true → are_small n.inputs ≡ true → e < length n.events →
+        is_net n ≡ true → IsGuarded n cs → list_all (λ (i : NetInvariant). names_no_alg i.pred) n.invariants ≡ true → are_small n.vars ≡ true → are_small n.inputs ≡ true → e < length n.events →
         AllByRecursion (IsSafeChoice n) (choices_of cs e) →
         IsDeclared p.vars fired ty.Bool → AreDeclared p base j (event_faces n (choices_of cs e)) →
         ((r : Option Ty) (x : NetExpr) → length (own_types n r x) ≡ temps x) →
         ((r : Option Ty) (k : Kind) (x : NetExpr) → fits n r k x ≡ true → names_no_alg x ≡ true → is_boolean n r x ≡ is_bool k) →
         ((r : Option Ty) (k : Kind) (x : NetExpr) → fits n r k x ≡ true → names_no_alg x ≡ true → AllByRecursion (IsThere n r) (names_in x)) →
-        ((s : State) (r : ℤ) → Promises p.vars (event_naming n (choices_of cs e) j) (setting_of n s r) base (ifs_from n (choices_of cs e) j) (ifs_from n (choices_of cs e) j + all_temps (choices_of cs e))) →
+        ((v : Naming) (x : Setting) → v.own ≡ (event_naming n (choices_of cs e) j).own →
+        Promises p.vars v x base (ifs_from n (choices_of cs e) j) (ifs_from n (choices_of cs e) j + all_temps n (choices_of cs e))) →
         TriesEvent (face_of_net n) (system_of_net n) p (data_part n j (choices_of cs e)) e }
 {}
 

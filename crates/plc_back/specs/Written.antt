@@ -10,8 +10,8 @@ use Rattle.st_print.specs.Layout.{printed}
 use Rattle.cif_nesting.specs.Nesting.{is_shallow}
 use Rattle.plc_parts.specs.Parts.{HasParts, data_program}
 
--- A plain net without state invariants, whose conditional updates nest no deeper than statements can, and these
--- bounds. The literals of an enumeration are numbered in 32 bits, and the program's own variables in 31.
+-- A plain net whose conditional updates nest no deeper than statements can, and these bounds. The literals of an enumeration
+-- are numbered in 32 bits, and the program's own variables in 31.
 pub record HasProgram (n : Net) (U C : ℕ) : Type 0 where
   pub parts : HasParts n (guarded_of n) U C
   pub shallow : is_shallow n ≡ true

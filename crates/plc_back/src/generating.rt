@@ -4,7 +4,7 @@ ghost use Rattle.std.specs.Prelude.{◌≡◌, ◌<◌, ◌≤◌, ◌^◌, ℕ,
 ghost use Rattle.cif_net.specs.View.{net_tree, choice_tree, event_tree};
 ghost use Rattle.cif_nesting.specs.Nesting.{is_shallow};
 ghost use Rattle.st_print.specs.Layout.{printed};
-ghost use Rattle.plc_parts.specs.Parts.{HasParts, is_silent, data_program};
+ghost use Rattle.plc_parts.specs.Parts.{HasParts, data_program};
 ghost use Rattle.plc_back.specs.Written.{IsFirstUnclassed, IsTextOf, first_unclassed};
 ghost use Rattle.plc_back.specs.declared.error.ProfileErr.TheVariants.{Unclassed};
 
@@ -17,13 +17,12 @@ use st_print::print;
 use std::alloc::Global;
 
 /// The text of a Structured Text program (IEC 61131-3) that makes the scans of a net, with these most rounds of each class in a
-/// scan. The net has no state invariants. Each event is to be controllable or uncontrollable.
+/// scan. Each event is to be controllable or uncontrollable.
 pub fn generate_text(
     alloc: Global,
     guarded: &Guarded,
     bounds: Bounds,
 ) -> Result<Vec<u8>, ProfileErr>
-    requires silent { is_silent (net_tree guarded.now.plain.net) ≡ true }
     requires shallow { is_shallow (net_tree guarded.now.plain.net) ≡ true }
     requires unc { bounds.unc ≤ 10000 }
     requires con { bounds.con ≤ 10000 }
@@ -55,7 +54,6 @@ fn unclassed_event(events: &[Event]) -> Option<u32>
 
 /// The printed program of the net.
 fn program_text(alloc: Global, guarded: &Guarded, bounds: Bounds) -> Result<Vec<u8>, Memory>
-    requires silent { is_silent (net_tree guarded.now.plain.net) ≡ true }
     requires shallow { is_shallow (net_tree guarded.now.plain.net) ≡ true }
     requires unc { bounds.unc ≤ 10000 }
     requires con { bounds.con ≤ 10000 }

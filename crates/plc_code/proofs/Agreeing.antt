@@ -1,6 +1,6 @@
 -- The statements of an event are the same under two ways of naming that name alike what is in the net, and two ways of naming
 -- new values that name alike those of the variables that are assigned.
-use Rattle.std.proofs.Common.{◌≡◌, ℕ, ◌+◌, Bool, true, false, not, ◌||◌, List, [], ◌∷◌, map, flat_map, nat_eq, Option, Some, None, slice_get, refl, sym, ap, ap₂, subst, arith, ◌∙◌, if◌then◌else◌}
+use Rattle.std.proofs.Common.{◌≡◌, ℕ, ◌+◌, Bool, true, false, not, ◌||◌, List, [], ◌∷◌, ◌++◌, map, flat_map, nat_eq, Option, Some, None, slice_get, refl, sym, ap, ap₂, subst, arith, ◌∙◌, if◌then◌else◌}
 use Rattle.std.specs.Prelude.{option_to_list}
 use Rattle.std.specs.List.{AllByRecursion}
 use Rattle.std.proofs.lemmas.Bool.Decides.{nat_tests}
@@ -9,17 +9,18 @@ use Rattle.cif_base.specs.declared.types.Ty.{Ty}
 use Rattle.cif_term.specs.Tree.{NetExpr, NetUpdate, net_set, net_choose, NetUpdates, no_net_updates, net_updates, NetUpdateBranches, no_net_update_branches, net_update_branches}
 use Rattle.cif_model.specs.Exprs.{branches_exprs, targets, update_exprs, updates_exprs}
 use Rattle.cif_model.specs.Facts.{has}
-use Rattle.cif_model.specs.Listing.{NetChoice}
-use Rattle.cif_model.specs.Net.{NetStored, Net}
-use Rattle.cif_model.specs.Reads.{Read, names_in}
+use Rattle.cif_model.specs.Listing.{NetChoice, all_hold, exprs_of}
+use Rattle.cif_model.specs.Net.{NetEdge, NetStored, Net}
+use Rattle.cif_model.specs.Reads.{Read, a_var, an_input, an_alg, a_place, the_received, list_names, names_in}
 use Rattle.cif_model.specs.Table.{carried_type}
-use Rattle.st_ast.specs.Tree.{Stms, append, assign, branches, named, no_branches, no_stms, stms, stms_of, truth}
+use Rattle.st_ast.specs.Tree.{Expr, Stms, append, assign, branches, named, no_branches, no_stms, stms, stms_of, truth}
 use Rattle.plc_expr.specs.Held.{IsThere}
 use Rattle.plc_expr.specs.Texts.{Naming, before, temps, text}
-use Rattle.plc_gen.specs.Events.{moves_text}
+use Rattle.plc_gen.specs.Events.{moves_text, tested}
 use Rattle.plc_gen.proofs.Choosing.{all-filter}
 use Rattle.plc_act.specs.Acts.{act, assigned_vars, computed, copy, may_stay, store, stored, surely_set}
 use Rattle.plc_act.specs.Events.{all_written, data_written, is_bare}
+use Rattle.plc_act.specs.Keeps.{after_naming, asked, located_after, taken_edge, variable_after, where_hold, where_kept}
 use Rattle.plc_act.specs.Own.{choice_temps}
 use Rattle.plc_act.specs.Sends.{sends, sent_temps, where_fits}
 use Rattle.plc_act.specs.Writes.{NewNames, any_tested, bodies_temps, chosen, conditions_before, conditions_temps, is_tested, range_test, stays_in, updates_temps, write, write_branches, writes}
@@ -144,8 +145,8 @@ module _ (n : Net) (w v : Naming) (y z : NewNames) (alike : (r : Option Ty) (q :
           then stms (assign m (truth true)) (append cs (chosen (branches (named m) ss no_branches) no_stms))
           else append cs ss
 
-      act-same : (k : ℕ) (rest : Stms) → act n w y k us rest ≡ act n v z k us rest
-      act-same k rest = ap₂ (λ m cs. act_with m cs (stored w y us rest)) mark (computed-same k) ∙ ap (act_with z.in_range (computed n v z k us)) (stored-same rest)
+      act-same : (k : ℕ) (ss ts : Stms) → ss ≡ ts → act n w y k us ss ≡ act n v z k us ts
+      act-same k ss ts same = ap₂ (λ m cs. act_with m cs ss) mark (computed-same k) ∙ ap (act_with z.in_range (computed n v z k us)) same
 
   -- what is sent, and then the same statements
   where-same : (t : Ty) (ss ts : Stms) → ss ≡ ts → where_fits w.received t ss ≡ where_fits v.received t ts
@@ -158,11 +159,57 @@ module _ (n : Net) (w v : Naming) (y z : NewNames) (alike : (r : Option Ty) (q :
       ap₂ (λ bs d. append bs (stms (assign w.received d) (where_fits w.received t ss))) (expr-before None k e h.0) (expr-text None k e h.0)
       ∙ ap₂ (λ x r. append (before v k e) (stms (assign x (text v k e)) r)) received (where-same t ss ts same)
 
+  -- the state invariants that are asked
+  module _ (c : NetChoice) (new : (x : ℕ) → has (targets c.writes) x ≡ true → NewAlike x) where
+    located-same : (k p : ℕ) → w.located k p ≡ v.located k p → located_after n w c k p ≡ located_after n v c k p
+    located-same k p same = go (taken_edge n c k)
+      where
+        go : (o : Option NetEdge) → ◌≡◌ {A = Expr} (elim o [ None ↦ w.located k p | Some x ↦ truth (nat_eq x.to p) ]) (elim o [ None ↦ v.located k p | Some x ↦ truth (nat_eq x.to p) ])
+        go None = same
+        go (Some x) = refl
+
+    variable-same : (x : ℕ) → w.variable x ≡ v.variable x → variable_after w y c x ≡ variable_after v z c x
+    variable-same x same = go (has (targets c.writes) x) refl
+      where
+        go : (b : Bool) → has (targets c.writes) x ≡ b → (if b then y.next x else w.variable x) ≡ (if b then z.next x else v.variable x)
+        go true is = (new x is).0
+        go false is = same
+
+    after-alike : (q : Read) → IsThere n None q → IsAlike (after_naming n w y c) (after_naming n v z c) q
+    after-alike (a_var x) h = variable-same x (alike None (a_var x) h)
+    after-alike (an_input k) h = alike None (an_input k) h
+    after-alike (an_alg k) h = tt
+    after-alike (a_place k) h = λ p. located-same k p (alike None (a_place k) h p)
+    after-alike the_received h = received
+
+    names-there : (es : List NetExpr) → AllByRecursion (IsNamedExpr n None) es → AllByRecursion (IsThere n None) (list_names (exprs_of es))
+    names-there [] h = tt
+    names-there (e ∷ es) h = join (names_in e) h.0 (names-there es h.1)
+      where
+        join : (qs : List Read) → AllByRecursion (IsThere n None) qs → AllByRecursion (IsThere n None) (list_names (exprs_of es)) → AllByRecursion (IsThere n None) (qs ++ list_names (exprs_of es))
+        join [] h rest = rest
+        join (q ∷ qs) h rest = (h.0, join qs h.1 rest)
+
+    hold-same : (k : ℕ) (es : List NetExpr) (ss : Stms) → AllByRecursion (IsNamedExpr n None) es → where_hold (after_naming n w y c) k es ss ≡ where_hold (after_naming n v z c) k es ss
+    hold-same k [] ss h = refl
+    hold-same k (e ∷ es) ss h =
+        let named = each (IsThere n None) (IsAlike (after_naming n w y c) (after_naming n v z c)) after-alike (list_names (exprs_of (e ∷ es))) (names-there (e ∷ es) h) in
+        ap₂ (λ bs d. append bs (tested d ss)) (same-before (after_naming n w y c) (after_naming n v z c) own k (all_hold (e ∷ es)) named)
+        (same-text (after_naming n w y c) (after_naming n v z c) own k (all_hold (e ∷ es)) named)
+
+    kept-same : (k : ℕ) (ss : Stms) → AllByRecursion (IsNamedExpr n None) (asked n c) → where_kept n w y k c ss ≡ where_kept n v z k c ss
+    kept-same k ss h = hold-same k (asked n c) ss h
+
   written-same : (k : ℕ) (c : NetChoice) → IsNamedChoice n c → ((x : ℕ) → has (targets c.writes) x ≡ true → NewAlike x) → data_written n w y k c ≡ data_written n v z k c
   written-same k c h new =
       let p = expr-before None k c.test h.test in
       let q = expr-text None k c.test h.test in
-      let a = λ (ms : Stms). sends-same (k + temps c.test) c.sent (carried_type n c) _ _ h.sent (act-same (carried_type n c) c.writes h.updates new (k + temps c.test + sent_temps c.sent) (moves_text n c.moves ms)) in
+      let j = k + temps c.test + sent_temps c.sent in
+      let after = j + updates_temps c.writes in
+      let a = λ (ms : Stms).
+      sends-same (k + temps c.test) c.sent (carried_type n c) _ _ h.sent
+      (act-same (carried_type n c) c.writes h.updates new j _ _
+      (kept-same c new after (stored w y c.writes (moves_text n c.moves ms)) h.keeps ∙ ap (where_kept n v z after c) (stored-same (carried_type n c) c.writes h.updates new (moves_text n c.moves ms)))) in
       λ i. record { before = p i; test = q i; act = λ ms. a ms i; is_bare = is_bare n c }
 
   -- the choices of an event, of which each assigns variables whose new values are named alike
@@ -173,4 +220,4 @@ module _ (n : Net) (w v : Naming) (y z : NewNames) (alike : (r : Option Ty) (q :
       let rest = flat_map (λ (d : NetChoice). targets d.writes) cs in
       ap₂ (λ q qs. q ∷ qs)
       (written-same k c h.0 (λ x in_them. new x (has-append (targets c.writes) rest x ∙ ap (λ b. b || has rest x) in_them)))
-      (all-same (k + choice_temps c) cs h.1 (λ x in_them. new x (has-append (targets c.writes) rest x ∙ ap (λ b. has (targets c.writes) x || b) in_them ∙ or-true (has (targets c.writes) x))))
+      (all-same (k + choice_temps n c) cs h.1 (λ x in_them. new x (has-append (targets c.writes) rest x ∙ ap (λ b. has (targets c.writes) x || b) in_them ∙ or-true (has (targets c.writes) x))))

@@ -2,7 +2,7 @@
 use Rattle.std.proofs.Common.{◌≡◌, ℕ, zero, suc, ◌+◌, ◌-◌, ◌<◌, List, [], ◌∷◌, ◌++◌, map, length, take, drop, sym, ap, ap₂, subst, ◌∙◌, arith}
 use Rattle.std.specs.List.{AllByRecursion, enumerate_from, range_with_len}
 use Rattle.std.proofs.lemmas.Grind.{flat_map-append}
-use Rattle.std.proofs.lemmas.List.{append_assoc, drop-map, map-append, take-map}
+use Rattle.std.proofs.lemmas.List.{append-nil, append_assoc, drop-map, map-append, take-map}
 use Rattle.std.proofs.lemmas.List.FromFn.{length-enumerate_from}
 use Rattle.std.proofs.Math.ListN.{length-append}
 use Rattle.cif_system.proofs.Lists.{map-length}
@@ -65,6 +65,11 @@ left-as f xs ys k j is count = ap (map f) is ∙ sym (drop-map f k xs) ∙ ap (�
 -- one more part, from what is kept and what was made
 pub pushed-as : (done pushed : List Part) (part item : Part) → pushed ≡ done ++ item ∷ [] → item ≡ part → map part_tree pushed ≡ map part_tree done ++ part_tree part ∷ []
 pushed-as done pushed part item is same = ap (map part_tree) (is ∙ ap (λ (p : Part). done ++ p ∷ []) same) ∙ map-append part_tree done (part ∷ [])
+
+-- where no event is left, what is done is all
+pub all-done : (n : Net) (rest : List NetChoice) (next event : ℕ) (done all : List EventPart) → length n.events - event ≡ 0
+    → done ++ parts_from n rest next (range_with_len event (length n.events - event)) ≡ all → done ≡ all
+all-done n rest next event done all none h = sym (append-nil done) ∙ ap (λ (k : ℕ). done ++ parts_from n rest next (range_with_len event k)) (sym none) ∙ h
 
 -- the own variables of one more part
 pub own-more : (done pushed : List EventPart) (part : EventPart) (next more : ℕ) → pushed ≡ done ++ part ∷ [] → next ≡ 2 + length (own_variables done)

@@ -15,7 +15,7 @@ use Rattle.plc_gen.specs.Small.{are_small}
 use Rattle.plc_gen.proofs.Choosing.{all-of}
 use Rattle.plc_expr.proofs.There.{there}
 use Rattle.plc_parts.specs.Definitions.{IsDefinition}
-use Rattle.plc_parts.specs.Parts.{HasParts, data_parts, is_silent, shown_first, shown_part}
+use Rattle.plc_parts.specs.Parts.{HasParts, data_parts, shown_first, shown_part}
 use Rattle.plc_parts.proofs.Defined.{all-defined}
 use Rattle.plc_code.specs.Named.{IsNamedAlg, IsNamedChoice}
 use Rattle.plc_code.specs.Order.{Ascending}
@@ -39,7 +39,7 @@ module _ (g : Guarded) where
   in-order = listed-ascend n (system_of_net n) cs (guarded-steps g).each
 
   pub all-there : AllByRecursion (IsNamedChoice n) cs
-  all-there = all-of (IsNamedChoice n) cs (λ k c at. choice-named n c ((guarded-steps g).stands k c at))
+  all-there = all-of (IsNamedChoice n) cs (λ k c at. choice-named n g.plain.plain c ((guarded-steps g).stands k c at))
 
   each-there : (as' : List NetAlg) → AllByRecursion (IsDefinition n) as' → AllByRecursion (IsNamedAlg n) as'
   each-there [] h = tt
@@ -49,12 +49,11 @@ module _ (g : Guarded) where
   pub algs-there : AllByRecursion (IsNamedAlg n) n.algs
   algs-there = each-there n.algs (all-defined n g.plain.plain)
 
-  pub has-parts : (U C last : ℕ) → is_silent n ≡ true → are_small n.vars ≡ true → are_small n.inputs ≡ true → U ≤ 10000 → C ≤ 10000
+  pub has-parts : (U C last : ℕ) → are_small n.vars ≡ true → are_small n.inputs ≡ true → U ≤ 10000 → C ≤ 10000
       → last ≡ shown_first n cs + length (shown_part n (shown_first n cs)).own → last ≤ 2147483648 → HasParts n cs U C
-  has-parts U C last silent vars inputs unc con last_is most = record {
+  has-parts U C last vars inputs unc con last_is most = record {
     plain = g.plain.plain;
     guarded = guarded-steps g;
-    silent = silent;
     small_variables = vars;
     small_inputs = inputs;
     few_own = let both = length-append (own_variables (data_parts n cs)) (shown_part n (shown_first n cs)).own in omega (arith, last_is, most, both);

@@ -14,3 +14,6 @@ pub mod Several
 pub mod Eventwise
 pub mod Updating
 pub mod Shown
+pub mod Changing
+pub mod Aftering
+pub mod Holding

@@ -57,6 +57,34 @@ still-past last at round within past v r e = go (nat_eq v at) refl
         let other : v ≢ at = grind (arith, nat_tests) in
         past v r (sym (slice_get-set_other last at v round other) ∙ e)
 
+-- one is not marked any more
+pub marked-not : (last : List ℕ) (at round earlier : ℕ) → at < length last → earlier < round → (v : ℕ)
+    → is_now round (slice_get (slice_set last at earlier) v) ≡ (if nat_eq v at then false else is_now round (slice_get last v))
+marked-not last at round earlier within before v = go (nat_eq v at) refl
+  where
+    other-round : nat_eq earlier round ≡ false
+    other-round = grind (arith, nat_tests)
+
+    go : (b : Bool) → nat_eq v at ≡ b → is_now round (slice_get (slice_set last at earlier) v) ≡ (if b then false else is_now round (slice_get last v))
+    go true is =
+        let same : v ≡ at = grind (arith, nat_tests) in
+        ap (λ k. is_now round (slice_get (slice_set last at earlier) k)) same ∙ ap (is_now round) (slice_get-set_same last at earlier within) ∙ other-round
+    go false is =
+        let other : v ≢ at = grind (arith, nat_tests) in
+        ap (is_now round) (slice_get-set_other last at v earlier other)
+
+pub past-earlier : (last : List ℕ) (at round earlier : ℕ) → at < length last → earlier ≤ round → ((v r : ℕ) → slice_get last v ≡ Some r → r ≤ round)
+    → (v r : ℕ) → slice_get (slice_set last at earlier) v ≡ Some r → r ≤ round
+past-earlier last at round earlier within below past v r e = go (nat_eq v at) refl
+  where
+    go : (b : Bool) → nat_eq v at ≡ b → r ≤ round
+    go true is =
+        let same : v ≡ at = grind (arith, nat_tests) in
+        let q = some-is earlier r (sym (slice_get-set_same last at earlier within) ∙ ap (slice_get (slice_set last at earlier)) (sym same) ∙ e) in omega arith
+    go false is =
+        let other : v ≢ at = grind (arith, nat_tests) in
+        past v r (sym (slice_get-set_other last at v earlier other) ∙ e)
+
 -- ---- lists
 
 -- what was marked, and what is left, are all

@@ -28,12 +28,12 @@ branch-made : (b : StBranch) → view_branch b ≡ (view_expr b.cond, view_stmts
 branch-made b = search (folds.the_lemmas)
 
 module _ (n : Net) (w : Naming) (y : NewNames) (cs : List Choice) (i : ℕ) (x : Choice) (within : i < length cs) (item : x ≡ get_or cs i x) where
-  first-written : (k : ℕ) → all_written n w y k (map choice_tree (drop i cs)) ≡ data_written n w y k (choice_tree x) ∷ all_written n w y (k + choice_temps (choice_tree x)) (map choice_tree (drop (i + 1) cs))
+  first-written : (k : ℕ) → all_written n w y k (map choice_tree (drop i cs)) ≡ data_written n w y k (choice_tree x) ∷ all_written n w y (k + choice_temps n (choice_tree x)) (map choice_tree (drop (i + 1) cs))
   first-written k = ap (λ (ys : List Choice). all_written n w y k (map choice_tree ys)) (drop-item cs i x within item)
 
   pub chain-more : (k next : ℕ) (all new : List StBranch) (cond : StExpr) (body : List Stmt) (set : Stms)
       → view_expr cond ≡ (data_written n w y k (choice_tree x)).test → view_stmts body ≡ (data_written n w y k (choice_tree x)).act set → set ≡ marks
-      → next ≡ k + choice_temps (choice_tree x) → new ≡ all ++ record { cond = cond; body = body } ∷ []
+      → next ≡ k + choice_temps n (choice_tree x) → new ≡ all ++ record { cond = cond; body = body } ∷ []
       → branches_then (map view_branch new) (chain_branches (all_written n w y next (map choice_tree (drop (i + 1) cs)))) ≡ branches_then (map view_branch all) (chain_branches (all_written n w y k (map choice_tree (drop i cs))))
   chain-more k next all new cond body set cond_is body_is set_is next_is new_is =
       let one : StBranch = record { cond = cond; body = body } in
@@ -50,7 +50,7 @@ module _ (n : Net) (w : Naming) (y : NewNames) (cs : List Choice) (i : ℕ) (x :
 
   pub parts-more : (done : Text) (k next : ℕ) (all new : List Stmt) (s : Stmt) (set tried : Stms)
       → view_stmt s ≡ choice (branches (complement (named done)) tried no_branches) no_other → tried ≡ tried_with (data_written n w y k (choice_tree x)) set → set ≡ marks_with done
-      → next ≡ k + choice_temps (choice_tree x) → new ≡ all ++ s ∷ []
+      → next ≡ k + choice_temps n (choice_tree x) → new ≡ all ++ s ∷ []
       → append (view_stmts new) (parts_text done (all_written n w y next (map choice_tree (drop (i + 1) cs)))) ≡ append (view_stmts all) (parts_text done (all_written n w y k (map choice_tree (drop i cs))))
   parts-more done k next all new s set tried s_is tried_is set_is next_is new_is =
       let rest = parts_text done (all_written n w y next (map choice_tree (drop (i + 1) cs))) in
@@ -79,7 +79,7 @@ module _ (n : Net) (w : Naming) (y : NewNames) (cs : List Choice) (i k : ℕ) (p
 module _ (n : Net) (w : Naming) (y : NewNames) where
   bare-written : (k : ℕ) (cs : List Choice) → all_bare (all_written n w y k (map choice_tree cs)) ≡ list_all (is_bare n) (map choice_tree cs)
   bare-written k [] = refl
-  bare-written k (c ∷ cs) = ap (λ b. is_bare n (choice_tree c) && b) (bare-written (k + choice_temps (choice_tree c)) cs)
+  bare-written k (c ∷ cs) = ap (λ b. is_bare n (choice_tree c) && b) (bare-written (k + choice_temps n (choice_tree c)) cs)
 
   two : (k : ℕ) → nat_lt 1 (suc (suc k)) ≡ true
   two k = grind (arith, nat_tests)

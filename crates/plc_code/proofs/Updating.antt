@@ -106,7 +106,7 @@ joined-texts : (n : Net) (w : Naming) (y : NewNames) (k j : ℕ) (bs : term.NetU
 joined-texts n w y k j no_net_update_branches = refl
 joined-texts n w y k j (net_update_branches c us bs) = ap (branches (text w k c) (writes n w y j us)) (joined-texts n w y (k + temps c) (j + updates_temps us) bs)
 
-on-ok-map : {A E : Type 0} (r : Result A E) (P Q : Type 0) → (P → Q) → OnOk r P → OnOk r Q
+pub on-ok-map : {A E : Type 0} (r : Result A E) (P Q : Type 0) → (P → Q) → OnOk r P → OnOk r Q
 on-ok-map (Ok x) P Q f p = f p
 on-ok-map (Err e) P Q f p = tt
 

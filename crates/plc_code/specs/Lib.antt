@@ -5,3 +5,6 @@ pub mod Writers
 pub mod Making
 pub mod Outlines
 pub mod Order
+pub mod Moved
+pub mod Changed
+pub mod After

@@ -15,6 +15,7 @@ use Rattle.plc_face.specs.declared.letter.Letter.{Letter}
 use Rattle.plc_face.specs.declared.letter.Letter.TheVariants as letter
 use Rattle.plc_face.specs.Names.{name_for}
 use Rattle.plc_expr.specs.Held.{IsThere}
+use Rattle.plc_act.specs.Keeps.{asked}
 use Rattle.plc_expr.specs.declared.names.Names.{Names}
 use Rattle.plc_expr.specs.declared.names.PlaceText.{PlaceText}
 use Rattle.plc_expr.specs.declared.names.PlaceText.TheVariants as place
@@ -49,9 +50,10 @@ IsNamedExpr n r e = AllByRecursion (IsThere n r) (names_in e)
 abbrev pub IsNamedAlg : Net → NetAlg → Type 0
 IsNamedAlg n a = IsNamedExpr n None (defined_by a)
 
--- what the expressions of a choice name is there, and so are the variables that it assigns
+-- what the expressions of a choice name is there, also the invariants that are asked, and so are the variables that it assigns
 pub record IsNamedChoice (n : Net) (c : NetChoice) : Type 0 where
   pub test : IsNamedExpr n None c.test
   pub sent : AllByRecursion (IsNamedExpr n None) (option_to_list c.sent)
   pub updates : AllByRecursion (IsNamedExpr n (carried_type n c)) (updates_exprs c.writes)
   pub targets_there : (v : ℕ) → has (targets c.writes) v ≡ true → v < length n.vars
+  pub keeps : AllByRecursion (IsNamedExpr n None) (asked n c)

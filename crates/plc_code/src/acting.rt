@@ -2,21 +2,24 @@
 
 ghost use Rattle.std.specs.Prelude.{◌≡◌, ◌+◌, true, map, IfOk, OnOk};
 ghost use Rattle.cif_term.specs.View.{view_updates};
-ghost use Rattle.cif_model.specs.Exprs.{targets};
 ghost use Rattle.cif_net.specs.View.{choice_tree, net_tree};
 ghost use Rattle.st_ast.specs.Tree.{append, assign, branches as branches_with, choice as choice_with, named, no_branches, no_other, no_stms, stms, stms_of, truth};
 ghost use Rattle.st_ast.specs.View.{view_stmt, view_stmts};
 ghost use Rattle.plc_expr.specs.Written.{naming_of};
 ghost use Rattle.plc_gen.specs.Events.{moves_text};
 ghost use Rattle.plc_act.specs.Acts as a;
+ghost use Rattle.plc_act.specs.Keeps as k;
+ghost use Rattle.plc_act.specs.Writes as w;
 ghost use Rattle.plc_act.specs.Writes.{chosen, updates_temps};
-ghost use Rattle.plc_code.specs.Making.{all_set};
+ghost use Rattle.plc_code.specs.After.{AreSame};
+ghost use Rattle.plc_code.specs.Making.{acted, all_set};
 ghost use Rattle.plc_code.specs.Writers.{new_names_of};
 
+use crate::keeping::Scratch;
 use crate::marks::{Marks, once_of, without};
 use crate::moves::{marking, moving};
 use crate::selecting::tested;
-use crate::targets::{add_surely_set, add_targets, any_tested};
+use crate::targets::{add_surely_set, any_tested, targets_of};
 use crate::writing::Writer;
 use cif_base::{Boxed, Items, Memory, Text};
 use cif_net::{Choice, NetUpdate};
@@ -29,16 +32,6 @@ use std::alloc::Global;
 pub struct Assigned {
     pub all: Items<u32>,
     pub may_stay: Items<u32>,
-}
-
-/// The variables that updates assign, under a condition or not, in the order of the text.
-#[tactic(auto, using(crate::proofs::Assigning::assigned_are))]
-fn targets_of(alloc: Global, updates: &[NetUpdate]) -> Result<Items<u32>, Memory>
-    ensures { IfOk result (λ all. all ≡ targets (view_updates updates.now)) }
-{
-    let mut all = Items::new(alloc);
-    add_targets(updates, &mut all)?;
-    Ok(all)
 }
 
 fn surely_set(alloc: Global, updates: &[NetUpdate]) -> Result<Items<u32>, Memory>
@@ -112,21 +105,21 @@ impl<'a> Writer<'a> {
         Ok(all)
     }
 
-    /// Adds the statements that compute the new values.
+    /// The statements that compute the new values. Their own variables are numbered from a number on.
     #[tactic(auto, using(plc_walk::proofs::Joining::statements))]
-    fn computed(
-        &self,
-        updates: &[NetUpdate],
-        may_stay: &[u32],
-        draft: &mut Draft,
-    ) -> Result<(), Memory>
+    fn computed(&self, updates: &[NetUpdate], may_stay: &[u32], next: u32) -> Result<Draft, Memory>
         requires { may_stay.now ≡ a.may_stay (view_updates updates.now) }
-        ensures next { OnOk result (draft.new.next ≡ draft.old.next + updates_temps (view_updates updates.now)) }
-        ensures before { OnOk result (view_stmts draft.new.statements ≡ append (view_stmts draft.old.statements)
-            (a.computed (net_tree self.now.net.now) (naming_of self.now.names.now) (new_names_of self.now.new.now) draft.old.next (view_updates updates.now))) }
+        ensures next { IfOk result (λ draft. draft.next ≡ next + updates_temps (view_updates updates.now)) }
+        ensures before { IfOk result (λ draft. view_stmts draft.statements
+            ≡ a.computed (net_tree self.now.net.now) (naming_of self.now.names.now) (new_names_of self.now.new.now) next (view_updates updates.now)) }
     {
+        let mut draft = Draft {
+            statements: Items::new(self.alloc),
+            next,
+        };
         self.copies(may_stay, &mut draft.statements)?;
-        self.writes(updates, draft)
+        self.writes(updates, &mut draft)?;
+        Ok(draft)
     }
 
     /// Stores the new values, makes the moves, and sets these marks.
@@ -153,85 +146,73 @@ impl<'a> Writer<'a> {
         )
     }
 
-    /// What the choice does: the new values are computed, and where all of them are in range they are stored, the moves are made,
-    /// and these marks are set. Its own variables are numbered from a number on.
+    /// The new values are computed, and where all of them are in range these statements follow.
+    #[tactic(auto, using(plc_walk::proofs::Joining::statements))]
+    fn where_in_range(
+        &self,
+        computed: Items<Stmt>,
+        body: Items<Stmt>,
+    ) -> Result<Items<Stmt>, Memory>
+        ensures { IfOk result (λ all. view_stmts all ≡ stms (assign (new_names_of self.now.new.now).in_range (truth true))
+            (append (view_stmts computed) (chosen (branches_with (named (new_names_of self.now.new.now).in_range) (view_stmts body) no_branches) no_stms))) }
+    {
+        let start = marking(self.alloc, &self.new.in_range, true)?.into_inner();
+        let mut all = Items::only(self.alloc, start)?;
+        all.append(computed)?;
+        all.push(self.if_in_range(body)?.into_inner())?;
+        Ok(all)
+    }
+
+    /// The new values are computed, and then these statements follow, where a new value is tested only if all are in range.
+    #[tactic(auto, using(plc_walk::proofs::Joining::statements))]
+    fn acting(
+        &self,
+        updates: &[NetUpdate],
+        computed: Items<Stmt>,
+        body: Items<Stmt>,
+    ) -> Result<Items<Stmt>, Memory>
+        ensures { IfOk result (λ all. view_stmts all ≡ acted (w.any_tested (net_tree self.now.net.now) (view_updates updates.now))
+            (new_names_of self.now.new.now).in_range (view_stmts computed) (view_stmts body)) }
+    {
+        if any_tested(self.net, updates) {
+            return self.where_in_range(computed, body);
+        }
+        let mut all = computed;
+        all.append(body)?;
+        Ok(all)
+    }
+
+    /// What the choice does: the new values are computed, and where all of them are in range and the state invariants that are
+    /// asked hold of them, they are stored, the moves are made, and these marks are set. Its own variables are numbered from a
+    /// number on.
     pub fn act(
         &self,
         choice: &Choice,
         marks: &[Text],
         next: u32,
-        once: &mut Marks,
+        scratch: &mut Scratch,
     ) -> Result<Draft, Memory>
-        ensures next { IfOk result (λ draft. draft.next ≡ next + updates_temps (choice_tree choice.now).writes) }
+        requires { AreSame scratch.now.after self.now.names.now }
+        ensures same { OnOk result (AreSame scratch.new.after self.now.names.now) }
+        ensures next { IfOk result (λ draft. draft.next ≡ next + (updates_temps (choice_tree choice.now).writes + k.kept_temps (net_tree self.now.net.now) (choice_tree choice.now))) }
         ensures act { IfOk result (λ draft. view_stmts draft.statements
-            ≡ a.act (net_tree self.now.net.now) (naming_of self.now.names.now) (new_names_of self.now.new.now) next
-            (choice_tree choice.now).writes (moves_text (net_tree self.now.net.now) (choice_tree choice.now).moves (all_set marks.now))) }
+            ≡ a.act (net_tree self.now.net.now) (naming_of self.now.names.now) (new_names_of self.now.new.now) next (choice_tree choice.now).writes
+            (k.where_kept (net_tree self.now.net.now) (naming_of self.now.names.now) (new_names_of self.now.new.now) (next + updates_temps (choice_tree choice.now).writes) (choice_tree choice.now)
+            (a.stored (naming_of self.now.names.now) (new_names_of self.now.new.now) (choice_tree choice.now).writes
+            (moves_text (net_tree self.now.net.now) (choice_tree choice.now).moves (all_set marks.now))))) }
     {
-        let vars = assigned_by(self.alloc, choice.writes.as_slice(), once)?;
+        let updates = choice.writes.as_slice();
+        let vars = assigned_by(self.alloc, updates, &mut scratch.changes.variables)?;
         let stored = self.stored(choice, vars.all.as_slice(), marks)?;
-        if any_tested(self.net, choice.writes.as_slice()) {
-            self.act_in_range(
-                choice.writes.as_slice(),
-                vars.may_stay.as_slice(),
-                stored,
-                next,
-            )
-        } else {
-            self.act_at_once(
-                choice.writes.as_slice(),
-                vars.may_stay.as_slice(),
-                stored,
-                next,
-            )
-        }
-    }
-
-    #[tactic(auto, using(plc_walk::proofs::Joining::statements))]
-    fn act_in_range(
-        &self,
-        updates: &[NetUpdate],
-        may_stay: &[u32],
-        stored: Items<Stmt>,
-        next: u32,
-    ) -> Result<Draft, Memory>
-        requires { may_stay.now ≡ a.may_stay (view_updates updates.now) }
-        ensures next { IfOk result (λ draft. draft.next ≡ next + updates_temps (view_updates updates.now)) }
-        ensures act { IfOk result (λ draft. view_stmts draft.statements ≡ stms (assign (new_names_of self.now.new.now).in_range (truth true))
-            (append (a.computed (net_tree self.now.net.now) (naming_of self.now.names.now) (new_names_of self.now.new.now) next (view_updates updates.now))
-            (chosen (branches_with (named (new_names_of self.now.new.now).in_range) (view_stmts stored) no_branches) no_stms))) }
-    {
-        let start = marking(self.alloc, &self.new.in_range, true)?.into_inner();
-        let mut draft = Draft {
-            statements: Items::only(self.alloc, start)?,
+        let Draft {
+            statements: computed,
             next,
-        };
-        self.computed(updates, may_stay, &mut draft)?;
-        draft
-            .statements
-            .push(self.if_in_range(stored)?.into_inner())?;
-        Ok(draft)
-    }
-
-    #[tactic(auto, using(plc_walk::proofs::Joining::statements))]
-    fn act_at_once(
-        &self,
-        updates: &[NetUpdate],
-        may_stay: &[u32],
-        stored: Items<Stmt>,
-        next: u32,
-    ) -> Result<Draft, Memory>
-        requires { may_stay.now ≡ a.may_stay (view_updates updates.now) }
-        ensures next { IfOk result (λ draft. draft.next ≡ next + updates_temps (view_updates updates.now)) }
-        ensures act { IfOk result (λ draft. view_stmts draft.statements ≡ append
-            (a.computed (net_tree self.now.net.now) (naming_of self.now.names.now) (new_names_of self.now.new.now) next (view_updates updates.now))
-            (view_stmts stored)) }
-    {
-        let mut draft = Draft {
-            statements: Items::new(self.alloc),
+        } = self.computed(updates, vars.may_stay.as_slice(), next)?;
+        let Draft {
+            statements: kept,
             next,
-        };
-        self.computed(updates, may_stay, &mut draft)?;
-        draft.statements.append(stored)?;
-        Ok(draft)
+        } = self.where_kept(choice, stored, next, scratch)?;
+        let statements = self.acting(updates, computed, kept)?;
+        Ok(Draft { statements, next })
     }
 }

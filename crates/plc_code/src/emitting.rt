@@ -5,7 +5,7 @@ ghost use Rattle.cif_net.specs.View.{choice_tree, net_tree};
 ghost use Rattle.cif_nesting.specs.Nesting.{is_shallow};
 ghost use Rattle.st_ast.specs.View.{view};
 ghost use Rattle.plc_gen.specs.Makes.{Makes};
-ghost use Rattle.plc_parts.specs.Parts.{HasParts, data_program, is_silent};
+ghost use Rattle.plc_parts.specs.Parts.{HasParts, data_program};
 
 use crate::program::emit_fitting;
 use cif_base::Memory;
@@ -14,11 +14,10 @@ use plc_gen::Bounds;
 use st_ast::Program;
 use std::alloc::Global;
 
-/// The program of a net without state invariants, whose conditional updates nest no deeper than statements can. It
-/// makes the net's scans, with these most rounds of each class. Own variables past 31 bits are want of memory. The time is
-/// linear in the choices and in what is written.
+/// The program of a net whose conditional updates nest no deeper than statements can. It makes the net's scans, with these most
+/// rounds of each class. Own variables past 31 bits are want of memory. The time is linear in the choices, in the state
+/// invariants of each, and in what is written.
 pub fn emit(alloc: Global, guarded: &Guarded, bounds: Bounds) -> Result<Program, Memory>
-    requires silent { is_silent (net_tree guarded.now.plain.net) ≡ true }
     requires shallow { is_shallow (net_tree guarded.now.plain.net) ≡ true }
     requires unc { bounds.unc ≤ 10000 }
     requires con { bounds.con ≤ 10000 }

@@ -1,6 +1,6 @@
 //! The statements of an event: the first of its choices that makes a step is made.
 
-ghost use Rattle.std.specs.Prelude.{◌≡◌, ◌+◌, ◌<◌, false, length, map, nat_eq, IfOk};
+ghost use Rattle.std.specs.Prelude.{◌≡◌, ◌+◌, ◌<◌, false, length, map, nat_eq, IfOk, OnOk};
 ghost use Rattle.std.specs.List.{list_all};
 ghost use Rattle.cif_net.specs.View.{choice_tree, net_tree};
 ghost use Rattle.st_ast.specs.Tree.{assign, branches as branches_with, choice as choice_with, complement, named, no_branches, no_other, stms, truth};
@@ -10,12 +10,15 @@ ghost use Rattle.plc_expr.specs.Texts.{temps};
 ghost use Rattle.plc_expr.specs.Written.{naming_of};
 ghost use Rattle.plc_gen.specs.Events as e;
 ghost use Rattle.plc_act.specs.Events as d;
+ghost use Rattle.plc_act.specs.Keeps.{asked};
 ghost use Rattle.plc_act.specs.Own.{choice_temps};
 ghost use Rattle.plc_act.specs.Parts.{needs_done};
+ghost use Rattle.plc_code.specs.After.{AreSame};
 ghost use Rattle.plc_code.specs.Making.{all_set, tried_with};
 ghost use Rattle.plc_code.specs.Writers.{new_names_of};
 
-use crate::marks::Marks;
+use crate::asking::{Changes, asked_of};
+use crate::keeping::Scratch;
 use crate::moves::marking;
 use crate::selecting::{first_of, tested};
 use crate::targets::any_tested;
@@ -61,32 +64,43 @@ fn has_no_if(alloc: Global, net: &Net, expr: &NetExpr) -> Result<bool, Memory>
     Ok(types.is_empty())
 }
 
-/// Whether no state invariant is asked of the choice.
+/// Whether no state invariant is asked after the choice.
 #[tactic(auto, using(crate::proofs::Bare::none_asked))]
-fn asks_nothing(choice: &Choice) -> bool
-    ensures { result ≡ nat_eq (length choice.now.invariants) 0 }
+fn asks_nothing(
+    alloc: Global,
+    net: &Net,
+    choice: &Choice,
+    changes: &mut Changes,
+) -> Result<bool, Memory>
+    ensures { IfOk result (λ b. b ≡ nat_eq (length (asked (net_tree net.now) (choice_tree choice.now))) 0) }
 {
-    choice.invariants.is_empty()
+    Ok(asked_of(alloc, net, choice, changes)?.is_empty())
 }
 
 /// Whether nothing stands before the test of the choice, which alone says whether there is a step.
-pub fn is_bare(alloc: Global, net: &Net, choice: &Choice) -> Result<bool, Memory>
+pub fn is_bare(
+    alloc: Global,
+    net: &Net,
+    choice: &Choice,
+    changes: &mut Changes,
+) -> Result<bool, Memory>
     ensures { IfOk result (λ b. b ≡ d.is_bare (net_tree net.now) (choice_tree choice.now)) }
 {
     let is_direct = has_no_if(alloc, net, &choice.test)?;
-    Ok(
-        choice.sent.is_none()
-            && !any_tested(net, choice.writes.as_slice())
-            && asks_nothing(choice)
-            && is_direct,
-    )
+    let is_free = asks_nothing(alloc, net, choice, changes)?;
+    Ok(choice.sent.is_none() && !any_tested(net, choice.writes.as_slice()) && is_free && is_direct)
 }
 
-fn are_bare(alloc: Global, net: &Net, choices: &[Choice]) -> Result<bool, Memory>
+fn are_bare(
+    alloc: Global,
+    net: &Net,
+    choices: &[Choice],
+    changes: &mut Changes,
+) -> Result<bool, Memory>
     ensures { IfOk result (λ b. b ≡ list_all (d.is_bare (net_tree net.now)) (map choice_tree choices.now)) }
 {
     for choice in choices {
-        if !is_bare(alloc, net, choice)? {
+        if !is_bare(alloc, net, choice, changes)? {
             return Ok(false);
         }
     }
@@ -94,11 +108,16 @@ fn are_bare(alloc: Global, net: &Net, choices: &[Choice]) -> Result<bool, Memory
 }
 
 /// Whether the event of these choices has a mark of its own.
-pub fn needs_mark(alloc: Global, net: &Net, choices: &[Choice]) -> Result<bool, Memory>
+pub fn needs_mark(
+    alloc: Global,
+    net: &Net,
+    choices: &[Choice],
+    changes: &mut Changes,
+) -> Result<bool, Memory>
     ensures { IfOk result (λ b. b ≡ needs_done (net_tree net.now) (map choice_tree choices.now)) }
 {
     if choices.len() > 1 {
-        Ok(!are_bare(alloc, net, choices)?)
+        Ok(!are_bare(alloc, net, choices, changes)?)
     } else {
         Ok(false)
     }
@@ -111,15 +130,17 @@ impl<'a> Writer<'a> {
         choice: &Choice,
         marks: &[Text],
         next: u32,
-        once: &mut Marks,
+        scratch: &mut Scratch,
     ) -> Result<Pieces, Memory>
+        requires same { AreSame scratch.now.after self.now.names.now }
+        ensures still_same { OnOk result (AreSame scratch.new.after self.now.names.now) }
         ensures before { IfOk result (λ p. view_stmts p.before
             ≡ (d.data_written (net_tree self.now.net.now) (naming_of self.now.names.now) (new_names_of self.now.new.now) next (choice_tree choice.now)).before) }
         ensures test { IfOk result (λ p. view_expr p.test
             ≡ (d.data_written (net_tree self.now.net.now) (naming_of self.now.names.now) (new_names_of self.now.new.now) next (choice_tree choice.now)).test) }
         ensures act { IfOk result (λ p. view_stmts p.act
             ≡ (d.data_written (net_tree self.now.net.now) (naming_of self.now.names.now) (new_names_of self.now.new.now) next (choice_tree choice.now)).act (all_set marks.now)) }
-        ensures next { IfOk result (λ p. p.next ≡ next + choice_temps (choice_tree choice.now)) }
+        ensures next { IfOk result (λ p. p.next ≡ next + choice_temps (net_tree self.now.net.now) (choice_tree choice.now)) }
     {
         let mut draft = Draft {
             statements: Items::new(self.alloc),
@@ -133,7 +154,7 @@ impl<'a> Writer<'a> {
         let Draft {
             statements: act,
             next,
-        } = self.taken(choice, marks, next, once)?;
+        } = self.taken(choice, marks, next, scratch)?;
         Ok(Pieces {
             before,
             test,
@@ -149,18 +170,20 @@ impl<'a> Writer<'a> {
         choice: &Choice,
         marks: &[Text],
         next: u32,
-        once: &mut Marks,
+        scratch: &mut Scratch,
     ) -> Result<Tried, Memory>
+        requires same { AreSame scratch.now.after self.now.names.now }
+        ensures still_same { OnOk result (AreSame scratch.new.after self.now.names.now) }
         ensures statements { IfOk result (λ t. view_stmts t.statements ≡ tried_with
             (d.data_written (net_tree self.now.net.now) (naming_of self.now.names.now) (new_names_of self.now.new.now) next (choice_tree choice.now)) (all_set marks.now)) }
-        ensures next { IfOk result (λ t. t.next ≡ next + choice_temps (choice_tree choice.now)) }
+        ensures next { IfOk result (λ t. t.next ≡ next + choice_temps (net_tree self.now.net.now) (choice_tree choice.now)) }
     {
         let Pieces {
             before,
             test,
             act,
             next,
-        } = self.pieces(choice, marks, next, once)?;
+        } = self.pieces(choice, marks, next, scratch)?;
         let mut statements = before;
         statements.push(tested(self.alloc, test, act)?.into_inner())?;
         Ok(Tried { statements, next })
@@ -172,10 +195,12 @@ impl<'a> Writer<'a> {
         choices: &[Choice],
         marks: &[Text],
         next: u32,
-        once: &mut Marks,
+        scratch: &mut Scratch,
     ) -> Result<Items<StBranch>, Memory>
-        requires { all_set marks.now ≡ e.marks }
-        ensures { IfOk result (λ all. view_branches all ≡ e.chain_branches
+        requires same { AreSame scratch.now.after self.now.names.now }
+        requires alone { all_set marks.now ≡ e.marks }
+        ensures still_same { OnOk result (AreSame scratch.new.after self.now.names.now) }
+        ensures branches { IfOk result (λ all. view_branches all ≡ e.chain_branches
             (d.all_written (net_tree self.now.net.now) (naming_of self.now.names.now) (new_names_of self.now.new.now) next (map choice_tree choices.now))) }
     {
         let mut next = next;
@@ -186,7 +211,7 @@ impl<'a> Writer<'a> {
                 test,
                 act: body,
                 next: after,
-            } = self.pieces(choice, marks, next, once)?;
+            } = self.pieces(choice, marks, next, scratch)?;
             next = after;
             let cond = test.into_inner();
             all.push(StBranch { cond, body })?;
@@ -210,10 +235,12 @@ impl<'a> Writer<'a> {
         choices: &[Choice],
         marks: &EventMarks,
         next: u32,
-        once: &mut Marks,
+        scratch: &mut Scratch,
     ) -> Result<Items<Stmt>, Memory>
-        requires { all_set marks.now.with_done ≡ e.marks_with marks.now.done }
-        ensures { IfOk result (λ all. view_stmts all ≡ stms (assign marks.now.done (truth false)) (e.parts_text marks.now.done
+        requires same { AreSame scratch.now.after self.now.names.now }
+        requires with_done { all_set marks.now.with_done ≡ e.marks_with marks.now.done }
+        ensures still_same { OnOk result (AreSame scratch.new.after self.now.names.now) }
+        ensures statements { IfOk result (λ all. view_stmts all ≡ stms (assign marks.now.done (truth false)) (e.parts_text marks.now.done
             (d.all_written (net_tree self.now.net.now) (naming_of self.now.names.now) (new_names_of self.now.new.now) next (map choice_tree choices.now)))) }
     {
         let mut next = next;
@@ -223,7 +250,7 @@ impl<'a> Writer<'a> {
             let Tried {
                 statements,
                 next: after,
-            } = self.tried(choice, marks.with_done.as_slice(), next, once)?;
+            } = self.tried(choice, marks.with_done.as_slice(), next, scratch)?;
             next = after;
             all.push(self.unless_done(&marks.done, statements)?.into_inner())?;
         }
@@ -236,21 +263,23 @@ impl<'a> Writer<'a> {
         choices: &[Choice],
         marks: &EventMarks,
         next: u32,
-        once: &mut Marks,
+        scratch: &mut Scratch,
     ) -> Result<Items<Stmt>, Memory>
+        requires same { AreSame scratch.now.after self.now.names.now }
         requires alone { all_set marks.now.alone ≡ e.marks }
         requires with_done { all_set marks.now.with_done ≡ e.marks_with marks.now.done }
         requires is_used { marks.now.is_used ≡ needs_done (net_tree self.now.net.now) (map choice_tree choices.now) }
-        ensures { IfOk result (λ all. view_stmts all ≡ e.event_text marks.now.done
+        ensures still_same { OnOk result (AreSame scratch.new.after self.now.names.now) }
+        ensures statements { IfOk result (λ all. view_stmts all ≡ e.event_text marks.now.done
             (d.all_written (net_tree self.now.net.now) (naming_of self.now.names.now) (new_names_of self.now.new.now) next (map choice_tree choices.now))) }
     {
         match choices {
             [] => Ok(Items::new(self.alloc)),
             [only] => Ok(
-                self.tried(only, marks.alone.as_slice(), next, once)?
+                self.tried(only, marks.alone.as_slice(), next, scratch)?
                     .statements,
             ),
-            _ => self.several(choices, marks, next, once),
+            _ => self.several(choices, marks, next, scratch),
         }
     }
 
@@ -259,19 +288,21 @@ impl<'a> Writer<'a> {
         choices: &[Choice],
         marks: &EventMarks,
         next: u32,
-        once: &mut Marks,
+        scratch: &mut Scratch,
     ) -> Result<Items<Stmt>, Memory>
+        requires same { AreSame scratch.now.after self.now.names.now }
         requires several { 1 < length choices.now }
         requires alone { all_set marks.now.alone ≡ e.marks }
         requires with_done { all_set marks.now.with_done ≡ e.marks_with marks.now.done }
         requires is_used { marks.now.is_used ≡ needs_done (net_tree self.now.net.now) (map choice_tree choices.now) }
-        ensures { IfOk result (λ all. view_stmts all ≡ e.event_text marks.now.done
+        ensures still_same { OnOk result (AreSame scratch.new.after self.now.names.now) }
+        ensures statements { IfOk result (λ all. view_stmts all ≡ e.event_text marks.now.done
             (d.all_written (net_tree self.now.net.now) (naming_of self.now.names.now) (new_names_of self.now.new.now) next (map choice_tree choices.now))) }
     {
         if marks.is_used {
-            return self.marked(choices, marks, next, once);
+            return self.marked(choices, marks, next, scratch);
         }
-        let branches = self.chain_branches(choices, marks.alone.as_slice(), next, once)?;
+        let branches = self.chain_branches(choices, marks.alone.as_slice(), next, scratch)?;
         Items::only(self.alloc, first_of(self.alloc, branches)?.into_inner())
     }
 }

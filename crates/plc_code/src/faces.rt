@@ -11,8 +11,9 @@ ghost use Rattle.st_ast.specs.declared.tree.StClass.TheVariants as class;
 ghost use Rattle.plc_act.specs.Own as o;
 ghost use Rattle.plc_code.specs.Outlines.{IsOutline, Keeps, NamesNew, StandOnce, declared_from, done_if, face_tree, range_if};
 
+use crate::asking::Changes;
 use crate::events::needs_mark;
-use crate::marks::{Marks, once_of};
+use crate::marks::once_of;
 use crate::targets::{add_targets, any_tested};
 use crate::types::{add_choice_types, event_type, new_type, sent_type};
 use crate::writing::NewTexts;
@@ -39,17 +40,17 @@ pub fn outline_of(
     alloc: Global,
     net: &Net,
     choices: &[Choice],
-    marks: &mut Marks,
+    changes: &mut Changes,
 ) -> Result<Outline, Memory>
     ensures { IfOk result (λ x. IsOutline (net_tree net.now) (map choice_tree choices.now) x) }
 {
     let targets = all_targets(alloc, choices)?;
     Ok(Outline {
-        has_mark: needs_mark(alloc, net, choices)?,
+        has_mark: needs_mark(alloc, net, choices, changes)?,
         tests_range: any_range_tested(net, choices),
-        vars: once_of(alloc, targets.as_slice(), marks)?,
+        vars: once_of(alloc, targets.as_slice(), &mut changes.variables)?,
         sent: event_type(net, choices),
-        types: all_types(alloc, net, choices)?,
+        types: all_types(alloc, net, choices, changes)?,
     })
 }
 
@@ -74,13 +75,18 @@ fn any_range_tested(net: &Net, choices: &[Choice]) -> bool
     false
 }
 
-fn all_types(alloc: Global, net: &Net, choices: &[Choice]) -> Result<Items<StTy>, Memory>
+fn all_types(
+    alloc: Global,
+    net: &Net,
+    choices: &[Choice],
+    changes: &mut Changes,
+) -> Result<Items<StTy>, Memory>
     ensures { IfOk result
         (λ all. all ≡ flat_map (o.choice_types (net_tree net.now)) (map choice_tree choices.now)) }
 {
     let mut all = Items::new(alloc);
     for choice in choices {
-        add_choice_types(choice, net, &mut all)?;
+        add_choice_types(alloc, choice, net, changes, &mut all)?;
     }
     Ok(all)
 }

@@ -3,9 +3,12 @@
 #![tactic(auto)]
 
 mod acting;
+mod after;
+mod asking;
 mod emitting;
 mod events;
 mod faces;
+mod keeping;
 mod marks;
 mod moves;
 mod naming;

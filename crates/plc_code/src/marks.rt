@@ -47,6 +47,32 @@ impl Marks {
         Ok(before != self.round)
     }
 
+    /// Takes the mark from a variable. One that is not there, and a mark before the first round, are want of memory.
+    fn unmark(&mut self, variable: u32) -> Result<(), Memory>
+        ensures { OnOk result ((v : ℕ) → is_marked self.new.round self.new.last v ≡ (if nat_eq v variable then false else is_marked self.old.round self.old.last v)) }
+    {
+        let at = variable as usize;
+        if at >= self.last.len() {
+            return Err(Memory);
+        }
+        let Some(earlier) = self.round.checked_sub(1) else {
+            return Err(Memory);
+        };
+        self.last.set(at, earlier);
+        Ok(())
+    }
+
+    /// Marks a variable, or takes its mark.
+    pub fn turn(&mut self, variable: u32, is_on: bool) -> Result<(), Memory>
+        ensures { OnOk result ((v : ℕ) → is_marked self.new.round self.new.last v ≡ (if nat_eq v variable then is_on else is_marked self.old.round self.old.last v)) }
+    {
+        if !is_on {
+            return self.unmark(variable);
+        }
+        self.mark(variable)?;
+        Ok(())
+    }
+
     /// Whether a variable is marked.
     pub fn has(&self, variable: u32) -> bool
         ensures { result ≡ is_marked self.now.round self.now.last variable }

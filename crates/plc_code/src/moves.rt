@@ -17,7 +17,7 @@ use st_ast::{StExpr, Stmt};
 use std::alloc::Global;
 
 /// Where the edge leads that the move takes.
-fn target(net: &Net, step: Move) -> Option<u32>
+pub fn target(net: &Net, step: Move) -> Option<u32>
     ensures { result ≡ option_map (λ (x : n.NetEdge). x.to) (target_of (net_tree net.now) (move_tree step)) }
 {
     let Some(taken) = step.edge else {

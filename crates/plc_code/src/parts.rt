@@ -13,6 +13,7 @@ ghost use Rattle.plc_act.specs.Events.{all_written};
 ghost use Rattle.plc_act.specs.Own.{range_face};
 ghost use Rattle.plc_act.specs.Parts.{needs_done};
 ghost use Rattle.plc_parts.specs.Parts.{data_parts, part_for};
+ghost use Rattle.plc_code.specs.After.{AreSame};
 ghost use Rattle.plc_code.specs.Making.{all_set};
 ghost use Rattle.plc_code.specs.Named.{AreNames, IsNamedChoice};
 ghost use Rattle.plc_code.specs.Order.{Ascending, leading};
@@ -21,7 +22,7 @@ ghost use Rattle.plc_code.specs.Writers.{new_names_of};
 
 use crate::events::EventMarks;
 use crate::faces::{Outline, OwnVariables, outline_of};
-use crate::marks::Marks;
+use crate::keeping::Scratch;
 use crate::writing::{NewTexts, Writer};
 use cif_base::{Boxed, Items, Memory, Text};
 use cif_net::{Choice, Net};
@@ -32,24 +33,26 @@ use plc_names::name_of;
 use st_ast::{StVar, Stmt};
 use std::alloc::Global;
 
-/// What is used again for each event: marks on variables, and the names of new values.
+/// What is used again for each event: the names of new values, and what is used again for each choice.
 #[derive(Debug, Drop)]
 pub struct Tables {
-    pub marks: Marks,
     pub new: NewTexts,
+    pub scratch: Scratch,
 }
 
 impl Tables {
-    /// Tables for that many variables.
-    fn new(alloc: Global, count: usize) -> Result<Tables, Memory> {
-        let marks = Marks::new(alloc, count)?;
+    /// Tables for a net.
+    fn new(alloc: Global, net: &Net) -> Result<Tables, Memory>
+        ensures { IfOk result (λ x. AreNames (net_tree net.now) x.scratch.after) }
+    {
+        let scratch = Scratch::new(alloc, net)?;
         let mut next = Items::new(alloc);
-        for _variable in 0..count {
+        for _variable in 0..net.vars.len() {
             next.push(Text::new(alloc))?;
         }
         let in_range = Text::new(alloc);
         let new = NewTexts { in_range, next };
-        Ok(Tables { marks, new })
+        Ok(Tables { new, scratch })
     }
 }
 
@@ -124,12 +127,14 @@ fn statements(
     choices: &[Choice],
     marks: &EventMarks,
     ifs: u32,
-    once: &mut Marks,
+    scratch: &mut Scratch,
 ) -> Result<Items<Stmt>, Memory>
+    requires same { AreSame scratch.now.after names.now }
     requires alone { all_set marks.now.alone ≡ e.marks }
     requires with_done { all_set marks.now.with_done ≡ e.marks_with marks.now.done }
     requires is_used { marks.now.is_used ≡ needs_done (net_tree net.now) (map choice_tree choices.now) }
-    ensures { IfOk result (λ all. view_stmts all ≡ e.event_text marks.now.done
+    ensures still_same { OnOk result (AreSame scratch.new.after names.now) }
+    ensures statements { IfOk result (λ all. view_stmts all ≡ e.event_text marks.now.done
         (all_written (net_tree net.now) (naming_of names.now) (new_names_of new.now) ifs (map choice_tree choices.now))) }
 {
     let writer = Writer {
@@ -138,7 +143,7 @@ fn statements(
         names,
         new,
     };
-    writer.event(choices, marks, ifs, once)
+    writer.event(choices, marks, ifs, scratch)
 }
 
 /// The part of an event with these choices, whose own variables are numbered from a number on. The expressions of the choices
@@ -152,11 +157,13 @@ pub fn data_part_of(
     tables: &mut Tables,
 ) -> Result<Boxed<Part>, Memory>
     requires names { AreNames (net_tree net.now) names.now }
+    requires same { AreSame tables.now.scratch.after names.now }
     requires named { AllByRecursion (IsNamedChoice (net_tree net.now)) (map choice_tree choices.now) }
     ensures still_names { OnOk result (AreNames (net_tree net.now) names.new) }
+    ensures still_same { OnOk result (AreSame tables.exit.now.scratch.after names.new) }
     ensures part { IfOk result (λ part. part_tree part ≡ part_for (net_tree net.now) first (map choice_tree choices.now)) }
 {
-    let outline = outline_of(alloc, net, choices, &mut tables.marks)?;
+    let outline = outline_of(alloc, net, choices, &mut tables.scratch.changes)?;
     let EventOwn { variables, ifs } = declared(
         alloc,
         net,
@@ -174,7 +181,7 @@ pub fn data_part_of(
         choices,
         &marks,
         ifs,
-        &mut tables.marks,
+        &mut tables.scratch,
     )?;
     let own = variables;
     Boxed::new(alloc, Part { own, body })
@@ -215,6 +222,7 @@ pub fn number_after(first: u32, count: usize) -> Result<u32, Memory>
 
 /// The parts of all events, from choices in the order of the events. The own variables of an event are numbered after those of
 /// the events before it, the first of all with 2.
+#[tactic(auto, using(crate::proofs::Aftering::same_names))]
 pub fn all_parts(
     alloc: Global,
     net: &Net,
@@ -228,7 +236,7 @@ pub fn all_parts(
     ensures next { IfOk result (λ all. all.next ≡ 2 + length (own_variables (map part_tree all.parts))) }
     ensures still_names { OnOk result (AreNames (net_tree net.now) names.new) }
 {
-    let mut tables = Tables::new(alloc, net.vars.len())?;
+    let mut tables = Tables::new(alloc, net)?;
     let mut rest = choices;
     let mut next = 2;
     let mut parts = Items::new(alloc);

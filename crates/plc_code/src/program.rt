@@ -5,7 +5,7 @@ ghost use Rattle.cif_net.specs.View.{choice_tree, net_tree};
 ghost use Rattle.st_ast.specs.View.{view};
 ghost use Rattle.plc_gen.specs.Given.{FrameFits};
 ghost use Rattle.plc_gen.specs.Makes.{Makes};
-ghost use Rattle.plc_parts.specs.Parts.{HasParts, data_parts, data_program, is_silent, shown_first, shown_part};
+ghost use Rattle.plc_parts.specs.Parts.{HasParts, data_parts, data_program, shown_first, shown_part};
 
 use crate::naming::names_of;
 use crate::parts::{Parts, all_parts, number_after};
@@ -19,14 +19,13 @@ use std::alloc::Global;
 /// The number behind those of the most own variables, which are numbered from 2 on in 31 bits.
 const MOST_OWN: u32 = 2_147_483_648;
 
-/// The program of a net with data, of which no state invariant is left, where its parts fit into the frame. Own
-/// variables past 31 bits are want of memory. The time is linear in the choices and in what is written.
+/// The program of a net with data, where its parts fit into the frame. Own variables past 31 bits are want of memory. The time is
+/// linear in the choices, in the state invariants of each, and in what is written.
 pub(crate) fn emit_fitting(
     alloc: Global,
     guarded: &Guarded,
     bounds: Bounds,
 ) -> Result<Program, Memory>
-    requires silent { is_silent (net_tree guarded.now.plain.net) ≡ true }
     requires unc { bounds.unc ≤ 10000 }
     requires con { bounds.con ≤ 10000 }
     requires fits { HasParts (net_tree guarded.now.plain.net) (map choice_tree guarded.now.choices) bounds.unc bounds.con

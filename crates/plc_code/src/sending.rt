@@ -1,6 +1,6 @@
 //! What a choice does whose test holds: it sends its value, if it sends one, and where that is in range it acts.
 
-ghost use Rattle.std.specs.Prelude.{◌≡◌, ◌+◌, IfOk};
+ghost use Rattle.std.specs.Prelude.{◌≡◌, ◌+◌, IfOk, OnOk};
 ghost use Rattle.cif_term.specs.View.{view};
 ghost use Rattle.cif_model.specs.Table as c;
 ghost use Rattle.cif_net.specs.View.{choice_tree, net_tree};
@@ -10,12 +10,14 @@ ghost use Rattle.plc_expr.specs.Texts.{before, temps, text};
 ghost use Rattle.plc_expr.specs.Written.{naming_of};
 ghost use Rattle.plc_gen.specs.Events.{moves_text};
 ghost use Rattle.plc_act.specs.Acts as a;
+ghost use Rattle.plc_act.specs.Keeps as k;
 ghost use Rattle.plc_act.specs.Sends as s;
 ghost use Rattle.plc_act.specs.Writes.{updates_temps};
+ghost use Rattle.plc_code.specs.After.{AreSame};
 ghost use Rattle.plc_code.specs.Making.{all_set};
 ghost use Rattle.plc_code.specs.Writers.{new_names_of};
 
-use crate::marks::Marks;
+use crate::keeping::Scratch;
 use crate::ranges::where_fits;
 use crate::types::carried_type;
 use crate::writing::Writer;
@@ -80,23 +82,29 @@ impl<'a> Writer<'a> {
         choice: &Choice,
         marks: &[Text],
         next: u32,
-        once: &mut Marks,
+        scratch: &mut Scratch,
     ) -> Result<Draft, Memory>
-        ensures next { IfOk result (λ draft. draft.next ≡ next + (s.sent_temps (choice_tree choice.now).sent + updates_temps (choice_tree choice.now).writes)) }
+        requires { AreSame scratch.now.after self.now.names.now }
+        ensures same { OnOk result (AreSame scratch.new.after self.now.names.now) }
+        ensures next { IfOk result (λ draft. draft.next ≡ next + (s.sent_temps (choice_tree choice.now).sent
+            + (updates_temps (choice_tree choice.now).writes + k.kept_temps (net_tree self.now.net.now) (choice_tree choice.now)))) }
         ensures act { IfOk result (λ draft. view_stmts draft.statements
             ≡ s.sends (naming_of self.now.names.now) next (choice_tree choice.now).sent (c.carried_type (net_tree self.now.net.now) (choice_tree choice.now))
-            (a.act (net_tree self.now.net.now) (naming_of self.now.names.now) (new_names_of self.now.new.now) (next + s.sent_temps (choice_tree choice.now).sent)
-            (choice_tree choice.now).writes (moves_text (net_tree self.now.net.now) (choice_tree choice.now).moves (all_set marks.now)))) }
+            (a.act (net_tree self.now.net.now) (naming_of self.now.names.now) (new_names_of self.now.new.now) (next + s.sent_temps (choice_tree choice.now).sent) (choice_tree choice.now).writes
+            (k.where_kept (net_tree self.now.net.now) (naming_of self.now.names.now) (new_names_of self.now.new.now)
+            (next + s.sent_temps (choice_tree choice.now).sent + updates_temps (choice_tree choice.now).writes) (choice_tree choice.now)
+            (a.stored (naming_of self.now.names.now) (new_names_of self.now.new.now) (choice_tree choice.now).writes
+            (moves_text (net_tree self.now.net.now) (choice_tree choice.now).moves (all_set marks.now)))))) }
     {
         let Some(value) = &choice.sent else {
-            return self.act(choice, marks, next, once);
+            return self.act(choice, marks, next, scratch);
         };
         let SentText {
             before,
             value,
             next,
         } = self.sent_text(value, next)?;
-        let acted = self.act(choice, marks, next, once)?;
+        let acted = self.act(choice, marks, next, scratch)?;
         let Some(ty) = carried_type(self.net, choice) else {
             return Ok(acted);
         };

@@ -1,7 +1,8 @@
 //! The variables that updates assign.
 
-ghost use Rattle.std.specs.Prelude.{◌≡◌, ◌++◌, OnOk};
+ghost use Rattle.std.specs.Prelude.{◌≡◌, ◌++◌, IfOk, OnOk};
 ghost use Rattle.cif_term.specs.View.{view_update, view_update_branches, view_updates};
+ghost use Rattle.cif_model.specs.Exprs as e;
 ghost use Rattle.cif_net.specs.View.{net_tree};
 ghost use Rattle.plc_code.specs.Assigned.{vars_in, vars_of_all};
 ghost use Rattle.plc_act.specs.Acts.{surely_set};
@@ -9,6 +10,7 @@ ghost use Rattle.plc_act.specs.Writes as w;
 
 use cif_base::{Items, Memory, Ty};
 use cif_net::{Net, NetUpdate, NetUpdateBranch};
+use std::alloc::Global;
 
 /// Adds the variables that the updates assign, under a condition or not, in the order of the text.
 #[cycle(targets)]
@@ -35,6 +37,16 @@ fn add_branch_targets(branches: &[NetUpdateBranch], found: &mut Items<u32>) -> R
         add_targets(branch.updates.as_slice(), found)?;
     }
     Ok(())
+}
+
+/// The variables that updates assign, under a condition or not, in the order of the text.
+#[tactic(auto, using(crate::proofs::Assigning::assigned_are))]
+pub fn targets_of(alloc: Global, updates: &[NetUpdate]) -> Result<Items<u32>, Memory>
+    ensures { IfOk result (λ all. all ≡ e.targets (view_updates updates.now)) }
+{
+    let mut all = Items::new(alloc);
+    add_targets(updates, &mut all)?;
+    Ok(all)
 }
 
 /// Adds the variables that the updates assign under no condition.

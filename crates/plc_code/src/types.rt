@@ -1,21 +1,26 @@
 //! The types of variables, and of the own variables of a choice's expressions in the order of its statements.
 
-ghost use Rattle.std.specs.Prelude.{◌≡◌, ◌++◌, true, map, OnOk};
+ghost use Rattle.std.specs.Prelude.{◌≡◌, ◌++◌, true, map, OnOk, None};
 ghost use Rattle.cif_term.specs.View.{view_update, view_update_branches, view_updates};
 ghost use Rattle.cif_model.specs.Facts.{channel_of};
+ghost use Rattle.cif_model.specs.Listing.{all_hold};
 ghost use Rattle.cif_model.specs.Shown as t;
 ghost use Rattle.cif_model.specs.Table as c;
 ghost use Rattle.cif_net.specs.View.{chan_of, choice_tree, net_tree};
+ghost use Rattle.plc_expr.specs.Sorts.{own_types};
+ghost use Rattle.plc_act.specs.Keeps.{asked};
 ghost use Rattle.plc_act.specs.Own as o;
 ghost use Rattle.plc_act.specs.Sends as s;
 ghost use Rattle.plc_gen.specs.Faces as f;
 ghost use Rattle.plc_gen.specs.Small.{is_small};
 
+use crate::asking::{Changes, asked_of, invariants_types};
 use crate::targets::is_tested;
 use cif_base::{Items, Memory, Ty};
 use cif_net::{Choice, Net, NetChan, NetUpdate, NetUpdateBranch};
 use plc_walk::own_types_of;
 use st_ast::StTy;
+use std::alloc::Global;
 
 /// The type of a variable, where a literal of an enumeration is its place. The size of an enumeration is a number of 32 bits.
 pub fn st_type(ty: Ty) -> StTy
@@ -89,9 +94,15 @@ pub fn event_type(net: &Net, choices: &[Choice]) -> Option<Ty>
     }
 }
 
-/// Adds the types of the own variables of the test, of what is sent, and of the updates from the last to the first, which may
-/// read what is sent.
-pub fn add_choice_types(choice: &Choice, net: &Net, types: &mut Items<StTy>) -> Result<(), Memory>
+/// Adds the types of the own variables of the test, of what is sent, of the updates from the last to the first, which may read
+/// what is sent, and of the invariants that are asked.
+pub fn add_choice_types(
+    alloc: Global,
+    choice: &Choice,
+    net: &Net,
+    changes: &mut Changes,
+    types: &mut Items<StTy>,
+) -> Result<(), Memory>
     ensures { OnOk result (types.new ≡ types.old ++ o.choice_types (net_tree net.now) (choice_tree choice.now)) }
 {
     own_types_of(&choice.test, net, None, types)?;
@@ -101,7 +112,21 @@ pub fn add_choice_types(choice: &Choice, net: &Net, types: &mut Items<StTy>) -> 
         net,
         carried_type(net, choice),
         types,
-    )
+    )?;
+    asked_types(alloc, choice, net, changes, types)
+}
+
+fn asked_types(
+    alloc: Global,
+    choice: &Choice,
+    net: &Net,
+    changes: &mut Changes,
+    types: &mut Items<StTy>,
+) -> Result<(), Memory>
+    ensures { OnOk result (types.new ≡ types.old ++ own_types (net_tree net.now) None (all_hold (asked (net_tree net.now) (choice_tree choice.now)))) }
+{
+    let numbers = asked_of(alloc, net, choice, changes)?;
+    invariants_types(net, numbers.as_slice(), types)
 }
 
 fn sent_types(choice: &Choice, net: &Net, types: &mut Items<StTy>) -> Result<(), Memory>

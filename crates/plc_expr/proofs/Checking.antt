@@ -13,7 +13,7 @@ use Rattle.st_ast.specs.declared.tree.StVar.{StVar}
 use Rattle.st_ast.specs.declared.tree.StTy.{StTy}
 use Rattle.plc_expr.specs.Texts.{Naming, temps, branches_temps, text, branches_text, case_text, before, form_before, terms_before, factors_before, list_before, branches_before}
 use Rattle.plc_expr.specs.Sorts.{type_by, own_types, form_types, terms_types, factors_types, list_types, branches_types, HasSort, NamesHaveSorts, OwnIs, AreOwn}
-use Rattle.plc_expr.proofs.Sides.{sides-fit}
+use Rattle.cif_safe.proofs.Sides.{sides-fit}
 use Rattle.plc_expr.proofs.Sorting.{NoAlg, no-algs, bool-by, types-length, branches-length, sort-of_type, own-both, expr-sort}
 
 module _ (vars : List StVar) where

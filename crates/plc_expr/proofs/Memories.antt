@@ -7,7 +7,7 @@ use Rattle.st_ast.specs.Values.{Memory}
 use Rattle.st_ast.specs.declared.tree.StVar.{StVar}
 use Rattle.plc_face.proofs.FaceLaws.{slice_get-set_same, slice_get-set_other}
 use Rattle.plc_expr.specs.Texts.{Naming, temps, form_temps, terms_temps, factors_temps, list_temps, branches_temps}
-use Rattle.plc_expr.specs.Safe.{Setting}
+use Rattle.cif_safe.specs.Safe.{Setting}
 use Rattle.plc_expr.specs.Held.{held_at, Held, HeldForm, HeldTerms, HeldFactors, HeldList, HeldBranches, OwnPlaces, IsBeside}
 
 -- what is read at a place is told from the place

@@ -10,7 +10,7 @@ use Rattle.cif_model.specs.Value as v
 use Rattle.cif_model.specs.Kinds.{in_32_bits}
 use Rattle.st_ast.specs.Values.{of_bool, is_true, same_number, smaller, larger, fits, checked, overflow, zero_divide, added, multiplied}
 use Rattle.plc_expr.specs.Texts.{mul_of}
-use Rattle.plc_expr.specs.Safe.{IsTruth, HasBits, CanDivide}
+use Rattle.cif_safe.specs.Safe.{IsTruth, HasBits, CanDivide}
 
 pub same-truth : (b : Bool) → of_bool b ≡ v.of_bool b
 same-truth true = refl

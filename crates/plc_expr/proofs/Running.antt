@@ -12,7 +12,7 @@ use Rattle.st_ast.specs.Exec.{Outcome, Ended, Faulted, and_then, exec, exec_one,
 use Rattle.st_ast.proofs.Runs.{append_runs, assign_runs}
 use Rattle.st_ast.specs.declared.tree.StVar.{StVar}
 use Rattle.plc_expr.specs.Texts.{Naming, temps, form_temps, terms_temps, factors_temps, list_temps, branches_temps, text, branches_text, case_text, before, form_before, terms_before, factors_before, list_before, branches_before}
-use Rattle.plc_expr.specs.Safe.{Setting, value_at, IsSafe, IsSafeForm, AreSafeTerms, AreSafeFactors, AreSafeTruths, AreSafeBranches}
+use Rattle.cif_safe.specs.Safe.{Setting, value_at, IsSafe, IsSafeForm, AreSafeTerms, AreSafeFactors, AreSafeTruths, AreSafeBranches}
 use Rattle.plc_expr.specs.Held.{held_at, IsRead, Reads, Held, HeldForm, HeldTerms, HeldFactors, HeldList, HeldBranches, OwnPlaces, IsBeside, Prepares}
 use Rattle.plc_expr.proofs.Numbers.{truth-is}
 use Rattle.plc_expr.proofs.Values.{text-value}

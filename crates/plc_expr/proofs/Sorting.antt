@@ -23,7 +23,7 @@ use Rattle.st_ast.specs.declared.tree.StOrder.TheVariants as cmp
 use Rattle.st_ast.specs.declared.tree.StTy.{StTy}
 use Rattle.plc_expr.specs.Texts.{Naming, is_leaf, is_joined, is_test, is_factor, is_term, wrapped, operand, side, factor, term, number_text, negated, all_said, conjunction, said_or, all_said_or, disjunction, implication, comparison, mul_of, sum_text, product_text, temps, form_temps, terms_temps, factors_temps, list_temps, branches_temps, text, form_text, terms_text, factors_text, texts}
 use Rattle.plc_expr.specs.Sorts.{is_bool_type, stored_boolean, received_boolean, is_boolean, form_boolean, sort_by, type_by, own_types, form_types, terms_types, factors_types, list_types, branches_types, HasSort, NamesHaveSorts, OwnIs, AreOwn}
-use Rattle.plc_expr.proofs.Sides.{sides-fit}
+use Rattle.cif_safe.proofs.Sides.{sides-fit}
 use Rattle.plc_expr.proofs.Spelling.{said-all, said_or-all}
 
 -- ---- kinds

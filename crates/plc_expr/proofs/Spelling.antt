@@ -16,7 +16,7 @@ use Rattle.st_ast.specs.Tree.{Expr, Factors, Terms, Stms, Branches, truth, named
 use Rattle.st_ast.specs.Spelled.{has_literal, is_name, is_expr, are_exprs, are_terms, are_factors, is_whole_expr, is_stm, are_stms, are_branches}
 use Rattle.plc_expr.specs.Texts.{Naming, is_leaf, is_joined, is_test, is_factor, is_term, wrapped, operand, side, factor, term, number_text, negated, says, said, all_said, conjunction, says_or, said_or, all_said_or, disjunction, implication, comparison, sum_text, product_text, temps, branches_temps, text, form_text, terms_text, factors_text, texts, branches_text, case_text, before, form_before, terms_before, factors_before, list_before, branches_before}
 use Rattle.plc_expr.specs.Sorts.{NamesAreSpelled}
-use Rattle.plc_expr.proofs.Sides.{sides-fit, number-small}
+use Rattle.cif_safe.proofs.Sides.{sides-fit, number-small}
 
 both-true : (a b : Bool) → a ≡ true → b ≡ true → (a && b) ≡ true
 both-true a b x y = rw x y

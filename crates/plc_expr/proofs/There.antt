@@ -11,7 +11,7 @@ use Rattle.cif_model.specs.Reads.{Read, alg_passes, names_in, form_names, term_n
 use Rattle.cif_model.proofs.Passing.{and-left, and-right, both-pass}
 use Rattle.cif_model.proofs.PlainLaws.{never}
 use Rattle.plc_expr.specs.Held.{IsThere}
-use Rattle.plc_expr.proofs.Sides.{sides-fit}
+use Rattle.cif_safe.proofs.Sides.{sides-fit}
 
 below : {A : Type 0} (xs : List A) (k : ℕ) → is_some (slice_get xs k) ≡ true → k < length xs
 below [] k h = never h

@@ -9,13 +9,13 @@ use Rattle.cif_model.proofs.ValueLaws.{all-parts}
 use Rattle.cif_term.specs.Tree.{MulOp}
 use Rattle.cif_model.specs.Kinds.{in_32_bits}
 use Rattle.st_ast.specs.declared.tree.StOrder.TheVariants as cmp
-use Rattle.plc_expr.specs.Safe.{HasBits, CanDivide}
+use Rattle.cif_safe.specs.Safe.{HasBits, CanDivide}
 use Rattle.st_ast.specs.Tree.{Expr, Factors, Terms, truth, negation, complement, absolute, equal, order, no_factors, factors, no_terms, terms, exprs_of}
 use Rattle.st_ast.specs.Values.{Fault, Memory, of_bool, is_true, value_of, joined, with_value, both, checked, added, are_equal, holds, sum_on, product_on, multiplied, smaller, larger}
 use Rattle.st_ast.specs.declared.tree.StVar.{StVar}
 use Rattle.st_ast.specs.declared.tree.StOrder.{StOrder}
 use Rattle.plc_expr.specs.Texts.{Naming, is_leaf, wrapped, is_joined, is_test, is_factor, is_term, operand, side, factor, term, number_text, negated, says, said, all_said, conjunction, says_or, said_or, all_said_or, disjunction, implication, comparison, mul_of, sum_text, product_text, temps, text, form_text, terms_text, factors_text, texts}
-use Rattle.plc_expr.specs.Safe.{Setting, value_at, IsTruth, IsSafe, IsSafeForm, AreSafeTerms, AreSafeFactors, AreSafeTruths}
+use Rattle.cif_safe.specs.Safe.{Setting, value_at, IsTruth, IsSafe, IsSafeForm, AreSafeTerms, AreSafeFactors, AreSafeTruths}
 use Rattle.plc_expr.specs.Held.{IsRead, Reads, Held, HeldForm, HeldTerms, HeldFactors, HeldList}
 use Rattle.plc_expr.proofs.Numbers.{same-truth, same-equal, same-least, same-greatest, bits-more, checked-is, same-added, same-product}
 

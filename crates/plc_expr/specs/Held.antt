@@ -13,7 +13,7 @@ use Rattle.st_ast.specs.Values.{Memory, of_bool, value_of}
 use Rattle.st_ast.specs.Exec.{Ended, exec, is_within, type_at}
 use Rattle.st_ast.specs.declared.tree.StVar.{StVar}
 use Rattle.plc_expr.specs.Texts.{Naming, temps, branches_temps, before}
-use Rattle.plc_expr.specs.Safe.{Setting, value_at}
+use Rattle.cif_safe.specs.Safe.{Setting, value_at}
 
 -- what the variable with this name holds
 abbrev pub held_at : List StVar → Memory → Text → ℤ

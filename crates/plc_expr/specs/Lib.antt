@@ -1,5 +1,4 @@
 pub mod Texts
-pub mod Safe
 pub mod Held
 pub mod Sorts
 pub mod Shapes

@@ -1,24 +1,20 @@
 //! What is proved of the texts of expressions, as laws that a proof reads off: each the contract of a function without a body.
 
-ghost use Rattle.std.specs.Prelude.{◌≡◌, ℕ, ◌+◌, ◌*◌, ◌≤◌, ℤ, true, IsTrue, List, [], length, Ok, Option, Some};
+ghost use Rattle.std.specs.Prelude.{◌≡◌, ℕ, ◌+◌, ◌*◌, ◌≤◌, true, List, [], length, Ok, Option};
 ghost use Rattle.std.specs.List.{AllByRecursion};
 ghost use Rattle.cif_base.specs.declared.types.Ty.{Ty};
-ghost use Rattle.cif_system.specs.System.{State, IsState, in_range};
-ghost use Rattle.cif_system.specs.Words.{Member};
 ghost use Rattle.cif_term.specs.Tree.{NetExpr};
 ghost use Rattle.cif_model.specs.Net.{Net};
-ghost use Rattle.cif_model.specs.Meaning.{system_of_net, type_range};
 ghost use Rattle.cif_model.specs.Kinds.{Kind, is_bool, fits};
 ghost use Rattle.cif_model.specs.Counts.{Measure, measure_by};
 ghost use Rattle.cif_model.specs.Reads.{names_in, names_no_alg};
-ghost use Rattle.cif_model.specs.Rules.{Evaluated, evaluated, is_plain};
 ghost use Rattle.st_ast.specs.Values.{Memory, value_of};
 ghost use Rattle.st_ast.specs.Checks.{stms_faults};
 ghost use Rattle.st_ast.specs.Grammar.{at_or};
 ghost use Rattle.st_ast.specs.Spelled.{is_expr, are_stms};
 ghost use Rattle.st_ast.specs.declared.tree.StVar.{StVar};
 ghost use Rattle.plc_expr.specs.Texts.{Naming, temps, text, before};
-ghost use Rattle.plc_expr.specs.Safe.{Setting, setting_in, value_at, IsSafe};
+ghost use Rattle.cif_safe.specs.Safe.{Setting, value_at, IsSafe};
 ghost use Rattle.plc_expr.specs.Held.{Reads, Held, IsThere, OwnPlaces, IsBeside, Prepares};
 ghost use Rattle.plc_expr.specs.Sorts.{own_types, is_boolean, HasSort, NamesHaveSorts, AreOwn, NamesAreSpelled};
 
@@ -38,15 +34,6 @@ pub fn statements_before_a_text_prepare_it()
         OwnPlaces vars w base low count → base + low + count ≤ length m → low ≤ k → k + temps e ≤ low + count →
         ((o : Memory) → IsBeside (base + low) count m o → Reads vars w x o e) → IsSafe x e →
         Prepares vars w x base k e turns m }
-{}
-
-/// In a plain net an evaluated expression that has a kind is safe in each state, where what is received lies in its range
-/// and is of its type.
-pub fn plain_expressions_are_safe()
-    ensures { (n : Net) (s : State) (y : Evaluated) (z : ℤ) (r : Option Ty) (k : Kind) → is_plain n ≡ true →
-        IsState (system_of_net n) s → Member y (evaluated n) → IsTrue (in_range y.received z) →
-        ((t : Ty) → r ≡ Some t → IsTrue (in_range (type_range t) z)) → fits n r k y.value ≡ true →
-        IsSafe (setting_in n s z) y.value }
 {}
 
 /// An expression that has a kind, and names no algebraic variable, names what is there alone.

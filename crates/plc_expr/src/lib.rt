@@ -14,8 +14,8 @@ pub use forms::{
 };
 pub use laws::{
     kinds_tell_what_is_boolean, named_things_are_there, own_variables_have_types,
-    plain_expressions_are_safe, statements_before_a_text_break_no_check,
-    statements_before_a_text_have_a_spelling, statements_before_a_text_prepare_it,
-    texts_have_a_spelling, texts_have_the_sort, texts_have_the_value,
+    statements_before_a_text_break_no_check, statements_before_a_text_have_a_spelling,
+    statements_before_a_text_prepare_it, texts_have_a_spelling, texts_have_the_sort,
+    texts_have_the_value,
 };
 pub use names::{Names, PlaceText};

@@ -1,8 +1,7 @@
 -- The parts of a net with data meet what the frame asks, so its program makes what a frame makes.
 use Rattle.std.proofs.Common.{◌≡◌, ℕ, suc, ◌+◌, ◌<◌, true, inl, inr, List, [], ◌∷◌, length, Option, Some, None, refl, ◌∙◌, ap, arith}
-use Rattle.std.specs.Prelude.{nat_eq, slice_get}
+use Rattle.std.specs.Prelude.{slice_get}
 use Rattle.std.specs.List.{range_with_len}
-use Rattle.std.proofs.lemmas.Bool.Decides.{nat_tests}
 use Rattle.cif_system.specs.System.{Event, System, unc, con}
 use Rattle.cif_system.specs.Step.{has_class}
 use Rattle.cif_system.proofs.Lists.{map-length, slice_get-below}
@@ -44,15 +43,11 @@ parts-length : (n : Net) (cs : List NetChoice) (j : ℕ) (es : List ℕ) → len
 parts-length n cs j [] = refl
 parts-length n cs j (e ∷ es) = ap suc (parts-length n cs (j + length (event_faces n (choices_of cs e))) es)
 
-nothing-listed : {A : Type 0} (xs : List A) → nat_eq (length xs) 0 ≡ true → xs ≡ []
-nothing-listed [] h = refl
-nothing-listed (x ∷ xs) h = absurd (grind (arith, nat_tests))
-
 -- ---- the frame
 
 pub fit : (n : Net) (cs : List NetChoice) (U C : ℕ) → HasParts n cs U C → is_shallow n ≡ true → FrameFits n U C (data_parts n cs) (shown_part n (shown_first n cs))
 fit n cs U C h shallow = record {
-  no_invariants = nothing-listed n.invariants h.silent;
+  plain = h.plain;
   one_each = parts-length n cs 2 (range_with_len 0 (length n.events)) ∙ range-length 0 (length n.events);
   own = own-are-own n cs U C h;
   spelled = program-spelled n cs U C h shallow;

@@ -8,10 +8,9 @@ use Rattle.std.proofs.lemmas.List.Sums.{sum_by-cons}
 use Rattle.cif_base.specs.declared.types.Ty.{Ty}
 use Rattle.cif_base.specs.declared.types.Ty.TheVariants as t
 use Rattle.cif_system.specs.System.{AllFit, Automaton, Edge, EndsInside, IsState, Range, State, Stored, in_range, initial}
-use Rattle.cif_system.specs.Step.{meets_invariants}
 use Rattle.cif_system.proofs.Picks.{all-at, and-left, and-right, map-at}
-use Rattle.cif_model.specs.Net.{NetAlg, NetAuto, NetEdge, NetInvariant, NetStored, Net}
-use Rattle.cif_model.specs.Meaning.{automaton_in, defined_value, edge_meant, invariant_in, stored_in, system_of_net, type_range}
+use Rattle.cif_model.specs.Net.{NetAlg, NetAuto, NetEdge, NetStored, Net}
+use Rattle.cif_model.specs.Meaning.{automaton_in, defined_value, edge_meant, stored_in, system_of_net, type_range}
 use Rattle.cif_model.specs.Facts as facts
 use Rattle.cif_model.specs.Facts.{alg_stands, are_all_apart, auto_stands, auto_targets, edge_stands, exclusion_stands, invariant_stands, is_net, stored_stands, things}
 use Rattle.cif_model.specs.Kinds.{places_of}
@@ -34,6 +33,7 @@ pub record Standing (n : Net) : Type 0 where
   pub inputs : list_all stored_stands n.inputs ≡ true
   pub vars : list_all stored_stands n.vars ≡ true
   pub algs : list_all (alg_stands n) n.algs ≡ true
+  pub invariants : list_all (invariant_stands n) n.invariants ≡ true
 
 -- the parts of a conjunction of nine
 nine : (a b c d e f g h i : Bool) → (a && b && c && d && e && f && g && h && i) ≡ true → (a ≡ true) × (c ≡ true) × (d ≡ true) × (e ≡ true) × (f ≡ true)
@@ -60,6 +60,7 @@ standing n h =
       inputs = parts.1;
       vars = parts.2;
       algs = parts.4;
+      invariants = and-right _ _ (and-left _ _ h);
     }
 
 -- no automaton has more places than all have locations and edges
@@ -233,6 +234,3 @@ none-of (x ∷ xs) h = absurd (some-length (length xs) h)
   where
     some-length : (k : ℕ) → nat_eq (suc k) 0 ≡ true → ⊥
     some-length k e = grind (arith, nat_tests)
-
-pub meets-all : (n : Net) → n.invariants ≡ [] → (s : State) → meets_invariants (system_of_net n) s ≡ true
-meets-all n none s = ap (λ (is : List NetInvariant). list_all (λ (f : State → Bool). f s) (map (invariant_in n) is)) none

@@ -6,11 +6,12 @@ use Rattle.std.specs.Fmt.{digits}
 use Rattle.std.specs.List.{AllByRecursion, AllZip, enumerate_from}
 use Rattle.std.proofs.lemmas.List.{append-nil, append_assoc, map-append}
 use Rattle.cif_system.specs.System.{State, System, con, initial, outputs, unc, in_range}
-use Rattle.cif_system.specs.Scan.{of_class, with_inputs}
+use Rattle.cif_system.specs.Scan.{of_class}
 use Rattle.cif_system.proofs.Lists.{map-length}
 use Rattle.cif_model.specs.Net.{NetAuto, Net}
 use Rattle.cif_model.specs.Facts.{is_net}
 use Rattle.cif_model.specs.Meaning.{system_of_net}
+use Rattle.cif_model.specs.Rules.{is_plain}
 use Rattle.st_ast.specs.Tree.{Program, Stm, Stms, append, stms, stms_of}
 use Rattle.st_ast.specs.Names.{declared}
 use Rattle.st_ast.specs.Values.{Memory}
@@ -37,11 +38,12 @@ use Rattle.plc_gen.specs.Variables.{mark_and_counter, all_shown_by, outputs_of}
 use Rattle.plc_gen.specs.Given.{AlgsHold, Section, ShowsAlgs, program_with, sections_of}
 use Rattle.plc_gen.specs.Makes.{Makes}
 use Rattle.plc_gen.proofs.Moving.{faces}
+use Rattle.plc_gen.proofs.Agreeing.{holds-first, inputs-keep}
 use Rattle.plc_gen.proofs.Making.{face-at, fired_is}
 use Rattle.plc_gen.proofs.Declaring.{AllDeclared, AllOf, AreSections, declared-at, declared-of, section-declared, starts-held, variables-passing}
 use Rattle.plc_gen.proofs.Checking.{AllChecked, checked-append, copies-checked, frame-checked}
 use Rattle.plc_gen.proofs.Showing.{Has, copied, has-same, held-has, output_values-read, read, read-has}
-use Rattle.plc_gen.proofs.Facts.{Standing, face-is, first-places, first-values, fit-places, fit-values, initial-is, inputs-sound, meets-all, places-sound, standing, vars-sound}
+use Rattle.plc_gen.proofs.Facts.{Standing, face-is, first-places, first-values, fit-places, fit-values, initial-is, inputs-sound, places-sound, standing, vars-sound}
 
 rounds_is : name_for letter.T 1 (codes "rounds") ≡ rounds_made
 unfolding digits
@@ -74,7 +76,7 @@ few-algs n facts =
 
 -- ---- the frame
 
-module _ (n : Net) (own : List StVar) (parts : List Part) (shown : Stms) (U C : ℕ) (net : is_net n ≡ true) (no_invariants : n.invariants ≡ []) (own_of_letter : AllOf letter.T class.Plain own) where
+module _ (n : Net) (own : List StVar) (parts : List Part) (shown : Stms) (U C : ℕ) (net : is_net n ≡ true) (plain : is_plain n ≡ true) (own_of_letter : AllOf letter.T class.Plain own) where
   abbrev p : Program
   p = program_with n own parts shown U C
 
@@ -214,7 +216,7 @@ module _ (n : Net) (own : List StVar) (parts : List Part) (shown : Stms) (U C : 
     }
 
     starts : Stands face sys p (start_memory p) (initial sys)
-    starts = record { state = starts-state; typed = in_types; keeps = meets-all n no_invariants (initial sys) }
+    starts = record { state = starts-state; typed = in_types; keeps = holds-first n plain }
 
     -- ---- the outputs
 
@@ -288,7 +290,7 @@ module _ (n : Net) (own : List StVar) (parts : List Part) (shown : Stms) (U C : 
       counter = counter_declared;
       is_face = face-is n;
       few_inputs = let same = map-length stored_face n.inputs in let small = facts.few_inputs in omega (arith, same, small);
-      invariants = λ s row. meets-all n no_invariants (with_inputs s row) ∙ sym (meets-all n no_invariants s);
+      invariants = inputs-keep n plain;
       starts = starts;
       own_names = own_names;
       events = events;

@@ -38,7 +38,7 @@ part-own (x ∷ parts) h (suc e) = part-own parts (all-parts IsOwnVariable x.own
 pub given-makes : (n : Net) (parts : List EventPart) (shown : EventPart) (U C : ℕ) → is_net n ≡ true → FrameFits n U C parts shown → U + C ≤ turns_of_scan → Makes n U C (framed_program n parts shown U C)
 given-makes n parts shown U C net fits turns =
     let p : Program = framed_program n parts shown U C in
-    framed-makes n (own_variables parts ++ shown.own) (map asked parts) shown.body U C net fits.no_invariants (own-of (own_variables parts ++ shown.own) fits.own) turns fits.checked
+    framed-makes n (own_variables parts ++ shown.own) (map asked parts) shown.body U C net fits.plain (own-of (own_variables parts ++ shown.own) fits.own) turns fits.checked
     (checked-typed [] 0 p.vars (append-none-left (variables_faults [] 0 p.vars) (stms_faults p.vars 0 p.body) fits.checked)
     (and-left (are_declarations p.vars) (are_stms 400 p.body) (and-right (is_name p.name) (are_declarations p.vars && are_stms 400 p.body) fits.spelled)))
     (part-own parts (all-parts IsOwnVariable (own_variables parts) shown.own fits.own).0) fits.events fits.shows

@@ -6,6 +6,7 @@ pub mod Declaring
 pub mod Checking
 pub mod Showing
 pub mod Facts
+pub mod Agreeing
 pub mod Framing
 pub mod Marked
 pub mod Spelling

@@ -68,7 +68,6 @@ module _ (n : Net) where
       pub few : length n.autos < 2 ^ 32
       pub within : EndsWithin n
       pub inside : EndsInside (system_of_net n)
-      pub none : n.invariants ≡ []
 
     module _ (ready : Ready) (own : List Text) where
       fired-among : Among fired (writable (face_of_net n) own)

@@ -5,6 +5,7 @@ use Rattle.grammar.specs.Pieces.{Text}
 use Rattle.cif_system.specs.System.{State, outputs}
 use Rattle.cif_model.specs.Net.{Net}
 use Rattle.cif_model.specs.Meaning.{system_of_net}
+use Rattle.cif_model.specs.Rules.{is_plain}
 use Rattle.st_ast.specs.Checks.{check_faults}
 use Rattle.st_ast.specs.Spelled.{is_spelled}
 use Rattle.st_ast.specs.Names.{place_of}
@@ -115,11 +116,11 @@ ShowsAlgs n p body = (k : ℕ) (m : Memory) (s : State) → Stands (face_of_net 
     → (after : Memory) × (exec p.vars body k m ≡ Ended k after) × AreInTypes p after × KeepsOthers p m after
     × AlgsHold p after 0 (algs_of (face_of_net n)) (outputs (system_of_net n) s).algs
 
--- The net has no state invariants. There is one part for each event, and one for the algebraic variables. The program so built
--- has a spelling and breaks no check, so that no two variables have the same name. The statements of each event of one of the
--- two classes try it, and those for the algebraic variables show them.
+-- The net is plain, so its state invariants read no input and hold in the initial state. There is one part for each event, and one
+-- for the algebraic variables. The program so built has a spelling and breaks no check, so that no two variables have the same
+-- name. The statements of each event of one of the two classes try it, and those for the algebraic variables show them.
 pub record FrameFits (n : Net) (U C : ℕ) (parts : List EventPart) (shown : EventPart) : Type 0 where
-  pub no_invariants : n.invariants ≡ []
+  pub plain : is_plain n ≡ true
   pub one_each : length parts ≡ length n.events
   pub own : AllByRecursion IsOwnVariable (own_variables parts ++ shown.own)
   pub spelled : is_spelled (framed_program n parts shown U C) ≡ true

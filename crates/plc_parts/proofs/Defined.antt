@@ -24,8 +24,8 @@ use Rattle.cif_model.proofs.Passing.{all-member}
 use Rattle.cif_model.proofs.PlainLaws.{plain-expr}
 use Rattle.cif_model.proofs.ValueLaws.{value-alone}
 use Rattle.plc_gen.proofs.Facts.{Standing, first-inside, standing}
-use Rattle.plc_expr.specs.Safe.{AreSafeBranches, IsSafe, IsTruth}
-use Rattle.plc_expr.proofs.Plain.{plain-safe}
+use Rattle.cif_safe.specs.Safe.{AreSafeBranches, IsSafe, IsTruth}
+use Rattle.cif_safe.proofs.Plain.{plain-safe}
 use Rattle.plc_act.specs.Asked.{setting_of}
 use Rattle.plc_parts.specs.Definitions.{IsDefinition}
 

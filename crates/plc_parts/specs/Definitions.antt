@@ -7,7 +7,7 @@ use Rattle.cif_model.specs.Inline.{defined_by}
 use Rattle.cif_model.specs.Kinds.{fits, kind_of}
 use Rattle.cif_model.specs.Meaning.{defined_value, system_of_net}
 use Rattle.cif_model.specs.Reads.{names_no_alg}
-use Rattle.plc_expr.specs.Safe.{IsSafe, value_at}
+use Rattle.cif_safe.specs.Safe.{IsSafe, value_at}
 use Rattle.plc_act.specs.Asked.{setting_of}
 
 -- It has the kind of the variable, names no algebraic variable, and is no deeper than a test may be. In each state it is safe,

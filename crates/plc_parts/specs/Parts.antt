@@ -1,7 +1,7 @@
 -- The parts of all events of a net with data, and the part that shows its algebraic variables. The own variables of an event are
 -- numbered after those of the events before it, those of the algebraic variables after those of all events, and the numbers 0
 -- and 1 are those of the mark that something fired and of the counter of rounds.
-use Rattle.std.specs.Prelude.{◌≡◌, ℕ, ◌+◌, ◌≤◌, true, Bool, nat_eq, List, [], ◌∷◌, ◌++◌, map, flat_map, length, None}
+use Rattle.std.specs.Prelude.{◌≡◌, ℕ, ◌+◌, ◌≤◌, true, List, [], ◌∷◌, ◌++◌, map, flat_map, length, None}
 use Rattle.std.specs.List.{enumerate_from, range_with_len}
 use Rattle.cif_model.specs.Net.{NetAlg, Net}
 use Rattle.cif_model.specs.Inline.{defined_by}
@@ -80,16 +80,11 @@ data_program n cs U C = framed_program n (data_parts n cs) (shown_part n (shown_
 
 -- ---- which nets have such a program
 
--- no state invariant
-abbrev pub is_silent : Net → Bool
-is_silent n = nat_eq (length n.invariants) 0
-
--- A plain net without state invariants, with the choices of all its events, whose enumerations are numbered in 32
--- bits. The own variables of all parts are numbered in 31 bits, and a scan has turns for all rounds.
+-- A plain net with the choices of all its events, whose enumerations are numbered in 32 bits. The own variables of all parts are
+-- numbered in 31 bits, and a scan has turns for all rounds.
 pub record HasParts (n : Net) (cs : List NetChoice) (U C : ℕ) : Type 0 where
   pub plain : is_plain n ≡ true
   pub guarded : IsGuarded n cs
-  pub silent : is_silent n ≡ true
   pub small_variables : are_small n.vars ≡ true
   pub small_inputs : are_small n.inputs ≡ true
   pub few_own : length (all_own n cs) ≤ 2147483646

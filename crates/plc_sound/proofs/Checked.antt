@@ -1,6 +1,6 @@
 -- The statements of the part of an event, and those that show the algebraic variables, break no check, where their own variables
 -- are declared one after another.
-use Rattle.std.proofs.Common.{◌≡◌, ℕ, suc, ◌+◌, Bool, true, false, ◌||◌, List, [], ◌∷◌, ◌++◌, map, flat_map, length, Option, Some, None, nat_eq, refl, sym, ap, subst, ◌∙◌, arith, eqb-true, if◌then◌else◌}
+use Rattle.std.proofs.Common.{◌≡◌, ℕ, suc, ◌+◌, ◌<◌, Bool, true, false, ◌||◌, List, [], ◌∷◌, ◌++◌, map, flat_map, length, Option, Some, None, nat_eq, refl, sym, ap, subst, ◌∙◌, arith, eqb-true, if◌then◌else◌}
 use Rattle.std.specs.Prelude.{option_map, slice_get}
 use Rattle.std.specs.List.{AllByRecursion, list_any}
 use Rattle.std.proofs.lemmas.Option.{slice_get-map}
@@ -8,15 +8,15 @@ use Rattle.cif_system.proofs.Lists.{map-length, none-some}
 use Rattle.cif_term.specs.Tree.{NetExpr}
 use Rattle.cif_base.specs.declared.types.Ty.{Ty}
 use Rattle.cif_base.specs.declared.types.Ty.TheVariants as cif_ty
-use Rattle.cif_model.specs.Net.{NetAlg, NetAuto, NetStored, Net}
+use Rattle.cif_model.specs.Net.{NetAlg, NetAuto, NetEdge, NetStored, Net}
 use Rattle.cif_model.specs.Exprs.{targets}
 use Rattle.cif_model.specs.Inline.{defined_by}
 use Rattle.cif_model.specs.Facts.{has}
-use Rattle.cif_model.specs.Kinds.{Kind, bool_kind, fits, is_bool, kind_of}
-use Rattle.cif_model.specs.Listing.{NetChoice}
+use Rattle.cif_model.specs.Kinds.{Kind, bool_kind, fits, is_bool, kind_of, places_of}
+use Rattle.cif_model.specs.Listing.{NetChoice, all_hold}
 use Rattle.cif_model.specs.Reads.{names_no_alg}
 use Rattle.cif_model.specs.Table.{carried_type}
-use Rattle.st_ast.specs.Tree.{Expr, Stms, assign, no_stms, stms}
+use Rattle.st_ast.specs.Tree.{Expr, named, truth, Stms, assign, no_stms, stms}
 use Rattle.st_ast.specs.Names.{declared}
 use Rattle.st_ast.specs.Checks.{can_be_assigned, is_same_sort, sort_of_type, stm_faults}
 use Rattle.st_ast.specs.declared.tree.StVar.{StVar}
@@ -39,18 +39,19 @@ use Rattle.plc_expr.specs.Texts.{Naming, before, temps, text}
 use Rattle.plc_expr.specs.Sorts.{AreOwn, HasSort, NamesHaveSorts, OwnIs, is_bool_type as is_bool_sent, own_types, sort_by}
 use Rattle.plc_expr.proofs.Checking.{AllChecked as ExprChecked, expr-checked, text-sorted}
 use Rattle.plc_expr.proofs.Sorting.{own-both, types-length}
-use Rattle.plc_act.specs.Writes.{NewNames, any_tested}
-use Rattle.plc_act.specs.Acts.{act}
+use Rattle.plc_act.specs.Writes.{NewNames, any_tested, updates_temps}
+use Rattle.plc_act.specs.Acts.{act, stored}
+use Rattle.plc_act.specs.Keeps.{after_naming, asked, taken_edge, where_kept}
 use Rattle.plc_act.specs.Sends.{event_type, sent_temps}
 use Rattle.plc_act.specs.Own.{choice_temps, choice_types, data_faces, data_naming, event_vars, faces_sent, if_face, new_face, new_face_of, new_names, new_type, place_in, range_face, range_faces, sent_face, sent_faces, sent_number, sent_type, sent_types, tests_range, updates_types, variable_name}
 use Rattle.plc_act.specs.Events.{all_written, data_written}
 use Rattle.plc_act.specs.Parts.{data_first, data_part, done_faces, event_faces, event_naming, ifs_from, needs_done}
-use Rattle.plc_act.proofs.Clean.{act-clean, name-sort, sends-clean, sort-of-sent}
-use Rattle.plc_act.proofs.Parts.{choice-length, mark-is, sent-length}
+use Rattle.plc_act.proofs.Clean.{act-clean, name-sort, sends-clean, sort-of-new, sort-of-sent, stored-clean}
+use Rattle.plc_act.proofs.Parts.{choice-length, mark-is, sent-length, updates-length}
 use Rattle.plc_act.proofs.Targets.{has-append, once-all, target-there, tested-any}
 use Rattle.plc_parts.specs.Definitions.{IsDefinition}
 use Rattle.plc_parts.specs.Parts.{defined_types, shown_text}
-use Rattle.plc_sound.proofs.Stating.{WrittenChecked, event-checked, moves-checked}
+use Rattle.plc_sound.proofs.Stating.{WrittenChecked, event-checked, moves-checked, where-checked}
 use Rattle.plc_sound.proofs.Told.{Told}
 
 -- ---- lists
@@ -179,32 +180,86 @@ module _ (n : Net) (vars : List StVar) (names : NamesHaveSorts vars (data_naming
     none-received : (t : Ty) → None ≡ Some t → OwnIs vars v.received (sent_type t)
     none-received t is = absurd (none-some t is)
 
-    written-checked : (c : NetChoice) (k : ℕ) → Told n c → ((i : ℕ) → has (targets c.writes) i ≡ true → has (event_vars ds) i ≡ true) → (any_tested n c.writes ≡ true → tests_range n ds ≡ true)
-        → carried_type n c ≡ event_type n ds → AreOwn vars v k (choice_types n c) → WrittenChecked vars (data_written n v y k c)
-    written-checked c k t sub tests carried o =
-        let q = own-both vars v k (temps c.test) (own_types n None c.test) (sent_types n c.sent ++ updates_types n (carried_type n c) c.writes) (own_length None c.test) o in
-        let r = own-both vars v (k + temps c.test) (sent_temps c.sent) (sent_types n c.sent) (updates_types n (carried_type n c) c.writes) (sent-length n own_length c.sent) q.1 in
-        let received = λ (u : Ty) (is : carried_type n c ≡ Some u). sent-own u (sym carried ∙ is) in
-        record {
-          before = before-clean None none-received bool_kind k c.test t.test t.test_names q.0;
-          test = text-sort None none-received bool_kind k c.test t.test t.test_names q.0;
-          act = λ rest clean.
-              sends-clean n vars v (text-sort None none-received) (before-clean None none-received) c.sent (carried_type n c) (k + temps c.test) (act n v y (k + temps c.test + sent_temps c.sent) c.writes (moves_text n c.moves rest))
-              received r.0 t.sent t.sent_names
-              (act-clean n (carried_type n c) vars v y (own_length (carried_type n c)) (λ i. has (targets c.writes) i ≡ true) (text-sort (carried_type n c) received) (before-clean (carried_type n c) received)
-              (λ i d here at. next-own i d (sub i here) at) (λ i here is. range-own (tests (tested-any n i is c.writes here)))
-              (λ i here. target-there n (carried_type n c) i c.writes t.writes here) (λ i d here at. values i d at) c.writes (k + temps c.test + sent_temps c.sent) (moves_text n c.moves rest) (λ i h. h) (λ is. range-own (tests is)) r.1 t.writes t.writes_names
-              (moves-checked vars n places c.moves rest clean));
-        }
+    module _ (c : NetChoice) (t : Told n c) (sub : (i : ℕ) → has (targets c.writes) i ≡ true → has (event_vars ds) i ≡ true) (tests : any_tested n c.writes ≡ true → tests_range n ds ≡ true)
+        (carried : carried_type n c ≡ event_type n ds) where
+      abbrev r : Option Ty
+      r = carried_type n c
+
+      what-received : (u : Ty) → carried_type n c ≡ Some u → OwnIs vars v.received (sent_type u)
+      what-received u is = sent-own u (sym carried ∙ is)
+
+      -- ---- names after it
+
+      after-located : (a p : ℕ) → p < places_of (slice_get n.autos a) → HasSort vars ((after_naming n v y c).located a p) true
+      after-located a p inside = by (taken_edge n c a)
+        where
+          by : (o : Option NetEdge) → HasSort vars (elim o [ None ↦ v.located a p | Some x ↦ truth (nat_eq x.to p) ]) true
+          by None = names.located a p inside
+          by (Some x) = (refl, refl)
+
+      after-variable : (i : ℕ) (d : NetStored) → slice_get n.vars i ≡ Some d → HasSort vars (named ((after_naming n v y c).variable i)) (is_bool_sent d.type_of)
+      after-variable i d at = by (has (targets c.writes) i) refl
+        where
+          by : (b : Bool) → has (targets c.writes) i ≡ b → HasSort vars (named (if b then y.next i else v.variable i)) (is_bool_sent d.type_of)
+          by true here = name-sort vars (y.next i) (new_type d.type_of) (is_bool_sent d.type_of) (next-own i d (sub i here) at) (sort-of-new vars d.type_of)
+          by false here = names.variable i d at
+
+      after-names : NamesHaveSorts vars (after_naming n v y c) n None
+      after-names = record { located = after-located; variable = after-variable; input = names.input; received = λ u is. absurd (none-some u is) }
+
+      -- its own variables have the names that they have before
+      after-own : (k : ℕ) (us : List StTy) → AreOwn vars v k us → AreOwn vars (after_naming n v y c) k us
+      after-own k [] o = tt
+      after-own k (u ∷ us) o = (o.0, after-own (k + 1) us o.1)
+
+      -- ---- its statements
+
+      stored-checked : (rest : Stms) → AllChecked vars rest → AllChecked vars (stored v y c.writes rest)
+      stored-checked rest clean =
+          stored-clean n r vars v y (own_length r) (λ i. has (targets c.writes) i ≡ true) (text-sort r what-received) (before-clean r what-received)
+          (λ i d here at. next-own i d (sub i here) at) (λ i here is. range-own (tests (tested-any n i is c.writes here)))
+          (λ i here. target-there n r i c.writes t.writes here) (λ i d here at. values i d at) c.writes rest (λ i h. h) clean
+
+      act-checked : (k : ℕ) (body : Stms) → AreOwn vars v k (updates_types n (carried_type n c) c.writes) → AllChecked vars body → AllChecked vars (act n v y k c.writes body)
+      act-checked k body o clean =
+          act-clean n r vars v y (own_length r) (λ i. has (targets c.writes) i ≡ true) (text-sort r what-received) (before-clean r what-received)
+          (λ i d here at. next-own i d (sub i here) at) (λ i here is. range-own (tests (tested-any n i is c.writes here)))
+          (λ i here. target-there n r i c.writes t.writes here) (λ i d here at. values i d at) c.writes k body (λ i h. h) (λ is. range-own (tests is)) o t.writes t.writes_names clean
+
+      kept-checked : (k : ℕ) (ss : Stms) → AreOwn vars v k (own_types n None (all_hold (asked n c))) → AllChecked vars ss → AllChecked vars (where_kept n v y k c ss)
+      kept-checked k ss o clean =
+          let all : NetExpr = all_hold (asked n c) in
+          let own = after-own k (own_types n None all) o in
+          where-checked vars (after_naming n v y c) k (asked n c) ss
+          (same-checked vars (before (after_naming n v y c) k all) (expr-checked vars (after_naming n v y c) n None after-names bool_kind k all t.kept t.kept_names own))
+          (text-sorted vars (after_naming n v y c) n None bool_kind k all after-names t.kept t.kept_names own) clean
+
+      written-checked : (k : ℕ) → AreOwn vars v k (choice_types n c) → WrittenChecked vars (data_written n v y k c)
+      written-checked k o =
+          let kept : List StTy = own_types n None (all_hold (asked n c)) in
+          let q = own-both vars v k (temps c.test) (own_types n None c.test) (sent_types n c.sent ++ (updates_types n r c.writes ++ kept)) (own_length None c.test) o in
+          let s = own-both vars v (k + temps c.test) (sent_temps c.sent) (sent_types n c.sent) (updates_types n r c.writes ++ kept) (sent-length n own_length c.sent) q.1 in
+          let j : ℕ = k + temps c.test + sent_temps c.sent in
+          let u = own-both vars v j (updates_temps c.writes) (updates_types n r c.writes) kept (updates-length n r (own_length r) c.writes) s.1 in
+          record {
+            before = before-clean None none-received bool_kind k c.test t.test t.test_names q.0;
+            test = text-sort None none-received bool_kind k c.test t.test t.test_names q.0;
+            act = λ rest clean.
+                let after : Stms = stored v y c.writes (moves_text n c.moves rest) in
+                sends-clean n vars v (text-sort None none-received) (before-clean None none-received) c.sent r (k + temps c.test) (act n v y j c.writes (where_kept n v y (j + updates_temps c.writes) c after))
+                what-received s.0 t.sent t.sent_names
+                (act-checked j (where_kept n v y (j + updates_temps c.writes) c after) u.0
+                (kept-checked (j + updates_temps c.writes) after u.1 (stored-checked (moves_text n c.moves rest) (moves-checked vars n places c.moves rest clean))));
+          }
 
     all-checked : (cs : List NetChoice) (k : ℕ) → AllByRecursion (Told n) cs → ((i : ℕ) → has (flat_map (λ (c : NetChoice). targets c.writes) cs) i ≡ true → has (event_vars ds) i ≡ true)
         → (list_any (λ (c : NetChoice). any_tested n c.writes) cs ≡ true → tests_range n ds ≡ true) → AllByRecursion (λ (c : NetChoice). carried_type n c ≡ event_type n ds) cs
         → AreOwn vars v k (flat_map (choice_types n) cs) → AllByRecursion (WrittenChecked vars) (all_written n v y k cs)
     all-checked [] k t sub tests carried o = tt
     all-checked (c ∷ cs) k t sub tests carried o =
-        let q = own-both vars v k (choice_temps c) (choice_types n c) (flat_map (choice_types n) cs) (choice-length n own_length c) o in (
-          written-checked c k t.0 (λ i h. sub i (has-append (targets c.writes) (flat_map (λ (d : NetChoice). targets d.writes) cs) i ∙ in-left _ _ h)) (λ is. tests (in-left _ _ is)) carried.0 q.0,
-          all-checked cs (k + choice_temps c) t.1 (λ i h. sub i (has-append (targets c.writes) (flat_map (λ (d : NetChoice). targets d.writes) cs) i ∙ in-right _ _ h)) (λ is. tests (in-right _ _ is)) carried.1 q.1,
+        let q = own-both vars v k (choice_temps n c) (choice_types n c) (flat_map (choice_types n) cs) (choice-length n own_length c) o in (
+          written-checked c t.0 (λ i h. sub i (has-append (targets c.writes) (flat_map (λ (d : NetChoice). targets d.writes) cs) i ∙ in-left _ _ h)) (λ is. tests (in-left _ _ is)) carried.0 k q.0,
+          all-checked cs (k + choice_temps n c) t.1 (λ i h. sub i (has-append (targets c.writes) (flat_map (λ (d : NetChoice). targets d.writes) cs) i ∙ in-right _ _ h)) (λ is. tests (in-right _ _ is)) carried.1 q.1,
         )
 
     pub part-checked : AllByRecursion (Told n) ds → AllByRecursion (λ (c : NetChoice). carried_type n c ≡ event_type n ds) ds → AllChecked vars (data_part n j ds).body

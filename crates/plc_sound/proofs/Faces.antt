@@ -12,7 +12,7 @@ use Rattle.cif_system.proofs.Picks.{all-at, and-left, and-right}
 use Rattle.cif_term.specs.Tree.{NetExpr, net_expr, NetForm, n_minus, n_plus, n_not, n_abs, n_min, n_max, n_sum, n_product, n_compare, n_and, n_or, n_implies, n_iff, n_if, NetExprs, no_net_exprs, net_exprs, NetTerms, no_net_terms, net_terms, NetFactors, no_net_factors, net_factors, NetBranches, no_net_branches, net_branches, NetUpdate, net_set, net_choose, NetUpdates, no_net_updates, net_updates, NetUpdateBranches, no_net_update_branches, net_update_branches}
 use Rattle.cif_model.specs.Net.{NetAlg, NetStored, Net}
 use Rattle.cif_model.specs.Inline.{defined_by}
-use Rattle.cif_model.specs.Listing.{NetChoice}
+use Rattle.cif_model.specs.Listing.{NetChoice, all_hold}
 use Rattle.cif_model.specs.Meaning.{type_range}
 use Rattle.cif_model.specs.Table.{carried_type}
 use Rattle.cif_model.specs.Facts.{is_type, stored_stands}
@@ -27,6 +27,7 @@ use Rattle.plc_gen.proofs.Spelling.{FaceSpelled}
 use Rattle.plc_expr.specs.Sorts.{branches_types, factors_types, form_types, is_bool_type as is_bool_sent, is_boolean, list_types, own_types, terms_types, type_by}
 use Rattle.plc_act.specs.Own.{bodies_types, choice_types, conditions_types, data_faces, event_vars, faces_sent, if_face, new_face, new_face_of, new_type, range_face, range_faces, sent_faces, sent_types, tests_range, updates_types, update_types}
 use Rattle.plc_act.specs.Sends.{event_type}
+use Rattle.plc_act.specs.Keeps.{asked}
 use Rattle.plc_act.specs.Parts.{done_faces, event_faces, needs_done}
 use Rattle.plc_parts.specs.Parts.{defined_types, shown_faces}
 use Rattle.plc_sound.proofs.Literals.{first-spelled, type-spelled}
@@ -123,9 +124,11 @@ sent-plain n (Some e) = expr-plain n None e
 choices-plain : (n : Net) (cs : List NetChoice) → AllPlain (flat_map (choice_types n) cs)
 choices-plain n [] = tt
 choices-plain n (c ∷ cs) =
+    let kept : List StTy = own_types n None (all_hold (asked n c)) in
     all-both Plain (choice_types n c) (flat_map (choice_types n) cs)
-    (all-both Plain (own_types n None c.test) (sent_types n c.sent ++ updates_types n (carried_type n c) c.writes) (expr-plain n None c.test)
-    (all-both Plain (sent_types n c.sent) (updates_types n (carried_type n c) c.writes) (sent-plain n c.sent) (updates-plain n (carried_type n c) c.writes))) (choices-plain n cs)
+    (all-both Plain (own_types n None c.test) (sent_types n c.sent ++ (updates_types n (carried_type n c) c.writes ++ kept)) (expr-plain n None c.test)
+    (all-both Plain (sent_types n c.sent) (updates_types n (carried_type n c) c.writes ++ kept) (sent-plain n c.sent)
+    (all-both Plain (updates_types n (carried_type n c) c.writes) kept (updates-plain n (carried_type n c) c.writes) (expr-plain n None (all_hold (asked n c)))))) (choices-plain n cs)
 
 ifs-good : (us : List StTy) → AllPlain us → AllGood (map if_face us)
 ifs-good [] h = tt

@@ -147,28 +147,29 @@ module _ (n : Net) (received : Option Ty) (w : Naming) (names : NamesAreSpelled 
   stores-spelled d (i ∷ is) =
       both-true (is_name (w.variable i) && is_name (y.next i)) (are_stms d (stms_of (map (store w y) is))) (both-true (is_name (w.variable i)) (is_name (y.next i)) (names.variable i) (next_name i)) (stores-spelled d is)
 
-  -- what the choice does has a spelling, where what follows the stores has one
-  pub act-spelled : (d : ℕ) (us : NetUpdates) (k : ℕ) (rest : Stms) → updates_depth us + 1 ≤ d → updates_stand n received us ≡ true → AllLow (updates_exprs us) → ((j : ℕ) → are_stms j rest ≡ true) → are_stms d (act n w y k us rest) ≡ true
-  act-spelled zero us k rest deep h low all = absurd (omega (arith, deep))
-  act-spelled (suc d) us k rest deep h low all = go (any_tested n us)
+  -- storing the new values has a spelling, where what follows has one
+  pub stored-spelled : (d : ℕ) (us : NetUpdates) (rest : Stms) → are_stms d rest ≡ true → are_stms d (stored w y us rest) ≡ true
+  stored-spelled d us rest all = append-spelled d (stms_of (map (store w y) (assigned_vars us))) rest (stores-spelled d (assigned_vars us)) all
+
+  -- so has what the choice does, where what follows the new values has one at two depths
+  pub act-spelled : (d : ℕ) (us : NetUpdates) (k : ℕ) (body : Stms) → updates_depth us + 1 ≤ suc d → updates_stand n received us ≡ true → AllLow (updates_exprs us) → are_stms (suc d) body ≡ true → are_stms d body ≡ true
+      → are_stms (suc d) (act n w y k us body) ≡ true
+  act-spelled d us k body deep h low all inside = go (any_tested n us)
     where
       computed-spelled : are_stms (suc d) (computed n w y k us) ≡ true
       computed-spelled = append-spelled (suc d) (stms_of (map (copy w y) (may_stay us))) (writes n w y k us) (copies-spelled (suc d) (may_stay us)) (writes-spelled us (suc d) k deep h low)
 
-      stored-spelled : (j : ℕ) → are_stms j (stored w y us rest) ≡ true
-      stored-spelled j = append-spelled j (stms_of (map (store w y) (assigned_vars us))) rest (stores-spelled j (assigned_vars us)) (all j)
+      one-branch : are_branches d (branches (named y.in_range) body no_branches) ≡ true
+      one-branch = both-true (is_name y.in_range) (are_stms d body && true) mark_name (both-true (are_stms d body) true inside refl)
 
-      one-branch : are_branches d (branches (named y.in_range) (stored w y us rest) no_branches) ≡ true
-      one-branch = both-true (is_name y.in_range) (are_stms d (stored w y us rest) && true) mark_name (both-true (are_stms d (stored w y us rest)) true (stored-spelled d) refl)
-
-      go : (b : Bool) → are_stms (suc d) (if b then stms (assign y.in_range (truth true)) (append (computed n w y k us) (chosen (branches (named y.in_range) (stored w y us rest) no_branches) no_stms))
-          else append (computed n w y k us) (stored w y us rest)) ≡ true
-      go false = append-spelled (suc d) (computed n w y k us) (stored w y us rest) computed-spelled (stored-spelled (suc d))
+      go : (b : Bool) → are_stms (suc d) (if b then stms (assign y.in_range (truth true)) (append (computed n w y k us) (chosen (branches (named y.in_range) body no_branches) no_stms))
+          else append (computed n w y k us) body) ≡ true
+      go false = append-spelled (suc d) (computed n w y k us) body computed-spelled all
       go true =
-          both-true (is_name y.in_range && true) (are_stms (suc d) (append (computed n w y k us) (chosen (branches (named y.in_range) (stored w y us rest) no_branches) no_stms)))
+          both-true (is_name y.in_range && true) (are_stms (suc d) (append (computed n w y k us) (chosen (branches (named y.in_range) body no_branches) no_stms)))
           (both-true (is_name y.in_range) true mark_name refl)
-          (append-spelled (suc d) (computed n w y k us) (chosen (branches (named y.in_range) (stored w y us rest) no_branches) no_stms) computed-spelled
-          (chosen-spelled d (branches (named y.in_range) (stored w y us rest) no_branches) no_stms one-branch refl refl))
+          (append-spelled (suc d) (computed n w y k us) (chosen (branches (named y.in_range) body no_branches) no_stms) computed-spelled
+          (chosen-spelled d (branches (named y.in_range) body no_branches) no_stms one-branch refl refl))
 
 -- ---- what is sent
 

@@ -4,8 +4,9 @@ use Rattle.std.specs.Prelude.{is_some, nat_lt, option_and_then, option_map, slic
 use Rattle.std.specs.List.{AllByRecursion}
 use Rattle.std.proofs.lemmas.Bool.Decides.{nat_tests}
 use Rattle.grammar.specs.Pieces.{Text}
+use Rattle.cif_term.specs.Tree.{NetExpr}
 use Rattle.cif_model.specs.Net.{NetAuto, NetEdge, Net}
-use Rattle.cif_model.specs.Listing.{NetMove}
+use Rattle.cif_model.specs.Listing.{NetMove, all_hold}
 use Rattle.st_ast.specs.Tree.{Expr, truth, number, named, complement, Stms, Branches, assign, choice, no_stms, stms, append, no_branches, branches, no_other}
 use Rattle.st_ast.specs.Names.{declared}
 use Rattle.st_ast.specs.Checks.{Sort, boolean, integer, boolean_conditions, branches_faults, can_be_assigned, is_same_sort, knows, knows_conditions, sort_of, sort_of_type, stm_faults, stms_count}
@@ -21,6 +22,8 @@ use Rattle.plc_gen.specs.Places.{place_name}
 use Rattle.plc_gen.specs.Events.{Written, all_bare, alone, chain, chain_branches, event_text, marks, marks_with, move_text, moves_text, needs_mark, parts_text, tested, unless_done}
 use Rattle.plc_gen.proofs.Checking.{AllChecked, all-checked, checked-append}
 use Rattle.plc_expr.specs.Sorts.{HasSort, OwnIs}
+use Rattle.plc_expr.specs.Texts.{Naming, before, text}
+use Rattle.plc_act.specs.Keeps.{where_hold}
 
 two-more : (k : ℕ) → nat_lt 1 (suc (suc k)) ≡ true
 two-more k = grind (arith, nat_tests)
@@ -79,6 +82,12 @@ module _ (vars : List StVar) where
 
   tested-checked : (c : Expr) (ss : Stms) → HasSort vars c true → AllChecked vars ss → AllChecked vars (tested c ss)
   tested-checked c ss h clean = choice-checked (branches c ss no_branches) (branch-checked c ss no_branches h clean none-checked)
+
+  -- where conditions hold
+  pub where-checked : (w : Naming) (k : ℕ) (es : List NetExpr) (ss : Stms) → AllChecked vars (before w k (all_hold es)) → HasSort vars (text w k (all_hold es)) true → AllChecked vars ss → AllChecked vars (where_hold w k es ss)
+  where-checked w k [] ss b h all = all
+  where-checked w k (e ∷ es) ss b h all =
+      checked-append vars (before w k (all_hold (e ∷ es))) (tested (text w k (all_hold (e ∷ es))) ss) b (tested-checked (text w k (all_hold (e ∷ es))) ss h all)
 
   -- ---- moves
 

@@ -1,5 +1,5 @@
--- What is told of each choice: its test, what it sends and its updates have their kinds, name no algebraic variable, and are no
--- deeper than a table allows.
+-- What is told of each choice: its test, what it sends, its updates and the test of the state invariants that are asked have
+-- their kinds, name no algebraic variable, and are no deeper than a table allows.
 use Rattle.std.proofs.Common.{◌≡◌, ℕ, ◌≤◌, max, true, List, [], ◌∷◌, map, Some, None, arith}
 use Rattle.std.specs.Prelude.{nat_le, option_to_list}
 use Rattle.std.specs.List.{AllByRecursion, list_all}
@@ -12,15 +12,17 @@ use Rattle.cif_model.specs.Counts.{all_beside, measure}
 use Rattle.cif_model.specs.Exprs.{updates_exprs}
 use Rattle.cif_model.specs.Facts.{channel_of, is_net, is_type, updates_stand}
 use Rattle.cif_model.specs.Kinds.{bool_kind, fits}
-use Rattle.cif_model.specs.Listing.{NetChoice}
+use Rattle.cif_model.specs.Listing.{NetChoice, all_hold}
 use Rattle.cif_model.specs.Reads.{names_no_alg}
-use Rattle.cif_model.specs.Rules.{is_plain_expr}
+use Rattle.cif_model.specs.Rules.{is_plain, is_plain_expr}
 use Rattle.cif_model.specs.Shown.{channel_range}
 use Rattle.cif_model.specs.Table.{IsGuarded, carried_type, choice_exprs, choice_stands, sent_stands}
 use Rattle.cif_model.proofs.Passing.{and-left, and-right}
 use Rattle.cif_model.proofs.ValueLaws.{all-parts}
 use Rattle.plc_gen.proofs.Choosing.{all-of}
+use Rattle.plc_act.specs.Keeps.{asked}
 use Rattle.plc_act.proofs.Whole.{carried-stands, events-stand}
+use Rattle.plc_parts.proofs.Asked.{kept-sound}
 
 -- the expression names no algebraic variable, and is no deeper than a test may be
 abbrev pub NamesNone : NetExpr → Type 0
@@ -40,6 +42,9 @@ pub record Told (n : Net) (c : NetChoice) : Type 0 where
   pub writes : updates_stand n (carried_type n c) c.writes ≡ true
   pub writes_names : AllByRecursion NamesNone (updates_exprs c.writes)
   pub writes_low : AllByRecursion (IsLow n) (updates_exprs c.writes)
+  pub kept : fits n None bool_kind (all_hold (asked n c)) ≡ true
+  pub kept_names : NamesNone (all_hold (asked n c))
+  pub kept_low : IsLow n (all_hold (asked n c))
 
 -- ---- expressions
 
@@ -53,13 +58,16 @@ all-low n (e ∷ es) h =
     let top : max (measure n e).depth (all_beside (map (measure n) es)).depth ≤ 103 = h in
     (omega (arith, top), all-low n es (omega (arith, top)))
 
-pub told : (n : Net) → is_net n ≡ true → (c : NetChoice) → choice_stands n c ≡ true → Told n c
-told n net c stands =
+pub told : (n : Net) → is_plain n ≡ true → (c : NetChoice) → choice_stands n c ≡ true → Told n c
+told n plain c stands =
+    let net : is_net n ≡ true = and-left _ _ (and-left _ _ (and-left _ _ plain)) in
     let names = all-named n (channel_range (channel_of n c.event)) (choice_exprs c) (and-right _ _ (and-left _ _ stands)) in
     let deep : nat_le (all_beside (map (measure n) (choice_exprs c))).depth 103 ≡ true = and-right _ _ stands in
     let low = all-low n (choice_exprs c) (below _ deep) in
     let named = all-parts NamesNone (option_to_list c.sent) (updates_exprs c.writes) names.1 in
     let deep_enough = all-parts (IsLow n) (option_to_list c.sent) (updates_exprs c.writes) low.1 in
+    let kept = kept-sound n plain c in
+    let few = kept.deep in
     record {
       test = and-left _ _ (and-left _ _ (and-left _ _ (and-left _ _ stands)));
       test_names = names.0;
@@ -71,10 +79,13 @@ told n net c stands =
       writes = and-right _ _ (and-left _ _ (and-left _ _ stands));
       writes_names = named.1;
       writes_low = deep_enough.1;
+      kept = kept.kind;
+      kept_names = and-left _ _ (and-left _ _ kept.plain);
+      kept_low = omega (arith, few);
     }
   where
     below : (d : ℕ) → nat_le d 103 ≡ true → d ≤ 103
     below d h = grind (arith, nat_tests)
 
-pub all-told : (n : Net) (cs : List NetChoice) → is_net n ≡ true → IsGuarded n cs → AllByRecursion (Told n) cs
-all-told n cs net guarded = all-of (Told n) cs (λ k c at. told n net c (guarded.stands k c at))
+pub all-told : (n : Net) (cs : List NetChoice) → is_plain n ≡ true → IsGuarded n cs → AllByRecursion (Told n) cs
+all-told n cs plain guarded = all-of (Told n) cs (λ k c at. told n plain c (guarded.stands k c at))

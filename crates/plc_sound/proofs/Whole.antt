@@ -35,7 +35,7 @@ use Rattle.plc_gen.specs.Small.{is_small}
 use Rattle.plc_gen.proofs.Checking.{AllChecked, all-checked}
 use Rattle.plc_gen.proofs.Choosing.{all-filter}
 use Rattle.plc_gen.proofs.Declaring.{AllDeclared, AllOf, declared-at}
-use Rattle.plc_gen.proofs.Facts.{Standing, ends-within, few-places, first-inside, none-of, standing}
+use Rattle.plc_gen.proofs.Facts.{Standing, ends-within, few-places, first-inside, standing}
 use Rattle.plc_gen.proofs.Framing.{algs-declared, body-checked, mark_declared, place-declared, stms_of-append}
 use Rattle.plc_gen.proofs.Moving.{faces}
 use Rattle.plc_gen.proofs.Spelling.{FaceSpelled, append-spelled, both-true, copies-spelled, frame-spelled, place-face-spelled}
@@ -112,9 +112,6 @@ module _ (n : Net) (cs : List NetChoice) (U C : ℕ) (has : HasParts n cs U C) w
   facts : Standing n
   facts = standing n net
 
-  no_invariants : n.invariants ≡ []
-  no_invariants = none-of n.invariants has.silent
-
   definitions : AllByRecursion (IsDefinition n) n.algs
   definitions = all-defined n has.plain
 
@@ -125,7 +122,7 @@ module _ (n : Net) (cs : List NetChoice) (U C : ℕ) (has : HasParts n cs U C) w
   all-good = all-both Good (events_faces n cs) (shown_faces n) (faces-good n facts.vars has.small_variables cs (range_with_len 0 (length n.events))) (shown-good n)
 
   told : AllByRecursion (Told n) cs
-  told = all-told n cs net has.guarded
+  told = all-told n cs has.plain has.guarded
 
   told-of : (e : ℕ) → AllByRecursion (Told n) (choices_of cs e)
   told-of e = all-filter (Told n) (λ (c : NetChoice). nat_eq c.event e) cs told
@@ -168,7 +165,7 @@ module _ (n : Net) (cs : List NetChoice) (U C : ℕ) (has : HasParts n cs U C) w
   located-sort : (a k : ℕ) → k < places_of (slice_get n.autos a) → HasSort p.vars (equal (named (place_name n a)) true (number (pos k))) true
   located-sort a k inside =
       let there = auto-there n.autos a k inside in
-      let d = place-declared n (declared_from 2 (all_faces n cs)) parts last U C net no_invariants letters a there.0 there.1 in
+      let d = place-declared n (declared_from 2 (all_faces n cs)) parts last U C net has.plain letters a there.0 there.1 in
       (rw d refl, rw d refl)
 
   names-sorted : NamesHaveSorts p.vars (data_naming n fired) n None
@@ -183,17 +180,17 @@ module _ (n : Net) (cs : List NetChoice) (U C : ℕ) (has : HasParts n cs U C) w
   parts-checked k =
       every-part n cs (AllChecked p.vars) p.vars tt
       (λ j e all.
-      part-checked n p.vars names-sorted (stored-own p.vars letter.V n.vars values) (place-declared n (declared_from 2 (all_faces n cs)) parts last U C net no_invariants letters)
-      (mark_declared n (declared_from 2 (all_faces n cs)) parts last U C net no_invariants letters) (choices_of cs e) j all (told-of e) (one-type n e (choices_of cs e) (of-event cs e))) 2 (range_with_len 0 (length n.events)) both-owns.0 k
+      part-checked n p.vars names-sorted (stored-own p.vars letter.V n.vars values) (place-declared n (declared_from 2 (all_faces n cs)) parts last U C net has.plain letters)
+      (mark_declared n (declared_from 2 (all_faces n cs)) parts last U C net has.plain letters) (choices_of cs e) j all (told-of e) (one-type n e (choices_of cs e) (of-event cs e))) 2 (range_with_len 0 (length n.events)) both-owns.0 k
 
   last-checked : AllChecked p.vars last
   last-checked =
-      algs-checked n p.vars names-sorted (stored-own p.vars letter.V n.vars values) (place-declared n (declared_from 2 (all_faces n cs)) parts last U C net no_invariants letters)
-      (mark_declared n (declared_from 2 (all_faces n cs)) parts last U C net no_invariants letters) (shown_first n cs) n.algs definitions
-      (algs-declared n (declared_from 2 (all_faces n cs)) parts last U C net no_invariants letters) shown-owns
+      algs-checked n p.vars names-sorted (stored-own p.vars letter.V n.vars values) (place-declared n (declared_from 2 (all_faces n cs)) parts last U C net has.plain letters)
+      (mark_declared n (declared_from 2 (all_faces n cs)) parts last U C net has.plain letters) (shown_first n cs) n.algs definitions
+      (algs-declared n (declared_from 2 (all_faces n cs)) parts last U C net has.plain letters) shown-owns
 
   body : AllChecked p.vars p.body
-  body = body-checked n (declared_from 2 (all_faces n cs)) parts last U C net no_invariants letters parts-checked last-checked
+  body = body-checked n (declared_from 2 (all_faces n cs)) parts last U C net has.plain letters parts-checked last-checked
 
   pub program-checked : check_faults (data_program n cs U C) ≡ []
   program-checked =

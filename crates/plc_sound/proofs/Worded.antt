@@ -1,7 +1,7 @@
 -- The statements of the part of an event have a spelling, where the updates of its choices nest no deeper than is allowed, and so
 -- have those that show the algebraic variables.
 use Rattle.std.proofs.Common.{◌≡◌, ℕ, zero, suc, ◌+◌, ◌<◌, ◌≤◌, pos, Bool, true, false, ◌&&◌, List, [], ◌∷◌, length, Option, Some, None, refl, subst, arith, le-leb, if◌then◌else◌}
-use Rattle.std.specs.Prelude.{codes, nat_le, option_and_then, slice_get}
+use Rattle.std.specs.Prelude.{codes, nat_eq, nat_le, option_and_then, slice_get}
 use Rattle.std.specs.List.{AllByRecursion}
 use Rattle.grammar.specs.Pieces.{Text}
 use Rattle.cif_term.specs.Tree.{NetExpr}
@@ -10,7 +10,9 @@ use Rattle.cif_model.specs.Counts.{alg_measures, no_form}
 use Rattle.cif_model.specs.Unfolding.{at_or as or_none}
 use Rattle.cif_model.specs.Inline.{defined_by}
 use Rattle.cif_model.specs.Kinds.{Kind, bool_kind, kind_of, places_of}
-use Rattle.cif_model.specs.Listing.{NetChoice, NetMove}
+use Rattle.cif_model.specs.Exprs.{targets}
+use Rattle.cif_model.specs.Facts.{has}
+use Rattle.cif_model.specs.Listing.{NetChoice, NetMove, all_hold}
 use Rattle.cif_model.specs.Table.{carried_type}
 use Rattle.st_ast.specs.Tokens.{greatest}
 use Rattle.st_ast.specs.Grammar.{at_or}
@@ -27,16 +29,17 @@ use Rattle.plc_gen.proofs.Spelling.{append-spelled, both-true, name-spelled}
 use Rattle.plc_expr.specs.Texts.{Naming, before, temps, text}
 use Rattle.plc_expr.specs.Sorts.{NamesAreSpelled}
 use Rattle.plc_expr.proofs.Spelling.{statements-spelled, text-spelled}
-use Rattle.plc_act.specs.Writes.{NewNames}
+use Rattle.plc_act.specs.Writes.{NewNames, updates_temps}
 use Rattle.plc_act.specs.Own.{choice_temps, data_naming, event_vars, new_face, new_names, path_of, place_in, range_face, range_faces, sent_name, sent_number}
 use Rattle.plc_act.specs.Events.{all_written, data_written}
 use Rattle.plc_act.specs.Parts.{data_first, data_part, event_naming, ifs_from}
-use Rattle.plc_act.specs.Acts.{act}
+use Rattle.plc_act.specs.Acts.{act, stored}
+use Rattle.plc_act.specs.Keeps.{after_naming, asked, taken_edge, where_hold, where_kept}
 use Rattle.plc_act.specs.Sends.{sent_temps}
 use Rattle.plc_parts.specs.Definitions.{IsDefinition}
 use Rattle.plc_parts.specs.Parts.{shown_text}
 use Rattle.plc_sound.proofs.Nested.{Shallow}
-use Rattle.plc_sound.proofs.Spelled.{act-spelled, before-spelled, sends-spelled, whole-spelled}
+use Rattle.plc_sound.proofs.Spelled.{act-spelled, before-spelled, sends-spelled, stored-spelled, whole-spelled}
 use Rattle.plc_sound.proofs.Told.{Told}
 
 -- ---- events
@@ -55,6 +58,12 @@ tested-spelled : (d : ℕ) (c : Expr) (ss : Stms) → is_whole_expr c ≡ true �
 tested-spelled d c ss h g =
     both-true (are_branches d (branches c ss no_branches) && true) true
     (both-true (are_branches d (branches c ss no_branches)) true (both-true (is_whole_expr c) (are_stms d ss && true) h (both-true (are_stms d ss) true g refl)) refl) refl
+
+-- where conditions hold, other statements that nest one deeper
+where-spelled : (w : Naming) (d k : ℕ) (es : List NetExpr) (ss : Stms) → is_whole_expr (text w k (all_hold es)) ≡ true → are_stms (suc d) (before w k (all_hold es)) ≡ true → Always ss → are_stms (suc d) (where_hold w k es ss) ≡ true
+where-spelled w d k [] ss h b all = all (suc d)
+where-spelled w d k (e ∷ es) ss h b all =
+    append-spelled (suc d) (before w k (all_hold (e ∷ es))) (tested (text w k (all_hold (e ∷ es))) ss) b (tested-spelled d (text w k (all_hold (e ∷ es))) ss h (all d))
 
 marks-spelled : Always marks
 marks-spelled d = refl
@@ -167,10 +176,42 @@ module _ (n : Net) (small : (k : ℕ) → places_of (slice_get n.autos k) ≤ gr
       next-name : (v : ℕ) → is_name (y.next v) ≡ true
       next-name v = name-spelled letter.T (data_first n ds j + length (range_faces n ds) + place_in (event_vars ds) v) (new_face n v).path
 
+      -- ---- names after a choice
+
+      after-located : (c : NetChoice) (a p : ℕ) → p < places_of (slice_get n.autos a) → (d : ℕ) → 1 ≤ d → is_expr d at_or ((after_naming n w y c).located a p) ≡ true
+      after-located c a p inside d deep = by (taken_edge n c a)
+        where
+          by : (o : Option NetEdge) → is_expr d at_or (elim o [ None ↦ w.located a p | Some x ↦ truth (nat_eq x.to p) ]) ≡ true
+          by None = located-spelled a p inside d deep
+          by (Some x) = refl
+
+      after-variable : (c : NetChoice) (v : ℕ) → is_name ((after_naming n w y c).variable v) ≡ true
+      after-variable c v = by (has (targets c.writes) v)
+        where
+          by : (b : Bool) → is_name (if b then y.next v else w.variable v) ≡ true
+          by true = next-name v
+          by false = names.variable v
+
+      after-names : (c : NetChoice) → NamesAreSpelled (after_naming n w y c) n
+      after-names c = record { located = after-located c; variable = after-variable c; input = names.input; received = names.received; own = names.own }
+
+      -- ---- what a choice does
+
+      -- where the state invariants hold that are asked
+      kept-spelled : (c : NetChoice) (k : ℕ) (ss : Stms) → Told n c → Always ss → (d : ℕ) → are_stms (suc d) (where_kept n w y k c ss) ≡ true
+      kept-spelled c k ss t all d =
+          let low = t.kept_low in
+          where-spelled (after_naming n w y c) d k (asked n c) ss
+          (text-spelled (after_naming n w y c) n None bool_kind (all_hold (asked n c)) (or_none no_form (alg_measures n)) k 400 (after-names c) t.kept (omega (arith, low)))
+          (statements-spelled (after_naming n w y c) n None bool_kind (all_hold (asked n c)) (or_none no_form (alg_measures n)) k (suc d) (after-names c) t.kept (omega (arith, low)) (omega arith)) all
+
       -- what the choice does where it sends its value, if it sends one, and that is in range
-      acts-spelled : (c : NetChoice) (k : ℕ) (rest : Stms) → Told n c → Shallow c.writes → Always rest → (d : ℕ) → 396 ≤ d → are_stms d (act n w y k c.writes (moves_text n c.moves rest)) ≡ true
-      acts-spelled c k rest t shallow all d deep =
-          act-spelled n (carried_type n c) w names y mark-name next-name types d c.writes k (moves_text n c.moves rest) (omega (arith, deep, shallow)) t.writes t.writes_low (λ i. moves-spelled i c.moves rest (all i))
+      acts-spelled : (c : NetChoice) (k j : ℕ) (ss : Stms) → Told n c → Shallow c.writes → Always ss → (d : ℕ) → 396 ≤ d → are_stms d (act n w y k c.writes (where_kept n w y j c ss)) ≡ true
+      acts-spelled c k j ss t shallow all zero deep = absurd (omega (arith, deep))
+      acts-spelled c k j ss t shallow all (suc zero) deep = absurd (omega (arith, deep))
+      acts-spelled c k j ss t shallow all (suc (suc d)) deep =
+          act-spelled n (carried_type n c) w names y mark-name next-name types (suc d) c.writes k (where_kept n w y j c ss) (omega (arith, deep, shallow)) t.writes t.writes_low
+          (kept-spelled c j ss t all (suc d)) (kept-spelled c j ss t all d)
 
       written-spelled : (c : NetChoice) (k : ℕ) → Told n c → Shallow c.writes → WrittenSpelled (data_written n w y k c)
       written-spelled c k t shallow = record {
@@ -182,12 +223,16 @@ module _ (n : Net) (small : (k : ℕ) → places_of (slice_get n.autos k) ≤ gr
           at-depth : (rest : Stms) → Always rest → (d : ℕ) → 397 ≤ d → are_stms d ((data_written n w y k c).act rest) ≡ true
           at-depth rest all zero deep = absurd (omega (arith, deep))
           at-depth rest all (suc d) deep =
-              sends-spelled n w names d (k + temps c.test) c.sent (carried_type n c) (act n w y (k + temps c.test + sent_temps c.sent) c.writes (moves_text n c.moves rest)) t.sent t.sent_low t.carried
-              (acts-spelled c (k + temps c.test + sent_temps c.sent) rest t shallow all (suc d) (omega (arith, deep))) (acts-spelled c (k + temps c.test + sent_temps c.sent) rest t shallow all d (omega (arith, deep)))
+              let i : ℕ = k + temps c.test + sent_temps c.sent in
+              let j : ℕ = i + updates_temps c.writes in
+              let after : Stms = stored w y c.writes (moves_text n c.moves rest) in
+              let always : Always after = λ q. stored-spelled n (carried_type n c) w names y mark-name next-name types q c.writes (moves_text n c.moves rest) (moves-spelled q c.moves rest (all q)) in
+              sends-spelled n w names d (k + temps c.test) c.sent (carried_type n c) (act n w y i c.writes (where_kept n w y j c after)) t.sent t.sent_low t.carried
+              (acts-spelled c i j after t shallow always (suc d) (omega (arith, deep))) (acts-spelled c i j after t shallow always d (omega (arith, deep)))
 
       all-written : (cs : List NetChoice) (k : ℕ) → AllByRecursion (Told n) cs → AllByRecursion (λ (c : NetChoice). Shallow c.writes) cs → AllByRecursion WrittenSpelled (all_written n w y k cs)
       all-written [] k t shallow = tt
-      all-written (c ∷ cs) k t shallow = (written-spelled c k t.0 shallow.0, all-written cs (k + choice_temps c) t.1 shallow.1)
+      all-written (c ∷ cs) k t shallow = (written-spelled c k t.0 shallow.0, all-written cs (k + choice_temps n c) t.1 shallow.1)
 
       pub part-spelled : AllByRecursion (Told n) ds → AllByRecursion (λ (c : NetChoice). Shallow c.writes) ds → are_stms 399 (data_part n j ds).body ≡ true
       part-spelled t shallow =

@@ -3,10 +3,11 @@ use Rattle.std.proofs.Common.{◌≡◌, ℕ, ◌+◌, ◌<◌, ◌≤◌, ℤ, 
 use Rattle.std.specs.List.{AllByRecursion}
 use Rattle.std.proofs.lemmas.Bool.{eqb-false}
 use Rattle.cif_term.specs.Tree.{NetExpr, net_expr, NetForm, n_truth, n_number, n_loc, n_var, n_input, n_alg, n_received, n_minus, n_plus, n_not, n_abs, n_min, n_max, n_sum, n_product, n_compare, n_and, n_or, n_implies, n_iff, n_if, NetExprs, no_net_exprs, net_exprs, NetTerms, no_net_terms, net_terms, NetFactors, no_net_factors, net_factors, NetBranches, no_net_branches, net_branches, NetUpdate, net_set, net_choose, NetUpdates, no_net_updates, net_updates, NetUpdateBranches, no_net_update_branches, net_update_branches}
+use Rattle.grammar.specs.Pieces.{Text}
 use Rattle.cif_base.specs.declared.types.Ty.{Ty}
 use Rattle.cif_model.specs.Net.{NetAlg, Net}
 use Rattle.cif_model.specs.Inline.{defined_by}
-use Rattle.cif_model.specs.Listing.{NetChoice}
+use Rattle.cif_model.specs.Listing.{NetChoice, all_hold}
 use Rattle.cif_model.specs.Table.{carried_type}
 use Rattle.cif_model.proofs.PartLaws.{all-append}
 use Rattle.st_ast.specs.Exec.{is_within, type_at}
@@ -17,6 +18,7 @@ use Rattle.plc_face.proofs.FaceLaws.{declared-type}
 use Rattle.plc_expr.specs.Held.{OwnPlaces}
 use Rattle.plc_expr.specs.Sorts.{is_boolean, type_by, own_types, form_types, terms_types, factors_types, list_types, branches_types}
 use Rattle.plc_expr.specs.Texts.{Naming}
+use Rattle.plc_act.specs.Keeps.{asked}
 use Rattle.plc_act.specs.Own.{bodies_types, choice_types, conditions_types, sent_types, update_types, updates_types}
 use Rattle.plc_act.proofs.Kept.{Declares}
 use Rattle.plc_parts.specs.Parts.{defined_types}
@@ -105,9 +107,11 @@ sent-free n (Some e) = expr-free n None e
 pub choices-free : (n : Net) (cs : List NetChoice) → AllByRecursion IsFree (flat_map (choice_types n) cs)
 choices-free n [] = tt
 choices-free n (c ∷ cs) =
+    let kept : List StTy = own_types n None (all_hold (asked n c)) in
     all-append IsFree (choice_types n c) (flat_map (choice_types n) cs)
-    (all-append IsFree (own_types n None c.test) (sent_types n c.sent ++ updates_types n (carried_type n c) c.writes) (expr-free n None c.test)
-    (all-append IsFree (sent_types n c.sent) (updates_types n (carried_type n c) c.writes) (sent-free n c.sent) (updates-free n (carried_type n c) c.writes))) (choices-free n cs)
+    (all-append IsFree (own_types n None c.test) (sent_types n c.sent ++ (updates_types n (carried_type n c) c.writes ++ kept)) (expr-free n None c.test)
+    (all-append IsFree (sent_types n c.sent) (updates_types n (carried_type n c) c.writes ++ kept) (sent-free n c.sent)
+    (all-append IsFree (updates_types n (carried_type n c) c.writes) kept (updates-free n (carried_type n c) c.writes) (expr-free n None (all_hold (asked n c)))))) (choices-free n cs)
 
 -- those of definitions
 pub algs-free : (n : Net) (as' : List NetAlg) → AllByRecursion IsFree (defined_types n as')
@@ -137,3 +141,10 @@ module _ (vars : List StVar) (w : Naming) (base : ℕ) where
     place = λ k from below. (one-free low ts d free k from (omega (arith, below, long))).0;
     holds_any = λ k from below. (one-free low ts d free k from (omega (arith, below, long))).1;
   }
+
+-- by whatever naming they have these names
+pub same-places : (vars : List StVar) (w v : Naming) (base low count : ℕ) → v.own ≡ w.own → OwnPlaces vars w base low count → OwnPlaces vars v base low count
+same-places vars w v base low count same own = record {
+  place = λ k from below. subst (λ (f : ℕ → Text). place_of vars (f k) ≡ base + k) (sym same) (own.place k from below);
+  holds_any = own.holds_any;
+}

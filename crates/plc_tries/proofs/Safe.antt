@@ -1,5 +1,6 @@
--- The expressions of the choices of a table are safe in each state: each has a kind, and stays in 64 bits. Where nothing is
--- received they are so whatever the channel carries, and the updates where what they receive is in its range.
+-- The expressions of the choices of a table, and the state invariants that these ask, are safe in each state: each has a kind,
+-- and stays in 64 bits. Where nothing is received they are so whatever the channel carries, and the updates where what they
+-- receive is in its range.
 use Rattle.std.proofs.Common.{◌≡◌, ℕ, zero, suc, ℤ, pos, Bool, true, false, List, [], ◌∷◌, ◌++◌, map, Option, Some, None, refl, sym, subst, slice_get, ◌&&◌, arith}
 use Rattle.std.specs.Prelude.{IsTrue, is_some, option_map, option_to_list}
 use Rattle.std.specs.List.{list_all, AllByRecursion}
@@ -15,9 +16,10 @@ use Rattle.cif_model.specs.Interval.{declared_ranges, range_of, truths}
 use Rattle.cif_model.specs.Kinds.{Kind, bool_kind, fits, has_type, kinds_in}
 use Rattle.cif_model.specs.Listing.{NetChoice}
 use Rattle.cif_model.specs.Meaning.{system_of_net, true_in, type_range, value_in}
+use Rattle.cif_model.specs.Counts.{most_depth}
 use Rattle.cif_model.specs.Parts.{divides, parts, is_narrow}
 use Rattle.cif_model.specs.Reads.{names_no_alg}
-use Rattle.cif_model.specs.Rules.{is_plain_expr}
+use Rattle.cif_model.specs.Rules.{is_plain, is_plain_expr}
 use Rattle.cif_model.specs.Shown.{channel_range, channel_type}
 use Rattle.cif_model.specs.Table.{carried_type, choice_stands, sent_stands}
 use Rattle.cif_model.proofs.Orders.{Lies, lies-from_test}
@@ -25,13 +27,16 @@ use Rattle.cif_model.proofs.Passing.{and-left, and-right}
 use Rattle.cif_model.proofs.PartLaws.{all-append, parts_hold}
 use Rattle.cif_model.proofs.PlainLaws.{fit-at, never}
 use Rattle.cif_choices.proofs.Ranging.{plain-any}
+use Rattle.cif_choices.proofs.Sound.{AllSound}
 use Rattle.plc_gen.proofs.Facts.{Standing, standing}
-use Rattle.plc_expr.specs.Safe.{HasBits, IsSafe, Setting, value_at}
-use Rattle.plc_expr.proofs.Plain.{safe}
+use Rattle.cif_safe.specs.Safe.{HasBits, IsSafe, Setting, value_at}
+use Rattle.cif_safe.proofs.Plain.{safe}
 use Rattle.plc_act.specs.Asked.{setting_of}
+use Rattle.plc_act.specs.Keeps.{asked}
 use Rattle.plc_act.specs.Ready.{IsSafeChoice}
 use Rattle.plc_act.specs.Sends.{carries, received_in}
 use Rattle.plc_act.proofs.Keeping.{some-kind}
+use Rattle.plc_parts.proofs.Asked.{asked-sound}
 
 -- ---- one expression
 
@@ -124,6 +129,10 @@ module _ (n : Net) (net : is_net n ≡ true) (s : State) (is_state : IsState (sy
   sent-safe r (Some t) (Some e) stands plain =
       let q = some-kind (λ k. has_type t k && fits n None k e) (kinds_in n) stands in (unreceived-safe r q.0 e (and-left _ _ plain) (and-right _ _ q.1), tt)
 
+  sound-safe : (es : List NetExpr) → AllSound n truths most_depth es → AllByRecursion (IsSafe (setting_of n s (pos 0))) es
+  sound-safe [] h = tt
+  sound-safe (e ∷ es) h = (unreceived-safe truths bool_kind e h.0.plain h.0.kind, sound-safe es h.1)
+
 -- what is received where it is in the range of the channel
 module _ (n : Net) (c : NetChoice) (f : NetExpr → ℤ) where
   abbrev received_by : Option NetExpr → ℤ
@@ -144,9 +153,10 @@ module _ (n : Net) (c : NetChoice) (f : NetExpr → ℤ) where
   received-typed (net_chan_of t) None same fit u is = never same
   received-typed (net_chan_of t) (Some e) same fit u is = subst (λ v. in_range (type_range v) (f e) ≡ true) (some-same t u is) fit
 
-pub choice-safe : (n : Net) (c : NetChoice) → is_net n ≡ true → choice_stands n c ≡ true
+pub choice-safe : (n : Net) (c : NetChoice) → is_plain n ≡ true → choice_stands n c ≡ true
     → ((s : State) → IsState (system_of_net n) s → true_in n s c.test ≡ true → is_some c.sent ≡ is_some (carried_type n c)) → IsSafeChoice n c
-choice-safe n c net stands sends s is_state =
+choice-safe n c is stands sends s is_state =
+    let net : is_net n ≡ true = and-left _ _ (and-left _ _ (and-left _ _ is)) in
     let r : Range = channel_range (channel_of n c.event) in
     let plain = and-right _ _ (and-left _ _ stands) in
     let up : updates_stand n (carried_type n c) c.writes ≡ true = and-right _ _ (and-left _ _ (and-left _ _ stands)) in
@@ -160,4 +170,5 @@ choice-safe n c net stands sends s is_state =
           (carried_type n c) (received-typed n c (value_in n s (pos 0)) (channel_of n c.event) c.sent (sends s is_state h) fit) (updates_exprs c.writes)
           (plain-parts (is_plain_expr n) (λ e. record { value = e; received = r }) (option_to_list c.sent) (updates_exprs c.writes) (and-right _ _ plain))
           (updates-kinds n (carried_type n c) c.writes up);
+      keeps = sound-safe n net s is_state (asked n c) (asked-sound n is c);
     }

@@ -36,10 +36,10 @@ use Rattle.plc_face.proofs.FaceLaws.{Typed, below, pairwise-length, places-diffe
 use Rattle.plc_gen.specs.Faces.{alg_face_of, face_of_net, is_boolean as is_bool_type}
 use Rattle.plc_gen.specs.Given.{AlgsHold, KeepsOthers, ShowsAlgs, asked}
 use Rattle.plc_gen.proofs.Declaring.{AllDeclared}
-use Rattle.plc_gen.proofs.Facts.{Standing, none-of, standing}
+use Rattle.plc_gen.proofs.Facts.{Standing, standing}
 use Rattle.plc_gen.proofs.Framing.{algs-declared}
 use Rattle.plc_expr.specs.Held.{Prepares}
-use Rattle.plc_expr.specs.Safe.{HasBits, IsSafe, Setting, value_at}
+use Rattle.cif_safe.specs.Safe.{HasBits, IsSafe, Setting, value_at}
 use Rattle.plc_expr.specs.Sorts.{own_types}
 use Rattle.plc_expr.specs.Texts.{Naming, before, temps, text}
 use Rattle.plc_expr.proofs.Sorting.{bool-by, types-length}
@@ -236,7 +236,7 @@ module _ (n : Net) (cs : List NetChoice) (U C : ℕ) (parts : HasParts n cs U C)
 
   r-declared : AllDeclared (data_program n cs U C).vars letter.R class.Output 0 (map alg_face (map alg_face_of n.algs))
   r-declared =
-      algs-declared n (all_own n cs) (map asked (data_parts n cs)) (shown_part n (shown_first n cs)).body U C net (none-of n.invariants parts.silent) (own-letters n cs U C parts.few_own)
+      algs-declared n (all_own n cs) (map asked (data_parts n cs)) (shown_part n (shown_first n cs)).body U C net parts.plain (own-letters n cs U C parts.few_own)
 
   none-typed : (u : Ty) → None ≡ Some u → in_range (type_range u) (pos 0) ≡ true
   none-typed u h = absurd (none-some u h)

@@ -1,8 +1,7 @@
 -- The parts of a net with data try their events, in the program of all events.
-use Rattle.std.proofs.Common.{◌≡◌, ℕ, ◌+◌, ◌-◌, ◌<◌, ℤ, true, List, [], map, length, Some, flat_map, sym, subst, ◌∙◌, arith}
+use Rattle.std.proofs.Common.{◌≡◌, ℕ, ◌+◌, ◌-◌, ◌<◌, true, List, [], map, length, Some, flat_map, sym, subst, ◌∙◌, arith}
 use Rattle.std.specs.Prelude.{nat_eq, slice_get}
 use Rattle.std.specs.List.{AllByRecursion, range_with_len}
-use Rattle.cif_system.specs.System.{State}
 use Rattle.cif_model.specs.Net.{Net}
 use Rattle.cif_model.specs.Exprs.{targets}
 use Rattle.cif_model.specs.Facts.{has, is_net}
@@ -18,10 +17,11 @@ use Rattle.plc_gen.specs.Events.{choices_of}
 use Rattle.plc_gen.specs.Faces.{face_of_net}
 use Rattle.plc_gen.specs.Given.{asked}
 use Rattle.plc_gen.proofs.Choosing.{all-filter, all-of}
-use Rattle.plc_gen.proofs.Facts.{none-of}
 use Rattle.plc_expr.proofs.Sorting.{bool-by, types-length}
 use Rattle.plc_expr.proofs.There.{there}
-use Rattle.plc_act.specs.Asked.{Promises, setting_of}
+use Rattle.cif_safe.specs.Safe.{Setting}
+use Rattle.plc_expr.specs.Texts.{Naming}
+use Rattle.plc_act.specs.Asked.{Promises}
 use Rattle.plc_act.specs.Own.{choice_types, event_vars}
 use Rattle.plc_act.specs.Parts.{AreDeclared, all_temps, data_part, event_faces, event_naming, ifs_from}
 use Rattle.plc_act.specs.Ready.{IsSafeChoice}
@@ -32,9 +32,10 @@ use Rattle.plc_act.proofs.Parts.{types-length as faces-types, vars-there}
 use Rattle.plc_act.proofs.Promised.{promised}
 use Rattle.plc_act.proofs.Targets.{once-all}
 use Rattle.plc_parts.specs.Parts.{HasParts, data_parts, data_program}
+use Rattle.plc_parts.proofs.Asked.{invariants-named}
 use Rattle.plc_tries.proofs.Safe.{choice-safe}
 use Rattle.plc_tries.proofs.Carrying.{sends-carried}
-use Rattle.plc_tries.proofs.Free.{choices-free, own-places}
+use Rattle.plc_tries.proofs.Free.{choices-free, own-places, same-places}
 use Rattle.plc_tries.proofs.Own.{HasPart, has-part, range-at}
 use Rattle.plc_tries.proofs.Declared.{are-declared, first_place, mark-declared}
 
@@ -45,16 +46,13 @@ module _ (n : Net) (cs : List NetChoice) (U C : ℕ) (parts : HasParts n cs U C)
   net : is_net n ≡ true
   net = and-left _ _ (and-left _ _ (and-left _ _ parts.plain))
 
-  no-invariants : n.invariants ≡ []
-  no-invariants = none-of n.invariants parts.silent
-
   stands : AllByRecursion (λ (c : NetChoice). choice_stands n c ≡ true) (choices_of cs e)
   stands = all-filter (λ (c : NetChoice). choice_stands n c ≡ true) (λ (c : NetChoice). nat_eq c.event e) cs (all-of (λ (c : NetChoice). choice_stands n c ≡ true) cs parts.guarded.stands)
 
   -- of each choice of the table
   all-safe : AllByRecursion (IsSafeChoice n) cs
   all-safe = all-of (IsSafeChoice n) cs (λ k c at.
-      choice-safe n c net (parts.guarded.stands k c at) (λ s is_state. sends-carried n c s net (parts.guarded.stands k c at) (parts.guarded.written k c at) (parts.guarded.tests k c s at)))
+      choice-safe n c parts.plain (parts.guarded.stands k c at) (λ s is_state. sends-carried n c s net (parts.guarded.stands k c at) (parts.guarded.written k c at) (parts.guarded.tests k c s at)))
 
   safe : AllByRecursion (IsSafeChoice n) (choices_of cs e)
   safe = all-filter (IsSafeChoice n) (λ (c : NetChoice). nat_eq c.event e) cs all-safe
@@ -72,23 +70,25 @@ module _ (n : Net) (cs : List NetChoice) (U C : ℕ) (parts : HasParts n cs U C)
   abbrev types : List StTy
   types = flat_map (choice_types n) (choices_of cs e)
 
-  count-is : length types ≡ all_temps (choices_of cs e)
+  count-is : length types ≡ all_temps n (choices_of cs e)
   count-is = faces-types n (types-length n) (choices_of cs e)
 
   ifs : Declares (data_program n cs U C).vars (event_naming n (choices_of cs e) part.number) (first_place n) (ifs_from n (choices_of cs e) part.number) types
   ifs = declares-ifs n p (first_place n) part.number here declared count-is
       (λ (v : ℕ) (h : has (event_vars here) v ≡ true). vars-there n v here stands (sym (once-all (flat_map (λ (c : NetChoice). targets c.writes) here) v) ∙ h))
 
-  kept : (s : State) (r : ℤ) → Promises (data_program n cs U C).vars (event_naming n (choices_of cs e) part.number) (setting_of n s r) (first_place n) (ifs_from n (choices_of cs e) part.number)
-      (ifs_from n (choices_of cs e) part.number + all_temps (choices_of cs e))
-  kept s r =
+  kept : (v : Naming) (x : Setting) → v.own ≡ (event_naming n (choices_of cs e) part.number).own → Promises (data_program n cs U C).vars v x (first_place n) (ifs_from n (choices_of cs e) part.number)
+      (ifs_from n (choices_of cs e) part.number + all_temps n (choices_of cs e))
+  kept v x same =
       let low : ℕ = ifs_from n (choices_of cs e) part.number in
-      promised p.vars (event_naming n here part.number) (setting_of n s r) (first_place n) low (low + all_temps here) (omega arith)
-      (own-places p.vars (event_naming n here part.number) (first_place n) low types (low + all_temps here - low) (omega (arith, count-is)) ifs (choices-free n here))
+      let count : ℕ = low + all_temps n here - low in
+      promised p.vars v x (first_place n) low (low + all_temps n here) (omega arith)
+      (same-places p.vars (event_naming n here part.number) v (first_place n) low count same
+      (own-places p.vars (event_naming n here part.number) (first_place n) low types count (omega (arith, count-is)) ifs (choices-free n here)))
 
   tried : TriesEvent (face_of_net n) (system_of_net n) (data_program n cs U C) (data_part n part.number (choices_of cs e)) e
   tried =
-      safe-parts-tried n cs p (first_place n) part.number e net parts.guarded no-invariants parts.small_variables parts.small_inputs within safe
+      safe-parts-tried n cs p (first_place n) part.number e net parts.guarded (invariants-named n parts.plain) parts.small_variables parts.small_inputs within safe
       (mark-declared n cs U C parts.few_own) declared (types-length n) (λ r k x fit passes. bool-by n r k x fit passes) (λ r k x fit passes. there n r k x fit passes) kept
 
   pub event-tried : TriesEvent (face_of_net n) (system_of_net n) (data_program n cs U C) (part_of (map asked (data_parts n cs)) e) e

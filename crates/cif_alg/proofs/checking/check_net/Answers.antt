@@ -13,5 +13,5 @@ returns-in_err-check_algebraic_intervals-clause-refused c =
 
 pub returns-clause-keeps : goal.returns-clause-keeps
 returns-clause-keeps c =
-    keeps (net_tree c.args.net.now) c.requires (order-acyclic (net_tree c.args.net.now) c.in_ok-order.order c.in_ok-order.ensures.order) c.in_ok-check_algebraic_intervals.ensures.divides c.in_ok-check_algebraic_intervals.ensures.narrow
+    keeps (net_tree c.args.net.now) (order-acyclic (net_tree c.args.net.now) c.in_ok-order.order c.in_ok-order.ensures.order) c.in_ok-check_algebraic_intervals.ensures.divides c.in_ok-check_algebraic_intervals.ensures.narrow
     c.in_ok-check_counts.ensures.small

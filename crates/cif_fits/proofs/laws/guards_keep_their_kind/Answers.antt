@@ -2,4 +2,4 @@ use Rattle.cif_fits.proofs.FitLaws.{guards-fit}
 use Rattle.cif_fits.proofs.laws.guards_keep_their_kind.Goals as goal
 
 pub returns : goal.returns
-returns c = λ t d at all built keeps small few m. guards-fit t d built keeps small few m at all
+returns c = λ t d at all keeps small few m. guards-fit t d keeps small few m at all

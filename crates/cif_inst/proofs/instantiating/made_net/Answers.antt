@@ -1,13 +1,19 @@
 use Rattle.std.proofs.Common.{List, map, ◌∙◌, ap}
 use Rattle.cif_net.specs.View.{event_tree}
 use Rattle.cif_net.specs.declared.events.Event.{Event}
-use Rattle.cif_inst.specs.Views.{row_tree}
-use Rattle.cif_inst.specs.declared.rows.Row.{Row}
+use Rattle.cif_rows.specs.Views.{row_tree}
+use Rattle.cif_rows.specs.declared.rows.Row.{Row}
 use Rattle.cif_inst.proofs.NetLaws.{IsMade, matched_names, fits_with, represents_with}
 use Rattle.cif_inst.proofs.instantiating.made_net.Goals as goal
 
 pub all_events-requires-clause-rows : goal.all_events-requires-clause-rows
 all_events-requires-clause-rows c = ap (λ (rs : List Row). map row_tree rs) c.as_slice-rows.ensures.value ∙ c.in_ok-components.ensures
+
+pub predicates_of-requires-clause-names : goal.predicates_of-requires-clause-names
+predicates_of-requires-clause-names c = matched_names c.args.typing.now.looking.now c.requires.types.names c.requires.kinds
+
+pub predicates_of-requires-clause-rows : goal.predicates_of-requires-clause-rows
+predicates_of-requires-clause-rows c = ap (λ (rs : List Row). map row_tree rs) c.as_slice-rows.ensures.value ∙ c.in_ok-components.ensures
 
 pub alphabets_of-requires-clause-rows : goal.alphabets_of-requires-clause-rows
 alphabets_of-requires-clause-rows c = ap (λ (rs : List Row). map row_tree rs) c.as_slice-rows.ensures.value ∙ c.in_ok-components.ensures
@@ -26,9 +32,8 @@ objects_of-requires-clause-rows c = ap (λ (rs : List Row). map row_tree rs) c.a
 
 pub invariant_of-result : goal.invariant_of-result
 invariant_of-result c =
-    let made : IsMade c.args.typing.now.looking.now (map row_tree c.as_slice-rows.result.now) c.in_ok-autos.autos c.in_ok-events.events c.in_ok-objects.objects.inputs c.in_ok-objects.objects.vars c.in_ok-objects.objects.algs = record {
+    let made : IsMade c.args.typing.now.looking.now (map row_tree c.as_slice-rows.result.now) c.in_ok-autos.autos c.in_ok-events.events c.in_ok-objects.objects.inputs c.in_ok-objects.objects.vars c.in_ok-objects.objects.algs c.in_ok-predicates.predicates.exclusions c.in_ok-predicates.predicates.invariants = record {
       names = matched_names c.args.typing.now.looking.now c.requires.types.names c.requires.kinds;
-      built = c.requires.forms;
       kinds = c.requires.kinds;
       kept = c.in_ok-alphabets.ensures.none;
       of_source = ap (λ (rs : List Row). map row_tree rs) c.as_slice-rows.ensures.value ∙ c.in_ok-components.ensures;
@@ -37,18 +42,19 @@ invariant_of-result c =
       read = c.in_ok-objects.ensures.inputs;
       stored = c.in_ok-objects.ensures.variables;
       defined = c.in_ok-objects.ensures.algebraic;
+      excluded = c.in_ok-predicates.ensures.exclusions;
+      kept_always = c.in_ok-predicates.ensures.invariants;
     } in
     record {
-      fits = fits_with c.args.typing.now.looking.now (map row_tree c.as_slice-rows.result.now) c.in_ok-autos.autos c.in_ok-events.events c.in_ok-objects.objects.inputs c.in_ok-objects.objects.vars c.in_ok-objects.objects.algs made c.new.result c.new-2.result
-          c.new.ensures c.new-2.ensures c.nets_of_sources_are_nets.ensures
+      fits = fits_with c.args.typing.now.looking.now (map row_tree c.as_slice-rows.result.now) c.in_ok-autos.autos c.in_ok-events.events c.in_ok-objects.objects.inputs c.in_ok-objects.objects.vars c.in_ok-objects.objects.algs c.in_ok-predicates.predicates.exclusions c.in_ok-predicates.predicates.invariants made
+          c.nets_of_sources_are_nets.ensures
           (c.counted_trees_have_small_parts.ensures c.args.typing.now.looking.now.spec.now c.requires.countable c.requires.small) (c.trees_have_small_arguments.ensures c.args.typing.now.looking.now.spec.now c.requires.small);
     }
 
 pub returns-clause-represents : goal.returns-clause-represents
 returns-clause-represents c =
-    let made : IsMade c.args.typing.now.looking.now (map row_tree c.as_slice-rows.result.now) c.in_ok-autos.autos c.in_ok-events.events c.in_ok-objects.objects.inputs c.in_ok-objects.objects.vars c.in_ok-objects.objects.algs = record {
+    let made : IsMade c.args.typing.now.looking.now (map row_tree c.as_slice-rows.result.now) c.in_ok-autos.autos c.in_ok-events.events c.in_ok-objects.objects.inputs c.in_ok-objects.objects.vars c.in_ok-objects.objects.algs c.in_ok-predicates.predicates.exclusions c.in_ok-predicates.predicates.invariants = record {
       names = matched_names c.args.typing.now.looking.now c.requires.types.names c.requires.kinds;
-      built = c.requires.forms;
       kinds = c.requires.kinds;
       kept = c.in_ok-alphabets.ensures.none;
       of_source = ap (λ (rs : List Row). map row_tree rs) c.as_slice-rows.ensures.value ∙ c.in_ok-components.ensures;
@@ -57,6 +63,8 @@ returns-clause-represents c =
       read = c.in_ok-objects.ensures.inputs;
       stored = c.in_ok-objects.ensures.variables;
       defined = c.in_ok-objects.ensures.algebraic;
+      excluded = c.in_ok-predicates.ensures.exclusions;
+      kept_always = c.in_ok-predicates.ensures.invariants;
     } in
-    represents_with c.args.typing.now.looking.now (map row_tree c.as_slice-rows.result.now) c.in_ok-autos.autos c.in_ok-events.events c.in_ok-objects.objects.inputs c.in_ok-objects.objects.vars c.in_ok-objects.objects.algs made c.new.result c.new-2.result
-    c.new.ensures c.new-2.ensures c.nets_represent_their_sources.ensures
+    represents_with c.args.typing.now.looking.now (map row_tree c.as_slice-rows.result.now) c.in_ok-autos.autos c.in_ok-events.events c.in_ok-objects.objects.inputs c.in_ok-objects.objects.vars c.in_ok-objects.objects.algs c.in_ok-predicates.predicates.exclusions c.in_ok-predicates.predicates.invariants made
+    c.nets_represent_their_sources.ensures

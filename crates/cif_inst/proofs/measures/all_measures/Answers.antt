@@ -1,7 +1,7 @@
 use Rattle.std.proofs.Common.{◌<◌, length, sym, subst}
 use Rattle.cif_source.specs.Objects.{components_of}
 use Rattle.cif_translate.specs.Looking.{source_for}
-use Rattle.cif_inst.proofs.RowAutoLaws.{row_below}
+use Rattle.cif_rows.proofs.RowBodyLaws.{row_below}
 use Rattle.cif_inst.proofs.measures.all_measures.Goals as goal
 
 pub add_row-requires-clause-component : goal.add_row-requires-clause-component

@@ -117,8 +117,8 @@ returns-clause-longer_is_too_big g c file bytes names sure = tool.longer_is_too_
 pub returns-clause-other_text_is_refused : goal.returns-clause-other_text_is_refused
 returns-clause-other_text_is_refused g c file bytes names sure = tool.other_text_is_refused (texts g c) (files_of g c) (out_of g c) c.run_words-ended.result c.run_words-ended.ensures.came c.report.result c.report.ensures.unless_memory file bytes names sure
 
-pub returns-clause-built_is_done : goal.returns-clause-built_is_done
-returns-clause-built_is_done g c file bytes names sure = tool.built_is_done (texts g c) (files_of g c) (out_of g c) c.run_words-ended.result c.run_words-ended.ensures.came c.report.result c.report.ensures.unless_memory file bytes names sure
+pub returns-clause-source_is_done : goal.returns-clause-source_is_done
+returns-clause-source_is_done g c file bytes names sure = tool.source_is_done (texts g c) (files_of g c) (out_of g c) c.run_words-ended.result c.run_words-ended.ensures.came c.report.result c.report.ensures.unless_memory file bytes names sure
 
 pub returns-clause-longer_program_is_too_big : goal.returns-clause-longer_program_is_too_big
 returns-clause-longer_program_is_too_big g c x st is told sure = replays.longer_program_is_too_big x (files_of g c) (out_of g c) c.run_words-ended.result

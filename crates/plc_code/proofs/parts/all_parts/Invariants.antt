@@ -3,6 +3,7 @@ use Rattle.std.specs.List.{AllByRecursion, range_with_len}
 use Rattle.cif_net.specs.View.{choice_tree, net_tree}
 use Rattle.plc_gen.specs.Given.{own_variables, part_tree}
 use Rattle.plc_parts.specs.Parts.{data_parts, parts_from}
+use Rattle.plc_code.specs.After.{AreSame}
 use Rattle.plc_code.specs.Named.{AreNames, IsNamedChoice}
 use Rattle.plc_code.specs.Order.{Ascending}
 use Rattle.plc_code.proofs.parts.all_parts.Given as goal
@@ -14,5 +15,6 @@ invariant-loop-event l = record {
   named : AllByRecursion (IsNamedChoice (net_tree l.net)) (map choice_tree l.rest);
   ascending : Ascending l.event (map choice_tree l.rest);
   names : AreNames (net_tree l.net) l.names;
+  same : AreSame l.tables.scratch.after l.names;
   next : l.next ≡ 2 + length (own_variables (map part_tree l.parts));
 }

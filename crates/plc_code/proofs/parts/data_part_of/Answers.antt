@@ -8,6 +8,7 @@ use Rattle.plc_gen.specs.Given.{part_tree}
 use Rattle.plc_gen.specs.declared.given.Part.{Part}
 use Rattle.plc_parts.specs.Parts.{part_for}
 use Rattle.plc_code.specs.Outlines.{StandOnce}
+use Rattle.plc_code.proofs.Aftering.{same_still}
 use Rattle.plc_code.proofs.Marking.{stand-once}
 use Rattle.plc_code.proofs.Parting.{part-is}
 use Rattle.plc_code.proofs.parts.data_part_of.Goals as goal
@@ -15,6 +16,10 @@ use Rattle.plc_code.proofs.parts.data_part_of.Goals as goal
 pub declared-requires-clause-once : goal.declared-requires-clause-once
 declared-requires-clause-once c =
     subst StandOnce (sym c.in_ok-outline.ensures.vars) (stand-once (flat_map (λ (d : NetChoice). targets d.writes) (map choice_tree c.args.choices.now)))
+
+pub statements-requires-clause-same : goal.statements-requires-clause-same
+statements-requires-clause-same c =
+    same_still (net_tree c.args.net.now) c.args.tables.now.scratch.after c.args.names.now c.declared.new.names c.requires.same c.requires.names c.in_ok-variables.ensures.still_names
 
 pub returns-clause-part : goal.returns-clause-part
 returns-clause-part c =
@@ -27,5 +32,5 @@ returns-clause-part c =
     ∙ part-is n cs c.args.first c.in_ok-outline.outline c.declared.new.names c.declared.new.new c.in_ok-outline.ensures c.in_ok-variables.ensures.still_names c.requires.named c.in_ok-variables.ensures.names c.in_ok-variables.ensures.in_range
     c.in_ok-variables.ensures.received
     c.in_ok-variables.field-0.ifs c.in_ok-marks.marks.done c.in_ok-variables.field-0.variables (view_stmts c.in_ok-body.body) c.in_ok-variables.ensures.ifs c.in_ok-marks.ensures.done
-    c.in_ok-variables.ensures.variables c.in_ok-body.ensures)
+    c.in_ok-variables.ensures.variables c.in_ok-body.ensures.statements)
     c.new.ensures

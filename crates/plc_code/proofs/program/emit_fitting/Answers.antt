@@ -29,7 +29,7 @@ frame-requires-clause-fits c =
     let last_is : c.in_ok-last.last ≡ shown_first n cs + length (shown_part n (shown_first n cs)).own =
     c.in_ok-last.ensures ∙ ap (λ k. c.in_ok-parts.field-0.next + k) (c.len.ensures ∙ ap (λ (p : EventPart). length p.own) shown_is) ∙ ap (λ j. j + length (shown_part n (shown_first n cs)).own) next_is in
     let has : HasParts n cs c.args.bounds.unc c.args.bounds.con =
-    has-parts c.args.guarded.now c.args.bounds.unc c.args.bounds.con c.in_ok-last.last c.requires.silent c.in_ok-names.ensures.small_variables c.in_ok-names.ensures.small_inputs c.requires.unc c.requires.con last_is
+    has-parts c.args.guarded.now c.args.bounds.unc c.args.bounds.con c.in_ok-last.last c.in_ok-names.ensures.small_variables c.in_ok-names.ensures.small_inputs c.requires.unc c.requires.con last_is
     c.if-last-gt-MOST_OWN.false in
     subst (λ (q : EventPart). FrameFits n c.args.bounds.unc c.args.bounds.con (map part_tree c.in_ok-parts.field-0.parts) q) (sym shown_is)
     (subst (λ (ps : List EventPart). FrameFits n c.args.bounds.unc c.args.bounds.con ps (shown_part n (shown_first n cs))) (sym parts_is) (c.requires.fits has))
@@ -44,6 +44,6 @@ returns-clause-parts c =
     let last_is : c.in_ok-last.last ≡ shown_first n cs + length (shown_part n (shown_first n cs)).own =
     c.in_ok-last.ensures ∙ ap (λ k. c.in_ok-parts.field-0.next + k) (c.len.ensures ∙ ap (λ (p : EventPart). length p.own) shown_is) ∙ ap (λ j. j + length (shown_part n (shown_first n cs)).own) next_is in
     let has : HasParts n cs c.args.bounds.unc c.args.bounds.con =
-    has-parts c.args.guarded.now c.args.bounds.unc c.args.bounds.con c.in_ok-last.last c.requires.silent c.in_ok-names.ensures.small_variables c.in_ok-names.ensures.small_inputs c.requires.unc c.requires.con last_is
+    has-parts c.args.guarded.now c.args.bounds.unc c.args.bounds.con c.in_ok-last.last c.in_ok-names.ensures.small_variables c.in_ok-names.ensures.small_inputs c.requires.unc c.requires.con last_is
     c.if-last-gt-MOST_OWN.false in
     if-ok c.frame.result (HasParts n cs c.args.bounds.unc c.args.bounds.con) has

@@ -5,9 +5,6 @@ use Rattle.cif_generate.specs.Generates.{generate_of}
 use Rattle.cif_generate.proofs.GenerateLaws as law
 use Rattle.cif_generate.proofs.command.GenerateCommand.text.Goals as goal
 
-pub generate_text-requires-clause-silent : goal.generate_text-requires-clause-silent
-generate_text-requires-clause-silent g c = law.loaded_silent (g.F.Files.content c.args.files.now) c.args.self.now.file.now c.in_ok-net.net c.in_ok-net.ensures.loaded
-
 pub generate_text-requires-clause-shallow : goal.generate_text-requires-clause-shallow
 generate_text-requires-clause-shallow g c = law.loaded_shallow (g.F.Files.content c.args.files.now) c.args.self.now.file.now c.in_ok-net.net c.in_ok-net.ensures.loaded
 

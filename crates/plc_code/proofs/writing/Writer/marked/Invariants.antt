@@ -5,11 +5,14 @@ use Rattle.st_ast.specs.View.{view_stmts}
 use Rattle.plc_expr.specs.Written.{naming_of}
 use Rattle.plc_gen.specs.Events.{parts_text}
 use Rattle.plc_act.specs.Events.{all_written}
+use Rattle.plc_code.specs.After.{AreSame}
 use Rattle.plc_code.specs.Writers.{new_names_of}
 use Rattle.plc_code.proofs.writing.Writer.marked.Given as goal
 
 abbrev pub invariant-loop-choice : goal.invariant-loop-choice
-invariant-loop-choice l =
-    append (view_stmts l.all)
-    (parts_text l.marks.done (all_written (net_tree l.self.net.now) (naming_of l.self.names.now) (new_names_of l.self.new.now) l.next (map choice_tree (drop l.choice-index l.choices))))
-    ≡ append (view_stmts l.initial.all) (parts_text l.marks.done (all_written (net_tree l.self.net.now) (naming_of l.self.names.now) (new_names_of l.self.new.now) l.initial.next (map choice_tree l.choices)))
+invariant-loop-choice l = record {
+  same : AreSame l.scratch.after l.self.names.now;
+  statements : append (view_stmts l.all)
+      (parts_text l.marks.done (all_written (net_tree l.self.net.now) (naming_of l.self.names.now) (new_names_of l.self.new.now) l.next (map choice_tree (drop l.choice-index l.choices))))
+      ≡ append (view_stmts l.initial.all) (parts_text l.marks.done (all_written (net_tree l.self.net.now) (naming_of l.self.names.now) (new_names_of l.self.new.now) l.initial.next (map choice_tree l.choices)));
+}

@@ -8,16 +8,16 @@ use Rattle.plc_code.specs.Writers.{new_names_of}
 use Rattle.plc_code.proofs.Several.{event-chained, event-marked, only-chain}
 use Rattle.plc_code.proofs.writing.Writer.several.Goals as goal
 
-pub returns-then-marks : goal.returns-then-marks
-returns-then-marks c =
+pub returns-then-marks-clause-statements : goal.returns-then-marks-clause-statements
+returns-then-marks-clause-statements c =
     subst (λ ss. IfOk c.marked.result (λ all. view_stmts all ≡ ss))
     (sym (event-marked (net_tree c.args.self.now.net.now) (naming_of c.args.self.now.names.now) (new_names_of c.args.self.now.new.now) c.args.next c.args.marks.now.done c.args.choices.now c.requires.several (sym c.requires.is_used ∙ c.if-marks.true)))
-    c.marked.ensures
+    c.marked.ensures.statements
 
-pub returns : goal.returns
-returns c =
+pub returns-clause-statements : goal.returns-clause-statements
+returns-clause-statements c =
     IfOk-weaker c.only.result _ _
     (only-chain c.into_inner.result c.in_ok-branches.branches (all_written (net_tree c.args.self.now.net.now) (naming_of c.args.self.now.names.now) (new_names_of c.args.self.now.new.now) c.args.next (map choice_tree c.args.choices.now)) _
-    (ap view_stmt c.into_inner.ensures ∙ c.in_ok-first_of.ensures) c.in_ok-branches.ensures
+    (ap view_stmt c.into_inner.ensures ∙ c.in_ok-first_of.ensures) c.in_ok-branches.ensures.branches
     (event-chained (net_tree c.args.self.now.net.now) (naming_of c.args.self.now.names.now) (new_names_of c.args.self.now.new.now) c.args.next c.args.marks.now.done c.args.choices.now c.requires.several (sym c.requires.is_used ∙ c.if-marks.false)))
     c.only.ensures

@@ -1,0 +1,3 @@
+pub mod StatedLaws
+pub mod PredicateLaws
+pub mod WeightLaws

@@ -1,0 +1,4 @@
+pub mod Stated
+pub mod Views
+pub mod Predicates
+pub mod Weights
