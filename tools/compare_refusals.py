@@ -4,14 +4,13 @@
     tools/compare_refusals.py PROGRAM [SOURCES [SEED]]
     tools/compare_refusals.py --self-test
 
-Where rules are broken, what is told is to be one of the refusals of the first phase that has any: tokens, grammar, forms that are
-not built yet, names, bodies as written, those of definitions too (kinds, uses of channels, arguments, constants, initial locations, what
+Where rules are broken, what is told is to be one of the refusals of the first phase that has any: tokens, grammar, names, bodies as written, those of definitions too (kinds, uses of channels, arguments, constants, initial locations, what
 is assigned, the definitions of algebraic variables), components, instances among them (alphabets, roles, the number of objects, ranges
-of constants), algebraic variables that need themselves, the widths and sizes of what is evaluated, the number of choices. Then `generate`
+of constants), algebraic variables that need themselves, the widths and sizes of what is evaluated and the state invariants, the number
+of choices. Then `generate`
 asks that each event has a class. A source that breaks none is accepted. Besides random sources, about half of them with definitions, there
-are the worked examples, some at each limit, and some of which memory is said to be out. The status is 1 where the two differ. A source
-with one of the LATER forms of which it is told that they are not built yet is passed over and counted. The rules are in `plain_nets.py`,
-`plain_algebra.py`, `plain_channels.py`, `plain_data.py` and `plain_names.py`; with `--self-test` they are compared with worked examples.
+are the worked examples, some at each limit, and some of which memory is said to be out. The status is 1 where the two differ. The
+rules are in `plain_nets.py`, `plain_invariants.py`, `plain_algebra.py`, `plain_channels.py`, `plain_data.py` and `plain_names.py`; with `--self-test` they are compared with worked examples.
 How deep a source nests is not bounded here.
 """
 import itertools
@@ -24,20 +23,19 @@ import tempfile
 from collections import Counter, namedtuple
 
 import worked_channels
+import worked_invariants
 from compare_grammar import CIF
 from earley import Grammar, changed, judged
 from plain_nets import MOST_CHOICES, MOST_NODES, broken, line_of, unclassed
-from plain_sources import LATER, Source
+from plain_sources import Source
 from plain_tokens import Token, Unread, lexed
 from random_nets import made_text, spelled, tokens_of
 
 GRAMMAR = Grammar(CIF)
 # Longer programs are checked, and not generated.
 LONGEST = 50000
-# What is due: the lines that may be told, those that `generate` may tell, and what all choices and algebraic variables count. A line that
-# ends in `at` may have any place in the text. A source with one of the LATER forms may be told to be not built, too.
-Verdict = namedtuple("Verdict", "lines generated nodes has_later")
-NOT_BUILT = re.compile(r"(30 NotBuilt at) ([0-9]+)$")
+# What is due: the lines that may be told, those that `generate` may tell, and what all choices and algebraic variables count.
+Verdict = namedtuple("Verdict", "lines generated nodes")
 OUT_OF_MEMORY = "cif: out of memory\n"
 
 
@@ -47,43 +45,37 @@ def judgement(text):
     """The verdict on a source."""
     tokens, due = lexed(text)
     if due:
-        return Verdict(set(map(line_of, due)), set(), 0, False)
+        return Verdict(set(map(line_of, due)), set(), 0)
     try:
         source = Source(text)
     except Unread:
-        return Verdict({unread_line(text, tokens)}, set(), 0, False)
+        return Verdict({unread_line(text, tokens)}, set(), 0)
     due, net = broken(source)
-    has_later = bool(source.forms & set(LATER))
     if due:
-        return Verdict(set(map(line_of, due)), set(), 0, has_later)
-    return Verdict(set(), set(map(line_of, unclassed(net))), net.nodes(), has_later)
+        return Verdict(set(map(line_of, due)), set(), 0)
+    return Verdict(set(), set(map(line_of, unclassed(net))), net.nodes())
 
 
 def unread_line(text, tokens):
-    """What is told of a text that is no source of these forms: it is one of others, or none."""
+    """What is told of a text that is no source."""
     taken, is_whole = judged(GRAMMAR, "spec", [token.kind for token in tokens])
+    assert not is_whole, text
     places = [token.at for token in tokens] + [len(text)]
-    return "30 NotBuilt at" if is_whole else line_of(("NotRead", ("at", places[taken])))
+    return line_of(("NotRead", ("at", places[taken])))
 
 
 def status_of(line):
     return 5 if line == OUT_OF_MEMORY else 8 if line.split()[0] in ("25", "28") else 7
 
 
-def is_allowed(line, lines, text):
-    """Whether a line is one of those that may be told."""
-    place = NOT_BUILT.match(line)
-    if place and int(place.group(2)) <= len(text):
-        line = place.group(1)
-    return line in lines
-
-
 # ---- random sources
 
-FAULTS = {"name": 0.15, "twice": 0.1, "goto": 0.3, "initials": 0.4, "alphabet": 0.5, "class": 0.3, "later": 0.05, "kind": 0.06,
+FAULTS = {"name": 0.15, "twice": 0.1, "goto": 0.3, "initials": 0.4, "alphabet": 0.5, "class": 0.3, "kind": 0.06,
           "constant": 0.6, "own": 0.3, "doubly": 0.3, "range": 0.2, "divisor": 0.5, "wide": 0.05, "cycle": 1, "count": 0.3, "argument": 0.2,
-          "unfit": 0.4, "equations": 0.3, "loop": 0.7, "role": 0.3, "mixed": 0.4, "received": 0.05}
+          "unfit": 0.4, "equations": 0.3, "loop": 0.7, "role": 0.3, "mixed": 0.4, "received": 0.05,
+          "kept": 0.4, "reads": 0.7}
 OF_CHANNELS = ("name", "kind", "range", "divisor", "wide", "alphabet", "doubly", "role", "role", "mixed", "mixed", "received", "received")
+OF_INVARIANTS = ("name", "kind", "divisor", "wide", "received", "kept", "kept", "kept", "reads", "reads", "loop")
 OF_ALGEBRA = ("name", "kind", "constant", "own", "divisor", "wide", "equations", "equations", "loop", "loop")
 OF_DEFINITIONS = ("name", "cycle", "count", "argument", "unfit", "unfit", "unfit", "alphabet", "alphabet", "divisor", "wide", "class")
 OF_DATA = ("name", "twice", "kind", "constant", "own", "doubly", "range", "divisor", "wide")
@@ -97,9 +89,12 @@ def faulty(choose):
     faults = OF_DEFINITIONS if has_definitions and choose.random() < 0.5 else faults
     forms = choose.choice([(), (), ("input",), ("alg",), ("alg",), ("input", "alg"), ("alg", "channel"), ("channel",), ("channel",)])
     forms = forms if has_data else tuple(set(forms) & {"channel"})
+    forms += ("invariant",) * (choose.random() < 0.5)
     faults = OF_ALGEBRA if forms and choose.random() < 0.5 else faults
     faults = OF_CHANNELS if "channel" in forms and choose.random() < 0.6 else faults
+    faults = OF_INVARIANTS if "invariant" in forms and choose.random() < 0.5 else faults
     kinds = choose.sample(sorted(faults), choose.choice([0, 1, 1, 1, 2, 2, 3]))
+    forms += ("input",) * (has_data and "reads" in kinds)
     # a fault in one place, or in many
     rarity = choose.choice([0.3, 1]) if has_data else 1
     tokens = tokens_of(made_text(choose, {kind: FAULTS[kind] * rarity for kind in kinds}, has_data, has_definitions, forms))
@@ -359,7 +354,7 @@ class Tool:
     """The program that is asked, in a folder of its own."""
 
     def __init__(self, program, folder):
-        self.program, self.folder, self.not_built = os.path.abspath(program), folder, 0
+        self.program, self.folder = os.path.abspath(program), folder
 
     def tells(self, command, text):
         """The status, what is written, and the line that is told, without what stands before the refusal."""
@@ -369,14 +364,11 @@ class Tool:
         told = re.match(r"cif: a\.cif: ([^\n]*)\n\Z", ran.stderr.decode("latin-1"))
         return ran.returncode, ran.stdout.decode("latin-1"), told.group(1) if told else ran.stderr.decode("latin-1")
 
-    def fault(self, command, text, lines, has_later=False):
+    def fault(self, command, text, lines):
         """What is wrong with the answer, or None; without lines the source is to be accepted."""
         status, out, line = self.tells(command, text)
-        if has_later and status == 7 and NOT_BUILT.match(line):
-            self.not_built += command == "check"
-            return None
         if lines:
-            is_right = is_allowed(line, lines, text) and status == status_of(line) and out == ""
+            is_right = line in lines and status == status_of(line) and out == ""
         else:
             is_right = (status, line) == (0, "") and (out == "ok\n" if command == "check" else is_program(out))
         if is_right:
@@ -385,10 +377,14 @@ class Tool:
         return "%s: wanted %s, given status %d %r %r" % (command, wanted, status, line, out[:60])
 
     def faults(self, text, verdict):
-        found = [self.fault("check", text, verdict.lines, verdict.has_later)]
+        found = [self.fault("check", text, verdict.lines)]
         if verdict.nodes <= LONGEST:
-            found.append(self.fault("generate", text, verdict.lines or verdict.generated, verdict.has_later))
+            found.append(self.fault("generate", text, verdict.lines or verdict.generated))
         return [fault for fault in found if fault]
+
+
+def all_at_limits():
+    return at_limits() + with_data() + with_definitions() + with_algebra() + worked_channels.at_limits() + worked_invariants.at_limits()
 
 
 def is_program(text):
@@ -400,10 +396,8 @@ def main(program, sources=1000, seed=1):
     with tempfile.TemporaryDirectory() as folder:
         tool = Tool(program, folder)
         memory = [(what, text, OUT_OF_MEMORY) for what, text in too_large_to_make()]
-        limits = [it + (False,) for it in at_limits() + with_data() + with_definitions() + with_algebra() + memory]
-        limits += [it + ("channel" in LATER,) for it in worked_channels.at_limits()]
-        for what, text, line, has_later in limits:
-            fault = tool.fault("check", text, {line} if line else set(), has_later)
+        for what, text, line in all_at_limits() + memory:
+            fault = tool.fault("check", text, {line} if line else set())
             if fault:
                 differ += 1
                 print("%s: %s" % (what, fault))
@@ -414,8 +408,6 @@ def main(program, sources=1000, seed=1):
             if found:
                 differ += 1
                 print("%r\n  %s" % (text[:4000], "\n  ".join(found)))
-    if tool.not_built:
-        print("%d sources were passed over, since a form of theirs is told to be not built" % tool.not_built)
     shown = ", ".join("%s %d" % pair for pair in sorted(notes.items(), key=lambda pair: (len(pair[0]), pair[0])))
     print("%d sources and the worked examples (%s), and those at the limits: %d differences" % (sources, shown, differ))
     return 1 if differ else 0
@@ -430,7 +422,7 @@ WORKED = [
     ("automaton a: /*/", {"3 OpenComment at 13"}, set()),
     ("event e", {"4 NotRead at 7"}, set()),
     ("automaton a: alphabet; alphabet; location: initial; end", {"4 NotRead at 23"}, set()),
-    ("invariant true;", {"30 NotBuilt at"}, set()),
+    ("invariant true;", set(), set()),
     ("automaton a: location: marked true; end", {"11 Initials at 10 count 0"}, set()),
     ("automaton a: location: initial; marked true; end", set(), set()),
     ("event e; event e;", {"6 Duplicate at 15 first 6"}, {"28 Unclassed event e"}),
@@ -537,7 +529,6 @@ DEFINED = [
     # what is not read, and what is not built
     ("group def D(alg int v;): end", {"4 NotRead at 22"}, set()),
     ("automaton a: x: D(); location: initial; end", {"4 NotRead at 13"}, set()),
-    ("group def D(alg int v): invariant v > 0; end", {"30 NotBuilt at"}, set()),
     # what is instantiated is a definition, with an argument for each parameter
     ("x: D();", {"5 Unknown at 3"}, set()),
     ("event D; x: D();", {"7 WrongKind at 12"}, set()),
@@ -636,7 +627,6 @@ ALGEBRA = [
     ("alg v = 1;", {"4 NotRead at 6"}, set()),
     ("equation a.b = 1;", {"4 NotRead at 10"}, set()),
     ("automaton a: location: initial; alg int v = 1; end", {"4 NotRead at 32"}, set()),
-    ("input bool i; invariant i;", {"30 NotBuilt at"}, set()),
     ("input bool i; alg bool b = i;", set(), set()),
     ("input bool i; event e;", set(), {"28 Unclassed event e"}),
     # names
@@ -750,15 +740,14 @@ ALGEBRA = [
 ]
 
 
-ALL_WORKED = WORKED + DATA + DEFINED + ALGEBRA + worked_channels.REFUSED
+ALL_WORKED = WORKED + DATA + DEFINED + ALGEBRA + worked_channels.REFUSED + worked_invariants.REFUSED
 
 
 def self_test():
     for text, lines, generated in ALL_WORKED:
         verdict = judgement(text)
         assert verdict.lines == lines and (lines or verdict.generated == generated), (text, verdict)
-    limits = at_limits() + with_data() + with_definitions() + with_algebra() + worked_channels.at_limits()
-    short = [it for it in limits if len(it[1]) < 200000]
+    short = [it for it in all_at_limits() if len(it[1]) < 200000]
     for what, text, line in short:
         assert judgement(text).lines == ({line} if line else set()), what
     assert judgement("event e, f; " + crowd([2] * 13 + [1] * 47) + crowd([2923], {0}, "f")).nodes == MOST_NODES

@@ -1,6 +1,6 @@
 #!/usr/bin/env python3
 """Compares the scans of generated programs with a simulation of their sources, on random automata that synchronise, with data, inputs,
-algebraic variables, channels and definitions, and without.
+algebraic variables, channels, invariants and definitions, and without.
 
     tools/compare_scans.py PROGRAM [SOURCES [SEED]]
     tools/compare_scans.py --self-test
@@ -8,13 +8,13 @@ algebraic variables, channels and definitions, and without.
 A scan takes a row of values for the inputs, which stay so throughout, makes its rounds of the uncontrollable events, and then those of
 the controllable ones. A round takes the events of its class in ascending number, and for each the first choice that makes a step, if
 there is one: the automata that have the event in their alphabet take an edge for it whose guard is so, or stay where they monitor it and
-have no such edge, and along a channel one sends and another one receives. What the edges send and assign is computed in the state before,
-and there is no step where a value leaves its range. `generate` writes the program of a source, and `replay` gives the locations, the
+have no such edge, and along a channel one sends and another one receives. What the event needs and what disables it is asked of the state
+before, what the edges send and assign is computed in it, and there is no step where a value leaves its range or a state invariant is
+false after it. `generate` writes the program of a source, and `replay` gives the locations, the
 values and those of the algebraic variables after each scan. Compared are that table, and the variables in which the program holds these.
 And each scan is to be legal, by a search over all choices: a run of uncontrollable events and then one of controllable events leads from
 one state to the next, where a run of fewer events than the bound of its class ends where none of the class has a step. The status is 1
-where something differs. A source with one of the LATER forms of which `generate` tells that it is not built yet is passed over and
-counted. The simulation is in `plain_nets.py`; with `--self-test` it and the search are compared with worked examples, which the program is
+where something differs. The simulation is in `plain_nets.py`; with `--self-test` it and the search are compared with worked examples, which the program is
 asked for, too, and each of some wrong simulations is to differ from one of these.
 """
 import functools
@@ -30,8 +30,9 @@ from collections import Counter, namedtuple
 from plain_channels import VOID
 from plain_expressions import Argument
 from plain_nets import Net, Party, broken, line_of, names_of
-from plain_sources import LATER, Source
+from plain_sources import Source
 from random_nets import made_text, spelled, tokens_of
+import worked_invariants
 from worked_channels import LEGAL as LEGAL_CHANNELS, SCANS as CHANNELS, WRONG
 
 MOST_SCANS, MOST_TRIED, MOST_NODES, DEFAULT_ROUNDS = 6, 400, 30000, 100
@@ -86,13 +87,14 @@ def automata_together(choose, has_data=False, has_definitions=False, forms=()):
 
 def some_forms(choose):
     """Whether a source has inputs, algebraic variables and channels."""
-    return choose.choice([(), (), ("input",), ("input",), ("alg",), ("input", "alg"), ("channel",), ("channel",), ("channel", "input"),
-                          ("channel", "input", "alg")])
+    forms = choose.choice([(), (), ("input",), ("input",), ("alg",), ("input", "alg"), ("channel",), ("channel",), ("channel", "input"),
+                           ("channel", "input", "alg")])
+    return forms + ("invariant",) * (choose.random() < 0.5)
 
 
 def automata_alone(choose):
     """A source without data, at times with channels, which are without values."""
-    return lively(choose, False, choose.choice([(), ("channel",)]))
+    return lively(choose, False, choose.choice([(), ("channel",), ("invariant",), ("channel", "invariant")]))
 
 
 def data_together(choose):
@@ -114,8 +116,17 @@ def is_lively(choose, net):
     if not any(is_heard(net, file) for file in files) or net.algebraic and not any(is_changed(net, file) for file in files):
         return False
     channels = channels_of(net)
+    if (any(net.exclusions.values()) or net.invariants) and not any(is_restrained(net, file) for file in files):
+        return False
     wanted = {event for event in channels if net.events[event].channel != VOID} or channels
     return not wanted or any(wanted & fired_channels(net, file) for file in files)
+
+
+def is_restrained(net, file):
+    """Whether an invariant holds a choice back in a scan with the first row."""
+    net.steps = {}
+    net.scan(2, 2, first_begin(net, file))
+    return is_forbidden(net) or would_break(net)
 
 
 def channels_of(net):
@@ -147,7 +158,7 @@ def is_changed(net, file):
 def instances_together(choose):
     """Definitions and instances, mostly with data, and mostly such that the first rounds lead on and arguments are read."""
     is_moved, is_read, has_data = choose.random() < 0.9, choose.random() < 0.5, choose.random() < 0.85
-    forms, tries = some_forms(choose) if has_data else choose.choice([(), ("channel",)]), choose.choice(TRIES)
+    forms, tries = some_forms(choose) if has_data else choose.choice([(), ("channel",), ("invariant",)]), choose.choice(TRIES)
     while True:
         text, tries = automata_together(choose, has_data, True, forms), tries - 1
         _, net = judged(text)
@@ -289,7 +300,6 @@ def illegal_scans(net, trial, table, notes):
 
 # ---- the comparison
 
-NOT_BUILT = re.compile(r"status 7 cif: source: 30 NotBuilt at [0-9]+\n\Z")
 BLOCK = re.compile(r"""\b(VAR|VAR_INPUT|VAR_OUTPUT)\b(.*?)\bEND_VAR\b""", re.S)
 DECLARED = re.compile(r"""\b([IHLVPQR][0-9]\w*)\s*:\s*(BOOL|LINT)(?:\s*\(\s*(-?)\s*([0-9]+)\s*\.\.\s*(-?)\s*([0-9]+)\s*\))?
     (?:\s*:=\s*(?:(TRUE|FALSE)|(-?)\s*([0-9]+)))?\s*;""", re.X)
@@ -370,6 +380,10 @@ def noted(net, trial, notes):
     notes["send a value along one"] += any(net.events[event].channel != VOID for event in channels & fired)
     notes["have a choice of who sends or receives"] += any(len(net.groups(event)) > 1 for event in channels & fired)
     notes["leave the range of a channel"] += sends_out_of_range(net)
+    notes["have exclusions"] += any(net.exclusions.values())
+    notes["are held back by one"] += is_forbidden(net)
+    notes["have state invariants"] += bool(net.invariants)
+    notes["would break one"] += would_break(net)
 
 
 def reads_an_argument(expr):
@@ -386,6 +400,17 @@ def sends_out_of_range(net):
     return any(net.sent(choice, event, state) is None for choice, event, state in agreed(net))
 
 
+def is_forbidden(net):
+    """Whether a choice agreed that an exclusion forbids."""
+    return any(not net.is_permitted(event, state) for _, event, state in agreed(net))
+
+
+def would_break(net):
+    """Whether a choice made no step since a state invariant would be false after it."""
+    afters = (net.after(choice, event, state) for choice, event, state in agreed(net) if net.is_permitted(event, state))
+    return any(after is not None and not net.is_kept(after) for after in afters)
+
+
 def agreed(net):
     """Some choices that agreed, in states that were met."""
     return ((choice, event, state) for event, state in list(net.steps)[:50] for choice in net.choices(event)[:50]
@@ -396,9 +421,6 @@ def differences(program, folder, trial, notes):
     """What is wrong with the answers, a line for each."""
     _, net = judged(trial.text)
     generated, given = answers(program, folder, trial)
-    if net.forms & set(LATER) and NOT_BUILT.match(generated):
-        notes["not built"] += 1
-        return []
     noted(net, trial, notes)
     if generated.startswith("status "):
         return ["generate: %s" % generated]
@@ -421,9 +443,6 @@ def main(program, sources=500, seed=1):
                 differ += 1
                 print("%r %s, rows %r\n  %s" % (trial.text, " ".join(trial.options), trial.file, "\n  ".join(found)))
     searched = "%d scans searched, %d not" % (notes.pop("scans searched", 0), notes.pop("scans not searched", 0))
-    if notes["not built"]:
-        print("%d sources were passed over, since a form of theirs is told to be not built" % notes["not built"])
-    del notes["not built"]
     shown = ", ".join("%d %s" % (count, what) for what, count in sorted(notes.items()))
     print("%d sources and the worked examples, of which in the first scan %s; %s: %d differences" % (sources, shown, searched, differ))
     return 1 if differ else 0
@@ -749,8 +768,8 @@ def example(name):
 
 def all_worked():
     """The source, the most rounds of each class, the rows, and the table."""
-    alone = WORKED + DEFINED + ALGEBRAIC + CHANNELS + [(example(name), 1, 1, table) for name, table in EXAMPLES]
-    found = [(text, unc, con, rows_alone(table.count("\n") - 1), table) for text, unc, con, table in alone] + WITH_INPUTS
+    alone = WORKED + DEFINED + ALGEBRAIC + CHANNELS + worked_invariants.SCANS + [(example(name), 1, 1, table) for name, table in EXAMPLES]
+    found = [(text, unc, con, rows_alone(table.count("\n") - 1), table) for text, unc, con, table in alone] + WITH_INPUTS + worked_invariants.WITH_INPUTS
     found.append((example("handover.cif"), 1, 1, example("handover-rows.csv"), HANDOVER))
     return found + [(example("cell.cif"), bound, bound, example("cell-rows.csv"), CELL) for bound in (1, 100)]
 
@@ -766,16 +785,18 @@ def self_test():
         assert not due, (text, list(map(line_of, due)))
         given = net.table(unc, con, rows_of(net, file))
         assert given == table, (text, table, given)
-    for text, unc, con, before, ends in LEGAL + LEGAL_CHANNELS:
+    all_legal = LEGAL + LEGAL_CHANNELS + worked_invariants.LEGAL
+    for text, unc, con, before, ends in all_legal:
         net = Net(Source(text))
         unc_runs, con_runs = Runs(net, "uncontrollable"), Runs(net, "controllable")
         states = itertools.product(*[range(lo, hi + 1) for lo, hi in net.ranges])
         given = {after for after in states if is_legal(unc_runs, con_runs, unc, con, before, after)}
         assert given == ends, (text, ends, given)
-    for wrong in WRONG:
-        given = [wrong(Source(text)).table(unc, con, [()] * (table.count("\n") - 1)) == table for text, unc, con, table in CHANNELS]
-        assert not all(given), wrong.__name__
-    print("the simulation agrees with %d worked examples, and the search with %d" % (len(worked), len(LEGAL + LEGAL_CHANNELS)))
+    for wrongs, scans in ((WRONG, CHANNELS), (worked_invariants.WRONG, worked_invariants.SCANS)):
+        for wrong in wrongs:
+            given = [wrong(Source(text)).table(unc, con, [()] * (table.count("\n") - 1)) == table for text, unc, con, table in scans]
+            assert not all(given), wrong.__name__
+    print("the simulation agrees with %d worked examples, and the search with %d" % (len(worked), len(all_legal)))
     return 0
 
 

@@ -131,7 +131,7 @@ class Data:
                 yield from ((body, bound, INT) for bound in type_.more)
         for slot in source.valued:
             yield slot.home, slot.value, self.kind_of_type(slot.home, slot.type)
-        yield from ((body, expr, BOOL) for body, expr in source.marks)
+        yield from ((body, expr, BOOL) for body, expr in source.predicates)
         for body in source.bodies:
             yield from ((body, it.value, self.kind_of_slot(body.slot(it.name))) for it in body.definitions)
         for body, expr, parameter in self.arguments():

@@ -1,9 +1,9 @@
 """Says what sources of automata with data and definitions mean: which rules they break, their choices and scans.
 
 Plain and slow on purpose, and shares nothing with the program: the CIF 3 language reference ("Syntax", "Scoping", "Component
-definition and instantiation", "Synchronization", "Channels", "Monitoring", "Updates", "Algebraic variables", "Input variables") and the
-rules that README and `docs/DEFINITIONS.md` print, written down once more. A parameter is followed to its argument wherever it is named,
-and an algebraic variable to its definition, and nothing is put in its place. Invariants are not read here.
+definition and instantiation", "Synchronization", "Channels", "Monitoring", "Updates", "Algebraic variables", "Input variables",
+"Invariants") and the rules that README and `docs/DEFINITIONS.md` print, written down once more. A parameter is followed to its argument wherever it is named,
+and an algebraic variable to its definition, and nothing is put in its place.
 """
 import itertools
 import re
@@ -14,6 +14,7 @@ from plain_algebra import definitions_of, in_order, of_cycles, of_equations
 from plain_channels import RECEIVES, SENDS, SYNCS, VOID
 from plain_data import Data, Values, assigned, exprs_of, kinds_due
 from plain_expressions import Algebraic, Expr, depth, evaluated, interval, joined_interval, size
+from plain_invariants import ALWAYS, NEEDS, Predicate, are_kept, count_of as count_of_invariant, of_state_invariants, permits
 from plain_names import ALG, CONSTANT, DISC, EVENT, INPUT, LOCATION, TYPE, Frame, denoted, due as names_due
 
 # Arguments that name parameters nest as deep as instances do.
@@ -38,7 +39,8 @@ def objects_in(body):
     predicate of a declaration is one."""
     declared = sum(slot.sort in (EVENT, TYPE, CONSTANT, DISC, INPUT, ALG) for slot in body.slots)
     automaton = body.automaton
-    return 1 + declared + body.mark_count + body.equation_count + (len(automaton.places) + len(automaton.edges) if automaton else 0)
+    written = body.mark_count + body.equation_count + sum(map(count_of_invariant, body.invariants))
+    return 1 + declared + written + (len(automaton.places) + len(automaton.edges) if automaton else 0)
 
 
 def components_of(source):
@@ -121,7 +123,6 @@ class Net:
 
     def __init__(self, source):
         frames, _ = components_of(source)
-        self.forms = source.forms
         self.data, automata, events = Data(source), automata_in(frames), declared_in(frames, EVENT)
         variables, inputs = declared_in(frames, DISC), declared_in(frames, INPUT)
         self.numbers = {event: number for number, event in enumerate(events)}
@@ -134,6 +135,10 @@ class Net:
         self.algebraic = list(algebraic.values())
         self.ordered = in_order(self.algebraic)
         self.parties = [self.party(frame) for frame in automata]
+        self.exclusions, self.invariants = defaultdict(list), []
+        for frame in frames:
+            for it in frame.body.invariants:
+                self.invariant(frame, it)
         self.ranges = [(0, party.places - 1) for party in self.parties] + [it.range for it in self.variables + self.inputs]
         self.ways, self.listed, self.steps = defaultdict(list), {}, {}
         for number, party in enumerate(self.parties):
@@ -186,15 +191,28 @@ class Net:
         updates = self.values.resolved_updates(frame, edge.updates)
         return Arc(self.number(frame, edge.use), edge.use.role, edge.origin, target, guard, sent, updates)
 
+    def invariant(self, frame, it):
+        """Adds a state invariant, or an exclusion to each of its events."""
+        predicate = Predicate(self.values.resolved(frame, it.predicate), it.predicate.at, it.form == NEEDS)
+        if it.form == ALWAYS:
+            self.invariants.append(predicate)
+        for use in it.events:
+            self.exclusions[self.number(frame, use)].append(predicate)
+
     def initial(self):
         return tuple([party.first for party in self.parties] + [it.first for it in self.variables + self.inputs])
 
     def exprs(self):
-        """The guards, sent values, conditions and right sides of all edges, and the definitions of algebraic variables."""
+        """The guards, sent values, conditions and right sides of all edges, the predicates of all invariants, and the definitions of
+        algebraic variables."""
         for arc in self.arcs():
             yield from exprs_of_arc(arc)
+        yield from (it.expr for it in self.predicates())
         for it in self.algebraic:
             yield from it.values
+
+    def predicates(self):
+        return [it for exclusions in self.exclusions.values() for it in exclusions] + self.invariants
 
     def arcs(self):
         return (arc for party in self.parties for arc in party.arcs)
@@ -213,7 +231,13 @@ class Net:
             ranges = self.ranges if channel in (None, VOID) else self.ranges + [channel]
             for expr in exprs_of_arc(arc):
                 interval(expr, ranges, due)
+        for it in self.predicates():
+            interval(it.expr, self.ranges, due)
         return due
+
+    def kept(self):
+        """The rules on state invariants."""
+        return of_state_invariants(self.invariants, len(self.parties) + len(self.variables), self.initial())
 
     def nodes(self):
         """What all choices count, and once all definitions of algebraic variables."""
@@ -243,8 +267,10 @@ class Net:
         return sum(map(count_of, self.groups(event)))
 
     def weight(self, event):
-        """What all choices of the event count: each one, its parties, and the sizes of what the edges that it takes evaluate."""
-        return sum(map(weight_of, self.groups(event)))
+        """What all choices of the event count: each one, its parties, the sizes of what the edges that it takes evaluate, and those of
+        the predicates of the event's exclusions and of all state invariants."""
+        asked = sum(size(it.expr) for it in self.exclusions[event] + self.invariants)
+        return sum(map(weight_of, self.groups(event))) + asked * self.count(event)
 
     def choices(self, event):
         """The choices in their order, each a list of (party, edge or STAYS)."""
@@ -285,11 +311,18 @@ class Net:
                 after[place] = value
         return tuple(after)
 
+    def is_permitted(self, event, state):
+        return permits(self.exclusions[event], state)
+
+    def is_kept(self, state):
+        return are_kept(self.invariants, state)
+
     def moves(self, event, state):
-        """The states after a step of the event, by its choices in their order."""
-        for choice in self.choices(event):
+        """The states after a step of the event, by its choices in their order. What the event needs and what disables it is asked of the
+        state before, and state invariants of the state after."""
+        for choice in self.choices(event) if self.is_permitted(event, state) else []:
             after = self.after(choice, event, state) if self.agrees(choice, event, state) else None
-            if after is not None:
+            if after is not None and self.is_kept(after):
                 yield after
 
     def first_step(self, event, state):
@@ -403,7 +436,7 @@ def tidied(path):
 NUMBERS = {"BadByte": 1, "NumberTooBig": 2, "OpenComment": 3, "NotRead": 4, "Unknown": 5, "Duplicate": 6, "WrongKind": 7,
            "DefinitionCycle": 8, "Mismatch": 9, "NotConstant": 10, "Initials": 11, "NotOwn": 12, "AssignedTwice": 13, "AlphabetLacks": 14,
            "RoleMixed": 15, "Equations": 16, "TooManyObjects": 17, "ConstantRange": 18, "AlgCycle": 19, "ZeroDivisor": 20, "TooWide": 21,
-           "TooLarge": 24, "TooManyChoices": 25, "Unclassed": 28, "NotBuilt": 30}
+           "InvariantReadsInput": 22, "InvariantFalse": 23, "TooLarge": 24, "TooManyChoices": 25, "Unclassed": 28}
 
 
 def line_of(refusal):
@@ -442,7 +475,7 @@ def broken(source):
         if found:
             return found, None
     net = Net(source)
-    for phase in (net.cycles, lambda: list(net.widths()) + list(of_size(net)), lambda: of_choices(net)):
+    for phase in (net.cycles, lambda: list(net.widths()) + list(net.kept()) + list(of_size(net)), lambda: of_choices(net)):
         found = set(phase())
         if found:
             return found, None

@@ -1,6 +1,6 @@
 """Reads sources of automata with data and definitions: what a text declares, bodies as written (CIF 3 language reference, "Syntax").
 
-Invariants are not read here. What the sources mean, and which rules they break, is told by `plain_nets.py` and what it stands on.
+What the sources mean, and which rules they break, is told by `plain_nets.py` and what it stands on.
 """
 from collections import namedtuple
 
@@ -8,16 +8,16 @@ from plain_algebra import Definition
 from plain_channels import RECEIVES, SENDS, SYNCS, VOID, EventUse
 from plain_data import If, Set, Type
 from plain_expressions import ExpressionReader, names_in
+from plain_invariants import ALWAYS, DISABLES, NEEDS, Invariant
 from plain_names import (
     ALG, ALG_PARAMETER, COMPONENT, CONSTANT, DEFINITION, DISC, EVENT, EVENT_PARAMETER, INPUT, INSTANCE, LITERAL, LOCATION,
     LOCATION_PARAMETER, TYPE, Body, Instance, Slot)
 from plain_tokens import Unread
 
 CLASSES = ("event", "controllable", "uncontrollable")
-AUTOMATON_WORDS = ("automaton", "plant", "requirement", "supervisor")
+KINDS = ("plant", "requirement", "supervisor")
+AUTOMATON_WORDS = ("automaton",) + KINDS
 
-# The forms for which a program may tell that they are not built yet. Who has built all of one takes it out of here.
-LATER = ()
 # An edge as written, one for each of its event uses, with all of these together; the target is None where there is no `goto`.
 Edge = namedtuple("Edge", "use together origin target guards updates")
 # An automaton as written, which may be a definition; alphabet and monitors are lists of uses, or None.
@@ -28,17 +28,17 @@ class Source(ExpressionReader):
     """What a text declares: bodies as written, those of definitions too, in text order.
 
     Also all automata, and all types with the bodies in which they stand, the slots that have a value, and the predicates of
-    declarations and locations. A body has its own types and slots with values, the number of its marking predicates, its definitions of
-    algebraic variables and the number of equations among its declarations, and its automaton, or None. A slot of a type, a constant, a
+    invariants and of markings. A body has its own types and slots with values, the number of its marking predicates, its definitions of
+    algebraic variables and the number of equations among its declarations, its invariants, and its automaton, or None. A slot of a type, a constant, a
     variable or a parameter has its body as `home`, and its `type` and `value`; one of an event or an event parameter has the `word` of
     its class and its `channel`, a type, VOID or None; one of an enumeration the names of its `literals`, and one of a literal the slot
-    `enum`. `forms` has those of LATER that stand in the source.
+    `enum`.
     """
 
     def __init__(self, text):
         super().__init__(text)
         self.bodies, self.automata = [], []
-        self.types, self.valued, self.marks, self.frames, self.forms = [], [], [], None, set()
+        self.types, self.valued, self.predicates, self.frames = [], [], [], None
         self.root = self.body_in(None, False)
         while self.next < len(self.tokens):
             self.item(self.root)
@@ -48,6 +48,7 @@ class Source(ExpressionReader):
     def body_in(self, outer, is_automaton):
         body = Body(outer, is_automaton)
         body.types, body.valued, body.mark_count, body.definitions, body.equation_count, body.automaton = [], [], 0, [], 0, None
+        body.invariants = []
         self.bodies.append(body)
         return body
 
@@ -69,12 +70,8 @@ class Source(ExpressionReader):
     def channel(self, body):
         """What is sent along the events whose names come next: VOID, a type, or None."""
         if self.skipped("void"):
-            found = VOID
-        else:
-            found = self.type_in(body) if self.is_next("bool", "int") or self.is_type_name() else None
-        if found is not None:
-            self.forms.add("channel")
-        return found
+            return VOID
+        return self.type_in(body) if self.is_next("bool", "int") or self.is_type_name() else None
 
     def is_type_name(self):
         """Whether a name comes next behind which another one stands."""
@@ -84,11 +81,6 @@ class Source(ExpressionReader):
             is_type = self.is_next("ID")
         self.next = begin
         return is_type
-
-    def primary(self):
-        if self.is_next("?"):
-            self.forms.add("channel")
-        return super().primary()
 
     def expression_in(self, body):
         """An expression, whose names are used in the body."""
@@ -177,13 +169,69 @@ class Source(ExpressionReader):
         body.equation_count += place is None
         self.take(";")
 
-    def predicates(self, body):
+    def predicate(self, body):
+        expr = self.expression_in(body)
+        self.predicates.append((body, expr))
+        return expr
+
+    def marked(self, body):
         """Marking predicates."""
         self.take("marked")
-        found = self.listed(lambda: self.expression_in(body))
-        self.marks += [(body, expr) for expr in found]
+        found = self.listed(lambda: self.predicate(body))
         self.take(";")
         return len(found)
+
+    # invariants
+
+    def invariants(self, body, has_word):
+        """Invariants behind `invariant`, which may have names, or behind a kind alone."""
+        def one():
+            if has_word and self.comes("ID", ":"):
+                self.take("ID")
+                self.take(":")
+            body.invariants.append(self.invariant(body))
+        self.listed(one)
+        self.take(";")
+
+    def invariant(self, body):
+        if self.needs_events():
+            events = self.several_events(body)
+            self.take("needs")
+            return Invariant(NEEDS, events, self.predicate(body))
+        predicate = self.predicate(body)
+        if self.skipped("disables"):
+            return Invariant(DISABLES, self.several_events(body), predicate)
+        return Invariant(ALWAYS, [], predicate)
+
+    def needs_events(self):
+        """Whether events come next that need something: several, or one name before the word."""
+        if self.is_next("{"):
+            return True
+        if not self.is_next("ID", "."):
+            return False
+        begin = self.next
+        self.name()
+        found, self.next = self.is_next("needs"), begin
+        return found
+
+    def several_events(self, body):
+        if not self.skipped("{"):
+            return [self.event_use(body)]
+        found = self.listed(lambda: self.event_use(body))
+        self.take("}")
+        return found
+
+    def comes(self, *kinds):
+        """Whether tokens of these kinds come next."""
+        return [token.kind for token in self.tokens[self.next:self.next + len(kinds)]] == list(kinds)
+
+    def is_invariant(self):
+        """Whether invariants come next, of a kind or of none, and not an automaton of that kind."""
+        if self.is_next("invariant"):
+            return True
+        if not self.is_next(*KINDS) or any(self.comes(self.tokens[self.next].kind, word) for word in ("automaton", "def")):
+            return False
+        return not self.comes(self.tokens[self.next].kind, "ID", ":")
 
     def declaration(self, body):
         """Whether a declaration comes next, which is taken then."""
@@ -196,7 +244,11 @@ class Source(ExpressionReader):
         elif self.is_next("const"):
             self.typed(body, "const", CONSTANT, True)
         elif self.is_next("marked"):
-            body.mark_count += self.predicates(body)
+            body.mark_count += self.marked(body)
+        elif self.is_invariant():
+            if not self.is_next("invariant"):
+                self.take(*KINDS)
+            self.invariants(body, self.skipped("invariant"))
         elif self.is_next("input"):
             self.inputs(body)
         elif self.is_next("alg"):
@@ -317,10 +369,10 @@ class Source(ExpressionReader):
 
     def marking(self, body):
         """`marked;`, or with predicates."""
-        if [token.kind for token in self.tokens[self.next:self.next + 2]] == ["marked", ";"]:
+        if self.comes("marked", ";"):
             self.next += 2
         else:
-            self.predicates(body)
+            self.marked(body)
 
     def edge(self, automaton):
         body, number = automaton.body, len(automaton.places) - 1
@@ -342,8 +394,6 @@ class Source(ExpressionReader):
             role, sent = SENDS, None if self.is_next(",", "when", "do", "goto", ";") else self.expression_in(body)
         elif self.skipped("?"):
             role = RECEIVES
-        if role != SYNCS:
-            self.forms.add("channel")
         return EventUse(use.name, use.at, role, sent)
 
     def update(self, body):

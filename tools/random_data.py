@@ -26,8 +26,12 @@ class DataMaker:
             self.declare_channels()
         if self.has_definitions:
             self.declare_parameters()
-        if not self.has_data:
-            return
+        if self.has_data:
+            self.declare_values()
+        if "invariant" in self.forms:
+            self.declare_invariants()
+
+    def declare_values(self):
         for _ in range(self.choose.choice([0, 1, 2, 3, 4])):
             self.constant()
         for automaton in self.automata:

@@ -1,5 +1,5 @@
-"""Makes random sources of automata that synchronise, with data, inputs, algebraic variables, channels and definitions, and without, sound
-ones and, where faults are asked for, others.
+"""Makes random sources of automata that synchronise, with data, inputs, algebraic variables, channels, invariants and definitions, and
+without, sound ones and, where faults are asked for, others.
 
 Names come from a few for each source, so that they shadow one another, and stand as dotted names, through instances too, and as names
 from the root.
@@ -11,6 +11,7 @@ from random_algebra import AlgebraMaker
 from random_channels import ChannelMaker
 from random_data import DataMaker
 from random_definitions import EVENTS, DefinitionMaker, Thing, Unreached
+from random_invariants import InvariantMaker
 
 # Names of all forms: some are the same but for case, some words of either language, some variables that programs have, some
 # leave nothing when they are tidied, and some are cut.
@@ -19,11 +20,10 @@ NAMES = ["a", "b", "e", "x", "A", "E", "Lamp", "on", "_", "__", "_k1", "__a__b",
          "n" * 39 + "_tail", "m" * 60]
 HEADS = ["automaton", "plant", "requirement", "supervisor", "plant automaton", "supervisor automaton"]
 BLANKS = [[""], [" "], ["\n"], [" ", " ", "\n", "\n  "], ["", " ", "\t", "\r\n", " /* edge $ @ ** */ ", " // c /* \n", "/**/"]]
-# Forms of other sources.
-LATER_ITEMS = ["invariant true;", "requirement a needs true;", "plant invariant true;"]
 # Where `?` may not stand, and channels of any sort: declarations, what stands in automata alone, in locations, and behind the uses of
 # an edge.
 ODD_ITEMS = ["const int k = ?;", "type t = int[0..?];", "input int[?..1] i;", "alg bool b = ?;", "equation k = ?;", "marked true, ?;",
+             "invariant ?;", "requirement a needs not ?;", "plant invariant k: 1 = ? disables {a, b};",
              "group def d(event void m): end", "automaton def d(location l; controllable bool m): location; end",
              "group def d(alg int[0..?] k): end", "x: d(?);", "x: d(a, 1 + ?);", "event void m;", "event bool m;", "event a b;",
              "controllable int[0..3] m;", "event int[3..0] m;"]
@@ -53,14 +53,14 @@ def spelled_name(parts):
     return ".".join(words)
 
 
-class Maker(DefinitionMaker, DataMaker, AlgebraMaker, ChannelMaker):
+class Maker(DefinitionMaker, DataMaker, AlgebraMaker, ChannelMaker, InvariantMaker):
     """Makes one source. Faults are chances by what is to be wrong: "name", "twice" for one declared twice, "goto", "initials" for
-    the initial locations, "alphabet" for it and what is monitored, "class" for an event without one, "later" for a form of other
-    sources; "kind" of an expression, "constant" for one that names what is none, "own" for a variable of another automaton, "doubly"
+    the initial locations, "alphabet" for it and what is monitored, "class" for an event without one; "kind" of an expression, "constant" for one that names what is none, "own" for a variable of another automaton, "doubly"
     for one assigned twice, "range" for constants, "divisor" and "wide"; "equations" for the number of definitions of an algebraic
     variable, "loop" for one that may need itself; "cycle" of definitions, "count" of arguments, "argument" for any one, and "unfit" for
     one of another kind or class; "role" for a use that fits no channel, "mixed" for several roles, "received" for `?` where it may not
-    stand. `forms` may have "channel", and with data "input" and "alg". Unreached is raised where what is wanted has no name."""
+    stand; "kept" for a state invariant that may be false at first, and "reads" for one that may read inputs. `forms` may have "channel"
+    and "invariant", and with data "input" and "alg". Unreached is raised where what is wanted has no name."""
 
     def __init__(self, choose, faults=None, has_data=False, has_definitions=False, forms=()):
         self.choose, self.faults, self.has_data, self.has_definitions, self.forms = choose, faults or {}, has_data, has_definitions, forms
@@ -123,9 +123,9 @@ class Maker(DefinitionMaker, DataMaker, AlgebraMaker, ChannelMaker):
             self.name_definitions()
         for scope in self.groups + self.automata:
             self.choose.shuffle(scope.items)
-            for fault, items in (("later", LATER_ITEMS), ("received", ODD_ITEMS + ODD_PARTS * 4 * scope.is_automaton)):
-                if self.fails(fault):
-                    scope.items.insert(self.choose.randint(0, len(scope.items)), self.choose.choice(items))
+            if self.fails("received"):
+                items = ODD_ITEMS + ODD_PARTS * 4 * scope.is_automaton
+                scope.items.insert(self.choose.randint(0, len(scope.items)), self.choose.choice(items))
 
     def declare_places(self, automaton):
         count = self.choose.choice([1, 1, 2, 2, 3, 4])

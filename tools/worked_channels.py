@@ -206,15 +206,13 @@ def at_limits():
 # ---- a source, the lines of which `check` tells one, and those of `generate` where `check` has none
 
 REFUSED = [
-    # what is not read, and what is not built
+    # what is not read
     ("event void;", {"4 NotRead at 10"}, set()),
     ("event int[0..3];", {"4 NotRead at 15"}, set()),
     ("event void int m;", {"4 NotRead at 11"}, set()),
     ("event void m; automaton a: location: initial; edge m!!; end", {"4 NotRead at 53"}, set()),
     ("event int m; automaton a: location: initial; edge m?1; end", {"4 NotRead at 52"}, set()),
     ("event int m; automaton a: location: initial; edge m! 1 2; end", {"4 NotRead at 55"}, set()),
-    ("event void m; invariant true;", {"30 NotBuilt at"}, set()),
-    ("alg int v = ?; invariant true;", {"30 NotBuilt at"}, set()),
     # the type of a channel is looked up where the channel is declared, that of a parameter in its definition
     ("event T m;", {"5 Unknown at 6"}, set()),
     ("event e; event e m;", {"7 WrongKind at 15"}, set()),
