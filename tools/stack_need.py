@@ -13,7 +13,7 @@ import tempfile
 
 MOST, STEP = 1 << 20, 16
 
-CELL = "PROGRAM Deep VAR b: BOOL := FALSE; END_VAR %s END_PROGRAM\n"
+CELL = "PROGRAM Deep VAR b: BOOL := TRUE; x: LINT; END_VAR %s END_PROGRAM\n"
 PLANT = "plant A: controllable c; disc bool b; location x: initial; edge c %s; end\n"
 
 
@@ -21,22 +21,46 @@ def nested(opens, inside, closes, depth):
     return opens * depth + inside + closes * depth
 
 
-def texts(depth):
-    """Sources and programs that nest so deep as the given number of each limit: 100 in a source, 400 in a program."""
-    of_source, of_program = 100 * depth, 400 * depth
-    inside = nested("(", "b", ")", of_program)
+def sources(depth):
+    """Sources with one form nested so deep; the limit is 100. The outermost component has depth 0."""
     return {
-        "expressions of a source": ["check", PLANT % f"when {nested('(', 'b', ')', of_source)}"],
-        "conditions in a source": ["check", PLANT % f"when {nested('if b: ', 'b', ' else b end', of_source)}"],
-        "updates of a source": ["check", PLANT % f"do {nested('if b: ', 'b := true', ' end', of_source)}"],
-        "components of a source": ["check", nested("group g: ", "", "end ", of_source)],
-        "expressions of a program": ["replay", CELL % f"b := {inside};"],
-        "negations in a program": ["replay", CELL % f"b := {'NOT ' * of_program}b;"],
-        "selections in a program": ["replay", CELL % f"b := {nested('SEL(b, b, ', 'b', ')', of_program)};"],
-        "operators of a program": ["replay", CELL % f"b := {nested('b XOR (', 'b', ')', of_program // 2)};"],
-        "statements of a program": ["replay", CELL % nested("IF b THEN ", "b := b;", " END_IF;", of_program)],
-        "expressions in statements": ["replay", CELL % nested("IF b THEN ", f"b := {inside};", " END_IF;", of_program)],
+        "expressions of a source": PLANT % f"when {nested('(', 'b', ')', depth)}",
+        "conditions in a source": PLANT % f"when {nested('if b: ', 'b', ' else b end', depth)}",
+        "updates of a source": PLANT % f"do {nested('if b: ', 'b := true', ' end', depth)}",
+        "components of a source": nested("group g: ", "", "end ", depth + 1),
     }
+
+
+def assignments(depth):
+    """Assignments of expressions so deep; an operator and the parentheses around its operand are two levels."""
+    return {
+        "parentheses": f"b := {nested('(', 'b', ')', depth)};",
+        "complements": f"b := {'NOT ' * depth}b;",
+        "negations": f"x := {'- ' * depth}x;",
+        "selections": f"b := {nested('SEL(b, b, ', 'b', ')', depth)};",
+        "exclusive operators": f"b := {nested('b XOR (', 'b XOR b' if depth % 2 else 'b', ')', depth // 2)};",
+    }
+
+
+def in_statements(inside, depth):
+    """Conditions that hold, one inside the other."""
+    return nested("IF b THEN ", inside, " END_IF;", depth)
+
+
+def programs(depth):
+    """Programs with one form nested so deep, alone and in statements that nest as deep; the limit of both is 400."""
+    bodies = {"statements of a program": in_statements("b := b;", depth)}
+    for name, assignment in assignments(depth).items():
+        bodies[f"{name} of a program"] = assignment
+        bodies[f"{name} in statements"] = in_statements(assignment, depth)
+    return {name: CELL % body for name, body in bodies.items()}
+
+
+def texts(of_source, of_program):
+    """The commands with the texts that they read, which nest so deep."""
+    asked = {name: ("check", text) for name, text in sources(of_source).items()}
+    asked.update({name: ("replay", text) for name, text in programs(of_program).items()})
+    return asked
 
 
 def end_of(program, words, folder, stack):
@@ -60,12 +84,12 @@ def least(program, words, folder):
 
 def main(program):
     with tempfile.TemporaryDirectory() as folder:
+        with open(f"{folder}/rows", "w") as it:
+            it.write("scan\n1\n")
         for depth, what in ((1, "at the limit"), (10, "ten times deeper")):
-            for name, (command, text) in texts(depth).items():
+            for name, (command, text) in texts(100 * depth, 400 * depth).items():
                 with open(f"{folder}/text", "w") as it:
                     it.write(text)
-                with open(f"{folder}/rows", "w") as it:
-                    it.write("scan\n1\n")
                 words = ["check", "text"] if command == "check" else ["replay", "text", "rows"]
                 stack, (status, _, told) = least(program, words, folder)
                 print(f"{stack:8} KB  {name}, {what}: status {status} {told.decode().strip()}", flush=True)
