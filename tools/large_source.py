@@ -1,4 +1,13 @@
-"""Writes a source of 4 MiB: automata with data, guards and updates, and invariants."""
+"""Writes a source of 4 MiB.
+
+    python3 tools/large_source.py [cells] > source.cif
+
+Without a word it has automata with data, guards and updates, and invariants; with `cells` it has commented copies of examples/cell.cif, in
+groups of their own, as many as the limit on objects allows, and more comments up to the size.
+"""
+
+import os
+import sys
 
 PART = """
 plant Machine{n}: // one of many
@@ -12,10 +21,12 @@ plant Machine{n}: // one of many
 end
 requirement invariant Machine{n}.stop needs Machine{n}.count > 4;
 """
+CELL = os.path.join(os.path.dirname(os.path.dirname(os.path.abspath(__file__))), "examples", "cell.cif")
 LIMIT = 4 * 1024 * 1024
+CELLS = 1500
 
 
-def source():
+def machines():
     """The parts that fit, and blanks up to the limit."""
     parts = ["input bool busy;"]
     size = len(parts[0])
@@ -29,5 +40,18 @@ def source():
         number += 1
 
 
+def cells():
+    """Each cell in a share of the limit, behind a comment that fills it."""
+    with open(CELL, encoding="utf-8") as file:
+        text = file.read()
+    share = LIMIT // CELLS
+    parts = []
+    for number in range(CELLS):
+        cell = f"group cell{number}:\n{text}end\n"
+        comment = f"// Cell {number}" + " of the line" * (share // 12)
+        parts.append(comment[: share - len(cell) - 1] + "\n" + cell)
+    return "".join(parts)
+
+
 if __name__ == "__main__":
-    print(source(), end="")
+    print(cells() if sys.argv[1:] == ["cells"] else machines(), end="")
