@@ -187,8 +187,8 @@ def at_limits():
         ("an exclusion of an event without a choice counts nothing", many + "requirement f needs true%s;" % (" and true" * 59), None),
         ("2000 operands", "invariant true%s;" % (" and true" * 1999), None),
         ("a predicate of depth 100", "invariant %strue;" % ("not " * 100), None),
-        ("a predicate of depth 101", "invariant not %strue;" % ("not " * 101), "24 TooLarge nodes 0 depth 101"),
-        ("an exclusion of depth 101", "event e; requirement e needs %strue;" % ("not " * 101), "24 TooLarge nodes 0 depth 101"),
+        ("a predicate of depth 101", "alg bool a = not false; invariant %sa;" % ("not " * 100), "24 TooLarge nodes 2 depth 101"),
+        ("an exclusion of depth 101", "alg bool a = not false; event e; requirement e needs %sa;" % ("not " * 100), "24 TooLarge nodes 2 depth 101"),
         ("99999 invariants", "invariant true%s;" % (", true" * 99998), None),
         ("one invariant more", "invariant true%s;" % (", true" * 99999), objects),
         ("20000 events, and exclusions of 79999", events + "".join(
