@@ -11,7 +11,6 @@ mod KeepLaws
 mod AddedLaws
 mod InlineLaws
 mod LimitLaws
-pub mod FreeLaws
 mod OutlineLaws
 mod Rows
 pub mod InvariantLaws

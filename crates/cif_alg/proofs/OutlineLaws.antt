@@ -2,19 +2,21 @@
 use Rattle.std.proofs.Common.{◌≡◌, ℕ, ◌+◌, true, List, [], ◌∷◌, map, length, replicate, sum_by, refl, sym, ◌∙◌, ap, arith}
 use Rattle.std.proofs.lemmas.List.Sums.{sum_by-cons}
 use Rattle.cif_model.specs.Net.{NetEdge, NetAuto, NetEvent, NetExclusion, NetInvariant, Net}
+use Rattle.cif_model.specs.Exprs.{edge_exprs}
 use Rattle.cif_model.specs.Facts.{is_net}
+use Rattle.cif_model.specs.Unfolding.{at_or}
 use Rattle.cif_term.specs.Tree.{NetExpr}
-use Rattle.cif_model.specs.Counts.{measure_by, nodes, stopped, most_nodes}
+use Rattle.cif_model.specs.Counts.{no_form, alg_measures, measure_by, nodes, stopped, most_nodes}
 use Rattle.cif_model.specs.Counts as counts
 use Rattle.cif_measure.specs.declared.measures.Measure.{Measure}
-use Rattle.cif_measure.specs.Meanings.{table_measure}
-use Rattle.cif_measure.specs.Sizes.{sizes_by}
-use Rattle.cif_measure.proofs.SizeLaws.{none-measured}
+use Rattle.cif_measure.specs.Meanings.{stopped_measure, table_measure, stopped_table}
+use Rattle.cif_measure.specs.Sizes.{AreMeasured, sizes_by, exprs_counted}
+use Rattle.cif_measure.proofs.SizeLaws.{size-told, size-of_net}
 use Rattle.cif_alg.specs.declared.tally.Tally.{Tally}
+use Rattle.cif_alg.specs.Sizes.{sizes_added}
 use Rattle.cif_alg.specs.Weighed.{cut}
 use Rattle.cif_alg.specs.Tallies.{met_with, with_edge, with_besides, edge_nodes, exclusion_nodes, invariants_nodes, changed, each_changed, opened_for, edges_noted, stays_noted, closed_for, exclusions_noted, all_tallied, tallies_nodes, counted}
 use Rattle.cif_alg.specs.Outlines.{CountedEdge, CountedAuto, CountedExclusion, counted_edge, counted_auto, counted_exclusion, counted_invariant, AreAsLarge}
-use Rattle.cif_alg.proofs.FreeLaws.{same-autos, same-exclusions, same-invariants}
 use Rattle.cif_alg.proofs.InlineLaws.{told}
 
 -- ---- the same, by what is counted
@@ -83,12 +85,40 @@ module _ (alg : ℕ → counts.Measure) where
       ∙ ap (λ ts. tallies_nodes 0 events (exclusions_noted alg exclusions ts)) (autos-by autos begin)
       ∙ ap (tallies_nodes 0 events) (exclusions-by exclusions (autos_by (map (counted_auto alg) autos) begin))
 
-pub outlined : (n : Net) (algs : List Measure) (there : ℕ → counts.Measure) (autos : List NetAuto) (exclusions : List NetExclusion) (invariants : List NetInvariant)
-    → n.algs ≡ [] → is_net n ≡ true → AreAsLarge algs there autos exclusions invariants n
-    → counted (table_measure algs) autos exclusions invariants n.events ≡ stopped most_nodes (nodes n)
-outlined n algs there autos exclusions invariants no-algs stands large =
-    counted-by (table_measure algs) autos exclusions invariants n.events
+-- ---- by the measures of the algebraic variables
+
+module _ (n : Net) (own : List Measure) (measured : AreMeasured own n) where
+  abbrev weight : ℕ → counts.Measure
+  weight = at_or no_form (alg_measures n)
+
+  same-size : (es : List NetExpr) → cut (sizes_by weight es) ≡ cut (sizes_by (table_measure own) es)
+  same-size es =
+      let m : Measure = exprs_counted (stopped_table own) (stopped_measure no_form) es in
+      sym (size-of_net own es m refl n measured) ∙ size-told own es m refl
+
+  same-edges : (xs : List NetEdge) → map (counted_edge weight) xs ≡ map (counted_edge (table_measure own)) xs
+  same-edges [] = refl
+  same-edges (x ∷ xs) = λ i. record { event = x.event; role = x.role; size = same-size (edge_exprs x) i } ∷ same-edges xs i
+
+  same-autos : (autos : List NetAuto) → map (counted_auto weight) autos ≡ map (counted_auto (table_measure own)) autos
+  same-autos [] = refl
+  same-autos (a ∷ autos) = λ i. record { alphabet = a.alphabet; monitors = a.monitors; edges = same-edges a.edges i } ∷ same-autos autos i
+
+  same-exclusions : (xs : List NetExclusion) → map (counted_exclusion weight) xs ≡ map (counted_exclusion (table_measure own)) xs
+  same-exclusions [] = refl
+  same-exclusions (x ∷ xs) = λ i. record { event = x.event; size = same-size (x.pred ∷ []) i } ∷ same-exclusions xs i
+
+  same-invariants : (xs : List NetInvariant) → map (counted_invariant weight) xs ≡ map (counted_invariant (table_measure own)) xs
+  same-invariants [] = refl
+  same-invariants (x ∷ xs) = λ i. same-size (x.pred ∷ []) i ∷ same-invariants xs i
+
+pub outlined : (n : Net) (own algs : List Measure) (autos : List NetAuto) (exclusions : List NetExclusion) (invariants : List NetInvariant)
+    → is_net n ≡ true → AreMeasured own n → AreAsLarge algs autos exclusions invariants n
+    → sizes_added (counted (table_measure algs) autos exclusions invariants n.events) own ≡ stopped most_nodes (nodes n)
+outlined n own algs autos exclusions invariants stands measured large =
+    ap (λ k. sizes_added k own)
+    (counted-by (table_measure algs) autos exclusions invariants n.events
     ∙ (λ i. counted_by (large.autos_as i) (large.exclusions_as i) (large.invariants_as i) n.events)
-    ∙ (λ i. counted_by (same-autos n no-algs stands there (table_measure []) i) (same-exclusions n no-algs stands there (table_measure []) i) (same-invariants n no-algs stands there (table_measure []) i) n.events)
-    ∙ sym (counted-by (table_measure []) n.autos n.exclusions n.invariants n.events)
-    ∙ told n [] (none-measured n no-algs) stands
+    ∙ (λ i. counted_by (same-autos n own measured n.autos i) (same-exclusions n own measured n.exclusions i) (same-invariants n own measured n.invariants i) n.events)
+    ∙ sym (counted-by (table_measure own) n.autos n.exclusions n.invariants n.events))
+    ∙ told n own measured stands

@@ -3,7 +3,9 @@ use Rattle.std.specs.Prelude.{◌≡◌, ℕ, List, [], ◌∷◌, map}
 use Rattle.cif_system.specs.System.{Role}
 use Rattle.cif_model.specs.Net.{NetEdge, NetAuto, NetExclusion, NetInvariant, Net}
 use Rattle.cif_model.specs.Exprs.{edge_exprs}
+use Rattle.cif_model.specs.Unfolding.{at_or}
 use Rattle.cif_model.specs.Counts as counts
+use Rattle.cif_model.specs.Counts.{no_form, alg_measures}
 use Rattle.cif_measure.specs.declared.measures.Measure.{Measure}
 use Rattle.cif_measure.specs.Meanings.{table_measure}
 use Rattle.cif_alg.specs.Tallies.{cut_size}
@@ -37,9 +39,8 @@ counted_exclusion alg x = record { event = x.event; size = cut_size alg (x.pred 
 abbrev pub counted_invariant : (alg : ℕ → counts.Measure) → NetInvariant → ℕ
 counted_invariant alg i = cut_size alg (i.pred ∷ [])
 
--- the same is counted of these, where an algebraic variable counts as the measure with its number, as of those of a net without
--- algebraic variables, whatever one would count there
-pub record AreAsLarge (algs : List Measure) (there : ℕ → counts.Measure) (autos : List NetAuto) (exclusions : List NetExclusion) (invariants : List NetInvariant) (n : Net) : Type 0 where
-  pub autos_as : map (counted_auto (table_measure algs)) autos ≡ map (counted_auto there) n.autos
-  pub exclusions_as : map (counted_exclusion (table_measure algs)) exclusions ≡ map (counted_exclusion there) n.exclusions
-  pub invariants_as : map (counted_invariant (table_measure algs)) invariants ≡ map (counted_invariant there) n.invariants
+-- the same is counted of these, where an algebraic variable counts as the measure with its number, as of those of a net
+pub record AreAsLarge (algs : List Measure) (autos : List NetAuto) (exclusions : List NetExclusion) (invariants : List NetInvariant) (n : Net) : Type 0 where
+  pub autos_as : map (counted_auto (table_measure algs)) autos ≡ map (counted_auto (at_or no_form (alg_measures n))) n.autos
+  pub exclusions_as : map (counted_exclusion (table_measure algs)) exclusions ≡ map (counted_exclusion (at_or no_form (alg_measures n))) n.exclusions
+  pub invariants_as : map (counted_invariant (table_measure algs)) invariants ≡ map (counted_invariant (at_or no_form (alg_measures n))) n.invariants

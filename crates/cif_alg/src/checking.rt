@@ -13,9 +13,8 @@ ghost use Rattle.cif_alg.specs.Keeps.{KeepsExpressions, due};
 ghost use Rattle.cif_alg.specs.Sizes.{sizes_added};
 ghost use Rattle.cif_alg.specs.Tallies.{counted};
 
-use crate::counting::choice_nodes;
+use crate::counting::{choice_nodes, with_sizes};
 use crate::error::AlgErr;
-use crate::limit::sum;
 use crate::making::is_made;
 use cif_algebraic::{
     algebraic_measures, check_algebraic_intervals, order_algebraic, ordered_nets_are_acyclic,
@@ -91,16 +90,6 @@ fn nodes_of(alloc: Global, net: &Net, algs: &[Measure]) -> Result<u64, Memory>
         algs,
     )?;
     Ok(with_sizes(choices, algs))
-}
-
-fn with_sizes(choices: u64, algs: &[Measure]) -> u64
-    ensures { result ≡ sizes_added choices algs.now }
-{
-    let mut nodes = choices;
-    for alg in algs {
-        nodes = sum(nodes, alg.size);
-    }
-    nodes
 }
 
 /// Whether one of the counts is past its limit.

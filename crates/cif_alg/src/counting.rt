@@ -3,6 +3,7 @@
 ghost use Rattle.std.specs.Prelude.{◌≡◌, map, IfOk};
 ghost use Rattle.cif_net.specs.View.{auto_tree, edge_tree, event_tree, exclusion_tree, invariant_tree};
 ghost use Rattle.cif_measure.specs.Meanings.{table_measure};
+ghost use Rattle.cif_alg.specs.Sizes.{sizes_added};
 ghost use Rattle.cif_alg.specs.Tallies.{is_channel_event, tallies_nodes, edge_nodes, exclusion_nodes, invariants_nodes, opened_for, edges_noted, stays_noted, closed_for, tallied, all_tallied, exclusions_noted, counted};
 
 use crate::limit::sum;
@@ -33,6 +34,17 @@ pub fn choice_nodes(
     tally_all(&mut tallies, autos, algs);
     note_exclusions(&mut tallies, exclusions, algs);
     Ok(all_nodes(events, tallies.as_slice()))
+}
+
+/// So many nodes with the sizes of algebraic variables, where the count stops one past the limit.
+pub fn with_sizes(choices: u64, algs: &[Measure]) -> u64
+    ensures { result ≡ sizes_added choices algs.now }
+{
+    let mut nodes = choices;
+    for alg in algs {
+        nodes = sum(nodes, alg.size);
+    }
+    nodes
 }
 
 /// Those of all events, by their tallies.

@@ -14,7 +14,7 @@ mod tally;
 mod weighed;
 
 pub use checking::check_net;
-pub use counting::choice_nodes;
+pub use counting::{choice_nodes, with_sizes};
 pub use error::AlgErr;
 pub use inlining::{inline, settle};
 pub use laws::outlines_have_the_nodes_of_their_net;
