@@ -137,7 +137,7 @@ measures size = record { size = 1; depth = 0 } ∷ record { size = size; depth =
 abbrev outline : List NetAuto
 outline = auto (0 ∷ []) (edge (here (n_alg 1)) no_net_updates [] ∷ []) ∷ []
 
-outline_is_as_large : AreAsLarge (measures 6) (table_measure []) outline [] [] (counter small)
+outline_is_as_large : AreAsLarge (measures 6) outline [] [] (counter small)
 outline_is_as_large = record { autos_as = refl; exclusions_as = refl; invariants_as = refl }
 
 outline_counted : counted (table_measure (measures 6)) outline [] [] (counter small).events ≡ 8
@@ -197,7 +197,7 @@ guarded_counted = refl
 abbrev guarded_outline : List NetInvariant
 guarded_outline = invariant (here (n_alg 1)) ∷ invariant (here (n_alg 0)) ∷ []
 
-guarded_is_as_large : AreAsLarge (measures 3) (table_measure []) two.autos [] guarded_outline (record guarded { exclusions = [] })
+guarded_is_as_large : AreAsLarge (measures 3) two.autos [] guarded_outline (record guarded { exclusions = [] })
 guarded_is_as_large = record { autos_as = refl; exclusions_as = refl; invariants_as = refl }
 
 guarded_outline_counted : counted (table_measure (measures 3)) two.autos [] guarded_outline guarded.events ≡ 108
