@@ -7,4 +7,4 @@ mod stated;
 mod weights;
 
 pub use predicates::{Predicates, predicates_of};
-pub use weights::{Excluded, Weights, predicate_weights};
+pub use weights::{Excluded, PredicateWeights, predicate_weights};

@@ -1,6 +1,7 @@
 use Rattle.std.proofs.Common.{map, sym, ◌∙◌, ap, subst}
 use Rattle.std.specs.Prelude.{flat_map}
 use Rattle.cif_rows.specs.Views.{row_tree}
+use Rattle.cif_weights.specs.Weights.{alg_by}
 use Rattle.cif_predicates.specs.Predicates.{stated_exclusions, stated_invariants}
 use Rattle.cif_predicates.specs.Stated.{StandBelow}
 use Rattle.cif_predicates.specs.Views.{stated_tree}
@@ -14,19 +15,16 @@ all_exclusions-requires-clause-below c =
     subst (StandBelow c.args.looking.now) (sym (ap (map stated_tree) c.as_slice.ensures.value ∙ c.in_ok-found.ensures))
     (stand_below c.args.looking.now (map row_tree c.args.rows.now) c.requires.rows)
 
-pub all_invariants-requires-clause-below : goal.all_invariants-requires-clause-below
-all_invariants-requires-clause-below c =
-    subst (StandBelow c.args.looking.now) (sym (ap (map stated_tree) c.as_slice-2.ensures.value ∙ c.in_ok-found.ensures))
-    (stand_below c.args.looking.now (map row_tree c.args.rows.now) c.requires.rows)
-
 pub returns : goal.returns
-returns c = record {
-  exclusions =
-      c.in_ok-all_exclusions.ensures
-      ∙ ap (λ ss. map excluded_of (flat_map (stated_exclusions c.args.looking.now) ss)) (ap (map stated_tree) c.as_slice.ensures.value ∙ c.in_ok-found.ensures)
-      ∙ ap (map excluded_of) (exclusions_are c.args.looking.now c.requires.names (map row_tree c.args.rows.now) c.requires.rows);
-  invariants =
-      c.in_ok-all_invariants.ensures
-      ∙ ap (λ ss. map invariant_weight (flat_map (stated_invariants c.args.looking.now) ss)) (ap (map stated_tree) c.as_slice-2.ensures.value ∙ c.in_ok-found.ensures)
-      ∙ ap (map invariant_weight) (invariants_are c.args.looking.now c.requires.names (map row_tree c.args.rows.now) c.requires.rows);
-}
+returns c =
+    let alg = alg_by c.args.looking.now c.args.weights.now in
+    record {
+      exclusions =
+          c.in_ok-all_exclusions.ensures
+          ∙ ap (λ ss. map (excluded_of alg) (flat_map (stated_exclusions c.args.looking.now) ss)) (ap (map stated_tree) c.as_slice.ensures.value ∙ c.in_ok-found.ensures)
+          ∙ ap (map (excluded_of alg)) (exclusions_are c.args.looking.now c.requires.names (map row_tree c.args.rows.now) c.requires.rows);
+      invariants =
+          c.in_ok-all_invariants.ensures
+          ∙ ap (λ ss. map (invariant_weight alg) (flat_map (stated_invariants c.args.looking.now) ss)) (ap (map stated_tree) c.as_slice-2.ensures.value ∙ c.in_ok-found.ensures)
+          ∙ ap (map (invariant_weight alg)) (invariants_are c.args.looking.now c.requires.names (map row_tree c.args.rows.now) c.requires.rows);
+    }
