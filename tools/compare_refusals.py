@@ -335,6 +335,9 @@ def with_algebra():
         # 1996 forms of w, and 499001 for each of the two locations, and two for the `if`
         ("a definition by location with which 1000000 are counted", wide, None),
         ("a variable more", wide + " alg int z = 1;", size % 3),
+        ("an argument that counts two to the power of 41, beside an algebraic variable", sum_passed_on(40, "v >= 0") + " alg int z = 1;", size % 41),
+        ("a variable that counts two to the power of 20, and is passed on twenty times", summed(19) + " " + sum_passed_on(20, "v >= 0").replace("a.n", "v19").replace("automaton a:", "automaton b:").replace("a.e", "b.e"), size % 40),
+        ("a variable that is an argument twenty-one times over", sum_passed_on(20, "true").replace("location: initial; edge c when true;", "alg int w = v; location: initial; edge c;"), size % 20),
     ]
 
 
@@ -344,7 +347,6 @@ def too_large_to_make():
     return [
         # 262145 forms on each edge, of which no choice takes one
         ("sixteen edges that nothing takes, with eighteen such variables", summed(17).replace("edge e when true; ", blocked)),
-        ("an argument that counts two to the power of 41, beside an algebraic variable", sum_passed_on(40, "v >= 0") + " alg int z = 1;"),
     ]
 
 

@@ -16,6 +16,7 @@ pub mod TypingLaws
 pub mod VariableLaws
 pub mod EquationLaws
 pub mod AlgebraicLaws
+mod DefinitionLaws
 pub mod RuleLaws
 pub mod NetLaws
 pub mod AutoLaws

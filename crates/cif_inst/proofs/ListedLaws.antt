@@ -2,12 +2,13 @@
 use Rattle.std.proofs.Common.{◌≡◌, ℕ, ◌+◌, List, [], ◌∷◌, ◌++◌, length, map, refl, sym, ◌∙◌, ap}
 use Rattle.std.specs.Prelude.{flat_map}
 use Rattle.std.proofs.lemmas.List.{map-append}
+use Rattle.cif_model.specs.Counts as counts
 use Rattle.cif_model.specs.Net.{NetEdge}
 use Rattle.cif_source.specs.Source.{UseTree, EdgeTree, LocationTree, AutomatonTree}
 use Rattle.cif_image.proofs.SystemLaws.{map-map}
 use Rattle.cif_translate.specs.Looking.{component_at}
 use Rattle.cif_translate.specs.declared.looking.Looking.{Looking}
-use Rattle.cif_sizes.specs.Arguments.{edge_weight, use_weight}
+use Rattle.cif_weights.specs.Weights.{edge_weight, use_weight}
 use Rattle.cif_inst.specs.Edges.{use_edge, end_place, uses_edges, locations_edges, automaton_edges}
 use Rattle.cif_inst.specs.Alphabets.{use_used, automaton_used}
 use Rattle.cif_inst.specs.Measures.{automaton_weights}
@@ -46,5 +47,5 @@ used_by x = record { event = x.event; role = role_back x.role }
 pub used-edges : (l : Looking) (k : ℕ) (a : AutomatonTree) → automaton_used l k a ≡ map used_by (automaton_edges l k a)
 used-edges l k a = locations-listed l k (length a.locs) (λ e. use_used l k) used_by (λ from to e u. refl) 0 a.locs
 
-pub weights-edges : (l : Looking) (k : ℕ) (a : AutomatonTree) → automaton_weights l k a ≡ map edge_weight (automaton_edges l k a)
-weights-edges l k a = locations-listed l k (length a.locs) (use_weight (component_at l k)) edge_weight (λ from to e u. refl) 0 a.locs
+pub weights-edges : (alg : ℕ → counts.Measure) (l : Looking) (k : ℕ) (a : AutomatonTree) → automaton_weights alg l k a ≡ map (edge_weight alg) (automaton_edges l k a)
+weights-edges alg l k a = locations-listed l k (length a.locs) (use_weight alg (component_at l k)) (edge_weight alg) (λ from to e u. refl) 0 a.locs

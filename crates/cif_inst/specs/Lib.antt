@@ -5,6 +5,7 @@ pub mod Events
 pub mod Targets
 pub mod Variables
 pub mod Equations
+pub mod Definitions
 pub mod Algebraic
 pub mod Edges
 pub mod Marks

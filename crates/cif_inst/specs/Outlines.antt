@@ -1,6 +1,6 @@
 -- Automata, exclusions and state invariants of a net with numbers of measures in the place of expressions, and what is told of sizes
 -- by them.
-use Rattle.std.specs.Prelude.{◌≡◌, ℕ, suc, ◌+◌, ◌≤◌, nat_lt, true, ◌||◌, List, [], ◌∷◌, length, sum_by, None, if◌then◌else◌}
+use Rattle.std.specs.Prelude.{◌≡◌, ℕ, suc, ◌+◌, ◌≤◌, max, nat_lt, true, ◌||◌, List, [], ◌∷◌, length, sum_by, None, if◌then◌else◌}
 use Rattle.cif_term.specs.Tree.{NetExpr, net_expr, n_alg, no_net_updates}
 use Rattle.cif_model.specs.Net.{NetEdge, NetAuto, NetEvent, NetExclusion, NetInvariant}
 use Rattle.cif_model.specs.Counts.{no_form, most_nodes, most_depth}
@@ -8,9 +8,10 @@ use Rattle.cif_measure.specs.Meanings.{stopped_measure, table_measure}
 use Rattle.cif_measure.specs.Sizes.{table_counted}
 use Rattle.cif_measure.specs.declared.measures.Measure.{Measure}
 use Rattle.cif_net.specs.View.{role_of as net_role}
+use Rattle.cif_alg.specs.Sizes.{sizes_added}
 use Rattle.cif_alg.specs.Tallies.{counted}
 use Rattle.cif_predicates.specs.declared.weights.Excluded.{Excluded}
-use Rattle.cif_predicates.specs.declared.weights.Weights.{Weights}
+use Rattle.cif_predicates.specs.declared.weights.PredicateWeights.{PredicateWeights}
 use Rattle.cif_inst.specs.declared.alphabets.Alphabet.{Alphabet}
 use Rattle.cif_inst.specs.declared.used.Used.{Used}
 use Rattle.cif_inst.specs.declared.error.InstErr.{InstErr}
@@ -58,13 +59,18 @@ outline_invariants j (m ∷ ms) = record { pred = outline_expr j; at = 0 } ∷ o
 
 -- ---- sizes
 
--- the nodes of a net with these alphabets and predicates, whose measures are those of the exclusions, the state invariants and the edges
-abbrev pub outlined_nodes : List Alphabet → List NetEvent → Weights → List Measure → ℕ
-outlined_nodes all events w ms = counted (table_measure ms) (outlines (length w.exclusions + length w.invariants) all) (outline_exclusions 0 w.exclusions)
-    (outline_invariants (length w.exclusions) w.invariants) events
+-- the nodes of a net with these alphabets and predicates, whose measures are those of the exclusions, the state invariants and the edges,
+-- and with algebraic variables of these measures
+abbrev pub outlined_nodes : List Alphabet → List NetEvent → PredicateWeights → (measures own : List Measure) → ℕ
+outlined_nodes all events w ms own = sizes_added (counted (table_measure ms) (outlines (length w.exclusions + length w.invariants) all) (outline_exclusions 0 w.exclusions)
+    (outline_invariants (length w.exclusions) w.invariants) events) own
 
 abbrev pub together : List Measure → Measure
 together ms = table_counted (stopped_measure no_form) ms
+
+-- the greatest depth, of these or of algebraic variables
+abbrev pub greatest_depth : (measures own : List Measure) → ℕ
+greatest_depth ms own = max (together ms).depth (together own).depth
 
 abbrev pub most_forms : ℕ
 most_forms = 4000000
@@ -73,17 +79,18 @@ most_forms = 4000000
 abbrev pub weight : Measure → ℕ
 weight m = if nat_lt most_nodes m.size then suc most_forms else m.size
 
--- so few forms that they are made
-pub record AreMade (ms : List Measure) : Type 0 where
-  pub deep : (together ms).depth ≤ most_depth
-  pub few : sum_by weight ms ≤ most_forms
+-- so few forms, of these and of algebraic variables, that they are made
+pub record AreMade (measures own : List Measure) : Type 0 where
+  pub deep : greatest_depth measures own ≤ most_depth
+  pub few : sum_by weight measures ≤ most_forms
+  pub defined : sum_by weight own ≤ most_forms
 
 -- the nodes of the outlines and the greatest depth, of which one is past its limit; or that memory ran out
-abbrev pub tells_size : List Alphabet → List NetEvent → Weights → List Measure → InstErr → Type 0
-tells_size all events w ms (TooLarge nodes depth) = (nodes ≡ outlined_nodes all events w ms) × (depth ≡ (together ms).depth)
+abbrev pub tells_size : List Alphabet → List NetEvent → PredicateWeights → (measures own : List Measure) → InstErr → Type 0
+tells_size all events w ms own (TooLarge nodes depth) = (nodes ≡ outlined_nodes all events w ms own) × (depth ≡ greatest_depth ms own)
     × ((nat_lt most_nodes nodes || nat_lt most_depth depth) ≡ true)
-tells_size all events w ms (AlphabetLacks at) = ⊥
-tells_size all events w ms (RoleMixed at) = ⊥
-tells_size all events w ms (TooManyObjects count) = ⊥
-tells_size all events w ms (ConstantRange at) = ⊥
-tells_size all events w ms Memory = Unit {0}
+tells_size all events w ms own (AlphabetLacks at) = ⊥
+tells_size all events w ms own (RoleMixed at) = ⊥
+tells_size all events w ms own (TooManyObjects count) = ⊥
+tells_size all events w ms own (ConstantRange at) = ⊥
+tells_size all events w ms own Memory = Unit {0}

@@ -1,111 +1,144 @@
-//! What the definitions of algebraic variables weigh in the net, before any of them is made. No clause speaks of them: they tell
-//! only whether there is memory for the definitions.
+//! The definitions of the algebraic variables of all components, as they stand in the source (CIF 3 language reference, "Algebraic
+//! variables").
 
-ghost use Rattle.std.specs.Prelude.{◌≡◌, ◌<◌, map, length};
-ghost use Rattle.cif_source.specs.Objects.{components_of};
-ghost use Rattle.cif_translate.specs.Looking.{AreNamesOf, source_for};
-ghost use Rattle.cif_sizes.specs.Arguments.{AreArgumentMeasures};
-ghost use Rattle.cif_rows.specs.Rows.{rows_of};
+ghost use Rattle.std.specs.Prelude.{◌≡◌, ◌++◌, map, IfOk, OnOk};
+ghost use Rattle.cif_scope.specs.Written.{inside_of};
+ghost use Rattle.cif_translate.specs.Looking.{AreNamesOf};
+ghost use Rattle.cif_weights.specs.Definitions.{definition_tree, value_tree};
+ghost use Rattle.cif_weights.specs.Weights.{AreWeights};
+ghost use Rattle.cif_inst.specs.Definitions as definitions;
+ghost use Rattle.cif_inst.specs.Equations.{value_for, values_in};
+ghost use Rattle.cif_inst.specs.Views.{datum_tree};
 ghost use Rattle.cif_rows.specs.Views.{row_tree};
 
 use crate::algebraic::own_value;
 use crate::declarations::{Datum, Sort, add_row};
 use crate::equations::{Defined, Equations, equations_of};
+use cif_ast::Expr;
 use cif_base::{Items, Memory, Text};
 use cif_measure::Measure;
 use cif_rows::Row;
 use cif_scope::number;
-use cif_sizes::value_measure;
 use cif_translate::Looking;
+use cif_weights::{Definition, Weights, value_measure};
 use std::alloc::Global;
 
-/// Adds the measures of the values of a name in locations.
-fn add_located(
-    looking: &Looking<'_, '_>,
-    arguments: &[Items<Measure>],
-    component: u32,
-    located: &[Equations<'_>],
+/// The values of a name in locations.
+fn located_values<'a>(
+    alloc: Global,
+    located: &[Equations<'a>],
     name: &Text,
-    all: &mut Items<Measure>,
-) -> Result<(), Memory>
-    requires names { AreNamesOf looking.now }
-    requires component { component < length (components_of (source_for looking.now)) }
-    requires arguments { AreArgumentMeasures looking.now arguments.now }
+) -> Result<Vec<Option<&'a Expr>>, Memory>
+    ensures { IfOk result (λ all. map value_tree all.items ≡ map (value_for name.now) (map values_in located.now)) }
 {
+    let mut all = Vec::new(alloc);
     for there in located {
-        if let Some(value) = there.of(name) {
-            all.push(value_measure(looking, arguments, component, value))?;
+        all.push(there.of(name))?;
+    }
+    Ok(all)
+}
+
+/// The definitions of a variable: its component's own, or else one for each location.
+fn values_of<'a>(
+    alloc: Global,
+    defined: &Defined<'a>,
+    datum: &Datum<'a>,
+) -> Result<Vec<Option<&'a Expr>>, Memory>
+    ensures { let d = datum_tree datum.now in IfOk result (λ all. map value_tree all.items
+        ≡ definitions.values_with (values_in defined.now.own) (map values_in defined.now.located.items) d.name.text d.value) }
+{
+    match own_value(datum, &defined.own) {
+        Some(value) => {
+            let mut all = Vec::new(alloc);
+            all.push(Some(value))?;
+            Ok(all)
         }
+        None => located_values(alloc, defined.located.as_slice(), &datum.name.text),
+    }
+}
+
+/// Adds the definitions of these variables.
+fn add_data<'a>(
+    alloc: Global,
+    defined: &Defined<'a>,
+    found: &[Datum<'a>],
+    all: &mut Vec<Definition<'a>>,
+) -> Result<(), Memory>
+    ensures { OnOk result (map definition_tree all.new.items ≡ map definition_tree all.old.items
+        ++ map (definitions.definition_with (values_in defined.now.own) (map values_in defined.now.located.items)) (map datum_tree found.now)) }
+{
+    for datum in found {
+        all.push(Definition {
+            component: datum.component,
+            values: values_of(alloc, defined, datum)?,
+        })?;
     }
     Ok(())
 }
 
-/// Adds the measures of the definitions of a variable.
-fn add_datum(
-    looking: &Looking<'_, '_>,
-    arguments: &[Items<Measure>],
-    component: u32,
-    defined: &Defined<'_>,
-    datum: &Datum<'_>,
-    all: &mut Items<Measure>,
-) -> Result<(), Memory>
-    requires names { AreNamesOf looking.now }
-    requires component { component < length (components_of (source_for looking.now)) }
-    requires arguments { AreArgumentMeasures looking.now arguments.now }
-{
-    match own_value(datum, &defined.own) {
-        Some(value) => all.push(value_measure(looking, arguments, component, value)),
-        None => {
-            let located = defined.located.as_slice();
-            add_located(
-                looking,
-                arguments,
-                component,
-                located,
-                &datum.name.text,
-                all,
-            )
-        }
-    }
-}
-
 /// Adds those of the variables that a component declares.
-fn add_component(
+fn add_component<'a>(
     alloc: Global,
-    looking: &Looking<'_, '_>,
-    arguments: &[Items<Measure>],
     component: u32,
-    row: &Row<'_>,
-    all: &mut Items<Measure>,
+    row: &'a Row<'a>,
+    all: &mut Vec<Definition<'a>>,
 ) -> Result<(), Memory>
-    requires names { AreNamesOf looking.now }
-    requires component { component < length (components_of (source_for looking.now)) }
-    requires arguments { AreArgumentMeasures looking.now arguments.now }
+    ensures { OnOk result (map definition_tree all.new.items ≡ map definition_tree all.old.items
+        ++ definitions.body_definitions component row.now.prefix (inside_of row.now.inside)) }
 {
     let mut found = Vec::new(alloc);
     add_row(Sort::Algebraic, component, row, &mut found)?;
     let defined = equations_of(alloc, row.inside)?;
-    for datum in found.as_slice() {
-        add_datum(looking, arguments, component, &defined, datum, all)?;
+    add_data(alloc, &defined, found.as_slice(), all)
+}
+
+/// The definitions of the algebraic variables of these components, by number.
+pub fn all_definitions<'a>(
+    alloc: Global,
+    rows: &'a [Row<'a>],
+) -> Result<Vec<Definition<'a>>, Memory>
+    ensures { IfOk result (λ all. map definition_tree all.items ≡ definitions.rows_definitions 0 (map row_tree rows.now)) }
+{
+    let mut all = Vec::new(alloc);
+    for (place, row) in rows.iter().enumerate() {
+        add_component(alloc, number(place)?, row, &mut all)?;
+    }
+    Ok(all)
+}
+
+/// Adds the measures of the expressions of a definition.
+fn add_measures(
+    looking: &Looking<'_, '_>,
+    weights: &Weights,
+    definition: &Definition<'_>,
+    all: &mut Items<Measure>,
+) -> Result<(), Memory>
+    requires names { AreNamesOf looking.now }
+    requires weights { AreWeights looking.now weights.now }
+{
+    let component = definition.component;
+    for value in definition.values.as_slice() {
+        if let Some(value) = value {
+            all.push(value_measure(looking, weights, component, *value)?)?;
+        }
     }
     Ok(())
 }
 
-/// The measures of all definitions of algebraic variables, by the measures of arguments. The time is linear in the source and its
-/// components, however large the net is.
+/// The measures of the expressions of these definitions. No clause speaks of them: they tell only whether there is memory for a net of
+/// which an algebraic variable depends on itself.
 pub fn definition_measures(
     alloc: Global,
     looking: &Looking<'_, '_>,
-    arguments: &[Items<Measure>],
-    rows: &[Row<'_>],
+    weights: &Weights,
+    definitions: &[Definition<'_>],
 ) -> Result<Items<Measure>, Memory>
     requires names { AreNamesOf looking.now }
-    requires arguments { AreArgumentMeasures looking.now arguments.now }
-    requires rows { map row_tree rows.now ≡ rows_of (source_for looking.now) }
+    requires weights { AreWeights looking.now weights.now }
 {
     let mut all = Items::new(alloc);
-    for (place, row) in rows.iter().enumerate() {
-        add_component(alloc, looking, arguments, number(place)?, row, &mut all)?;
+    for definition in definitions {
+        add_measures(looking, weights, definition, &mut all)?;
     }
     Ok(all)
 }

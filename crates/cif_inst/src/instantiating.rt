@@ -21,7 +21,7 @@ ghost use Rattle.cif_rows.specs.Views.{row_tree};
 
 use crate::alphabets::{Alphabet, all_alphabets};
 use crate::autos::all_autos;
-use crate::definitions::definition_measures;
+use crate::definitions::{all_definitions, definition_measures};
 use crate::error::InstErr;
 use crate::events::all_events;
 use crate::measures::all_measures;
@@ -41,15 +41,55 @@ use cif_parameters::parameters;
 use cif_predicates::{predicate_weights, predicates_of};
 use cif_rows::{Row, all_rows};
 use cif_scope::Scopes;
-use cif_sizes::argument_measures;
 use cif_small::{counted_trees_have_small_parts, trees_have_small_arguments};
 use cif_translate::Looking;
 use cif_types::Kinds;
 use cif_values::values_of;
+use cif_weights::{exact_weights_give_a_rank, weights_of};
 use std::alloc::Global;
 
+/// Whether the expressions of a source are small enough to be made, or how large its net is, by the alphabets of its automata. Where an
+/// algebraic variable depends on itself no size is told: that rule (19) is asked of the net that is made.
+fn check_expressions(
+    alloc: Global,
+    looking: &Looking<'_, '_>,
+    rows: &[Row],
+    events: &[Event],
+    alphabets: &[Alphabet],
+) -> Result<(), InstErr>
+    requires names { AreNamesOf looking.now }
+    requires kinds { KeepsKinds (source_for looking.now) }
+    requires countable { IsCountable looking.now.spec.now }
+    requires small { HasSmallNumbers looking.now.spec.now }
+    requires kept { KeepsInstances (source_for looking.now) }
+    requires rows { map row_tree rows.now ≡ rows_of (source_for looking.now) }
+    requires events { map event_tree events.now ≡ events_by.all_events (source_for looking.now) (map row_tree rows.now) }
+    requires found { alphabets.now ≡ rows_alphabets looking.now 0 (map row_tree rows.now) }
+    ensures { IfErr result (λ e. due (source_for looking.now) e) }
+{
+    let definitions = all_definitions(alloc, rows)?;
+    let weights = weights_of(alloc, looking, definitions)?;
+    let predicates = predicate_weights(alloc, looking, &weights, rows)?;
+    let measures = all_measures(alloc, looking, &weights, &predicates, rows)?;
+    if !weights.exact {
+        let definitions = all_definitions(alloc, rows)?;
+        let defined = definition_measures(alloc, looking, &weights, definitions.as_slice())?;
+        check_made(looking.given, measures.as_slice(), defined.as_slice())?;
+        return Ok(());
+    }
+    let own = weights.algebraic(alloc)?;
+    exact_weights_give_a_rank();
+    counted_trees_have_small_parts();
+    trees_have_small_arguments();
+    nets_of_sources_are_nets();
+    outlines_have_the_nodes_of_their_net();
+    let sizes = measures.as_slice();
+    check_sizes(alloc, alphabets, events, &predicates, sizes, own.as_slice())?;
+    Ok(())
+}
+
 /// The alphabets of a source whose net is small enough to be made, or where an event outside one is named, or which automaton has an
-/// event in two roles, or how large the net is. The rules are asked in this order. Where the source has algebraic variables, sizes are told of the net that is made.
+/// event in two roles, or how large the net is. The rules are asked in this order.
 fn alphabets_of(
     alloc: Global,
     looking: &Looking<'_, '_>,
@@ -71,26 +111,7 @@ fn alphabets_of(
     let total = looking.numbers.total();
     let alphabets = all_alphabets(alloc, looking, rows, total.events as usize)?;
     check_roles(alloc, looking, alphabets.as_slice(), total.events as usize)?;
-    let arguments = argument_measures(alloc, looking)?;
-    let given = arguments.as_slice();
-    let predicates = predicate_weights(alloc, looking, given, rows)?;
-    let measures = all_measures(alloc, looking, given, &predicates, rows)?;
-    if total.algs > 0 {
-        let definitions = definition_measures(alloc, looking, given, rows)?;
-        check_made(looking.given, measures.as_slice(), definitions.as_slice())?;
-        return Ok(alphabets);
-    }
-    counted_trees_have_small_parts();
-    trees_have_small_arguments();
-    nets_of_sources_are_nets();
-    outlines_have_the_nodes_of_their_net();
-    check_sizes(
-        alloc,
-        alphabets.as_slice(),
-        events,
-        &predicates,
-        measures.as_slice(),
-    )?;
+    check_expressions(alloc, looking, rows, events, alphabets.as_slice())?;
     Ok(alphabets)
 }
 

@@ -1,42 +1,39 @@
 //! What the exclusions, the state invariants and the edges of all automata weigh in the net, before any of their expressions is made.
 
-ghost use Rattle.std.specs.Prelude.{◌≡◌, ◌<◌, ◌++◌, map, flat_map, length, IfOk, OnOk};
-ghost use Rattle.cif_source.specs.Objects.{components_of};
+ghost use Rattle.std.specs.Prelude.{◌≡◌, ◌++◌, map, flat_map, IfOk, OnOk};
 ghost use Rattle.cif_source.specs.Source as source;
 ghost use Rattle.cif_scope.specs.Written.{inside_of};
-ghost use Rattle.cif_translate.specs.Looking.{AreNamesOf, source_for};
-ghost use Rattle.cif_sizes.specs.Arguments.{AreArgumentMeasures};
+ghost use Rattle.cif_translate.specs.Looking.{AreNamesOf};
+ghost use Rattle.cif_weights.specs.Weights.{AreWeights, alg_by};
 ghost use Rattle.cif_inst.specs.Measures as measures;
-ghost use Rattle.cif_rows.specs.Rows.{rows_of};
 ghost use Rattle.cif_rows.specs.Views.{row_tree};
 
 use cif_ast::{Edge, Loc};
 use cif_base::{Items, Memory};
 use cif_measure::Measure;
-use cif_predicates::{Excluded, Weights};
+use cif_predicates::{Excluded, PredicateWeights};
 use cif_rows::Row;
 use cif_scope::{Inside, number};
-use cif_sizes::{edge_measure, use_measure};
 use cif_translate::Looking;
+use cif_weights::{Weights, edge_measure, use_measure};
 use std::alloc::Global;
 
 /// Adds the measures of an edge, one for each use of an event.
 fn add_edge(
     looking: &Looking<'_, '_>,
-    arguments: &[Items<Measure>],
+    weights: &Weights,
     component: u32,
     edge: &Edge,
     all: &mut Items<Measure>,
 ) -> Result<(), Memory>
     requires names { AreNamesOf looking.now }
-    requires component { component < length (components_of (source_for looking.now)) }
-    requires arguments { AreArgumentMeasures looking.now arguments.now }
-    ensures { OnOk result (all.new ≡ all.old ++ measures.edge_weights looking.now component (source.edge_tree edge.now)) }
+    requires weights { AreWeights looking.now weights.now }
+    ensures { OnOk result (all.new ≡ all.old ++ measures.edge_weights (alg_by looking.now weights.now) looking.now component (source.edge_tree edge.now)) }
 {
-    let shared = edge_measure(looking, arguments, component, edge);
+    let shared = edge_measure(looking, weights, component, edge)?;
     let uses = edge.uses.as_slice();
     for event_use in uses {
-        let measure = use_measure(looking, arguments, component, shared, event_use);
+        let measure = use_measure(looking, weights, component, shared, event_use)?;
         all.push(measure)?;
     }
     Ok(())
@@ -44,36 +41,34 @@ fn add_edge(
 
 fn add_edges(
     looking: &Looking<'_, '_>,
-    arguments: &[Items<Measure>],
+    weights: &Weights,
     component: u32,
     edges: &[Edge],
     all: &mut Items<Measure>,
 ) -> Result<(), Memory>
     requires names { AreNamesOf looking.now }
-    requires component { component < length (components_of (source_for looking.now)) }
-    requires arguments { AreArgumentMeasures looking.now arguments.now }
-    ensures { OnOk result (all.new ≡ all.old ++ flat_map (measures.edge_weights looking.now component) (map source.edge_tree edges.now)) }
+    requires weights { AreWeights looking.now weights.now }
+    ensures { OnOk result (all.new ≡ all.old ++ flat_map (measures.edge_weights (alg_by looking.now weights.now) looking.now component) (map source.edge_tree edges.now)) }
 {
     for edge in edges {
-        add_edge(looking, arguments, component, edge, all)?;
+        add_edge(looking, weights, component, edge, all)?;
     }
     Ok(())
 }
 
 fn add_locations(
     looking: &Looking<'_, '_>,
-    arguments: &[Items<Measure>],
+    weights: &Weights,
     component: u32,
     locs: &[Loc],
     all: &mut Items<Measure>,
 ) -> Result<(), Memory>
     requires names { AreNamesOf looking.now }
-    requires component { component < length (components_of (source_for looking.now)) }
-    requires arguments { AreArgumentMeasures looking.now arguments.now }
-    ensures { OnOk result (all.new ≡ all.old ++ flat_map (measures.location_weights looking.now component) (map source.location_tree locs.now)) }
+    requires weights { AreWeights looking.now weights.now }
+    ensures { OnOk result (all.new ≡ all.old ++ flat_map (measures.location_weights (alg_by looking.now weights.now) looking.now component) (map source.location_tree locs.now)) }
 {
     for loc in locs {
-        add_edges(looking, arguments, component, loc.edges.as_slice(), all)?;
+        add_edges(looking, weights, component, loc.edges.as_slice(), all)?;
     }
     Ok(())
 }
@@ -81,20 +76,19 @@ fn add_locations(
 /// Adds the measures of the edges of a component.
 fn add_row(
     looking: &Looking<'_, '_>,
-    arguments: &[Items<Measure>],
+    weights: &Weights,
     component: u32,
     row: &Row,
     all: &mut Items<Measure>,
 ) -> Result<(), Memory>
     requires names { AreNamesOf looking.now }
-    requires component { component < length (components_of (source_for looking.now)) }
-    requires arguments { AreArgumentMeasures looking.now arguments.now }
-    ensures { OnOk result (all.new ≡ all.old ++ measures.body_weights looking.now component (inside_of row.now.inside)) }
+    requires weights { AreWeights looking.now weights.now }
+    ensures { OnOk result (all.new ≡ all.old ++ measures.body_weights (alg_by looking.now weights.now) looking.now component (inside_of row.now.inside)) }
 {
     match row.inside {
         Inside::Group(_) => Ok(()),
         Inside::Automaton(body) => {
-            add_locations(looking, arguments, component, body.locs.as_slice(), all)
+            add_locations(looking, weights, component, body.locs.as_slice(), all)
         }
     }
 }
@@ -111,23 +105,22 @@ fn exclusion_measures(alloc: Global, excluded: &[Excluded]) -> Result<Items<Meas
 }
 
 /// The measures of the exclusions, of the state invariants and of the edges of these components, an edge for each use of an event, in
-/// the order of the net, by the measures of arguments. The time is linear in the source, however large the net is.
+/// the order of the net, by the weights of arguments and algebraic variables. The time is linear in the source, however large the net is.
 pub fn all_measures(
     alloc: Global,
     looking: &Looking<'_, '_>,
-    arguments: &[Items<Measure>],
-    predicates: &Weights,
+    weights: &Weights,
+    predicates: &PredicateWeights,
     rows: &[Row],
 ) -> Result<Items<Measure>, Memory>
     requires names { AreNamesOf looking.now }
-    requires arguments { AreArgumentMeasures looking.now arguments.now }
-    requires rows { map row_tree rows.now ≡ rows_of (source_for looking.now) }
-    ensures { IfOk result (λ all. all ≡ measures.predicate_weights predicates.now ++ measures.rows_weights looking.now 0 (map row_tree rows.now)) }
+    requires weights { AreWeights looking.now weights.now }
+    ensures { IfOk result (λ all. all ≡ measures.predicate_weights predicates.now ++ measures.rows_weights (alg_by looking.now weights.now) looking.now 0 (map row_tree rows.now)) }
 {
     let mut all = exclusion_measures(alloc, predicates.exclusions.as_slice())?;
     all.append(predicates.invariants.copy(alloc)?)?;
     for (place, row) in rows.iter().enumerate() {
-        add_row(looking, arguments, number(place)?, row, &mut all)?;
+        add_row(looking, weights, number(place)?, row, &mut all)?;
     }
     Ok(all)
 }

@@ -9,12 +9,12 @@ ghost use Rattle.cif_inst.specs.Outlines as outlines;
 use crate::alphabets::Alphabet;
 use crate::error::InstErr;
 use crate::outlines::{all_outlines, outline_exclusions, outline_invariants};
-use cif_alg::{MOST_FORMS, choice_nodes};
+use cif_alg::{MOST_FORMS, choice_nodes, with_sizes};
 use cif_base::Memory;
 use cif_measure::{MOST_DEPTH, MOST_NODES, Measure};
 use cif_net::Event;
 use cif_parameters::Given;
-use cif_predicates::Weights;
+use cif_predicates::PredicateWeights;
 use cif_scope::number;
 use std::alloc::Global;
 
@@ -51,50 +51,60 @@ fn forms(measures: &[Measure]) -> u64
     found
 }
 
-/// The nodes of the choices of a net, by the outlines of its automata, exclusions and state invariants. The count stops one past the
-/// limit.
+/// The greatest depth of what these are the measures of, and of algebraic variables with these measures.
+fn greatest_depth(measures: &[Measure], own: &[Measure]) -> u64
+    ensures { result ≡ outlines.greatest_depth measures.now own.now }
+{
+    together(measures).depth.max(together(own).depth)
+}
+
+/// The nodes of the choices of a net, by the outlines of its automata, exclusions and state invariants, and of its algebraic variables.
+/// The count stops one past the limit.
 fn outlined_nodes(
     alloc: Global,
     alphabets: &[Alphabet],
     events: &[Event],
-    predicates: &Weights,
+    predicates: &PredicateWeights,
     measures: &[Measure],
+    own: &[Measure],
 ) -> Result<u64, Memory>
-    ensures { IfOk result (λ nodes. nodes ≡ outlines.outlined_nodes alphabets.now (map event_tree events.now) predicates.now measures.now) }
+    ensures { IfOk result (λ nodes. nodes ≡ outlines.outlined_nodes alphabets.now (map event_tree events.now) predicates.now measures.now own.now) }
 {
     let exclusions = outline_exclusions(alloc, predicates.exclusions.as_slice())?;
     let count = predicates.exclusions.len();
     let states = predicates.invariants.as_slice();
     let invariants = outline_invariants(alloc, number(count)?, states)?;
     let autos = all_outlines(alloc, number(count + states.len())?, alphabets)?;
-    choice_nodes(
+    let choices = choice_nodes(
         alloc,
         autos.as_slice(),
         exclusions.as_slice(),
         invariants.as_slice(),
         events,
         measures,
-    )
+    )?;
+    Ok(with_sizes(choices, own))
 }
 
 /// Whether a net is small enough to be made, by the alphabets of its automata, its events, its exclusions and state invariants, and the
-/// measures of these and of its edges. If not, its sizes are told where it breaks the rule on them. Where it doesn't, memory is
+/// measures of these, of its edges and of its algebraic variables. If not, its sizes are told where it breaks the rule on them. Where it doesn't, memory is
 /// said to be out, since an edge that no choice takes, or an exclusion of an event without choices, is too large.
 pub fn check_sizes(
     alloc: Global,
     alphabets: &[Alphabet],
     events: &[Event],
-    predicates: &Weights,
+    predicates: &PredicateWeights,
     measures: &[Measure],
+    own: &[Measure],
 ) -> Result<(), InstErr>
-    ensures made { IfOk result (λ done. outlines.AreMade measures.now) }
-    ensures told { IfErr result (λ e. outlines.tells_size alphabets.now (map event_tree events.now) predicates.now measures.now e) }
+    ensures made { IfOk result (λ done. outlines.AreMade measures.now own.now) }
+    ensures told { IfErr result (λ e. outlines.tells_size alphabets.now (map event_tree events.now) predicates.now measures.now own.now e) }
 {
-    let depth = together(measures).depth;
-    if depth <= MOST_DEPTH && forms(measures) <= MOST_FORMS {
+    let depth = greatest_depth(measures, own);
+    if depth <= MOST_DEPTH && forms(measures) <= MOST_FORMS && forms(own) <= MOST_FORMS {
         return Ok(());
     }
-    let nodes = outlined_nodes(alloc, alphabets, events, predicates, measures)?;
+    let nodes = outlined_nodes(alloc, alphabets, events, predicates, measures, own)?;
     if nodes > MOST_NODES || depth > MOST_DEPTH {
         return Err(InstErr::TooLarge {
             nodes: number(nodes as usize)?,
@@ -127,9 +137,9 @@ fn is_made(measures: &[Measure], is_flat: bool) -> bool {
     (is_low || is_flat) && forms(measures) <= MOST_FORMS
 }
 
-/// Whether a net with algebraic variables is small enough to be made, by the measures of its exclusions, state invariants and edges and
-/// those of the definitions of algebraic variables, and by the arguments of its components. Otherwise memory is said to be out: its
-/// sizes are told of a net that is made.
+/// Whether a net of which an algebraic variable depends on itself is small enough to be made, by the measures of its exclusions, state
+/// invariants and edges and those of the definitions of algebraic variables, where each of these counts as one form, and by the
+/// arguments of its components. Otherwise memory is said to be out: that it depends on itself (19) is told of a net that is made.
 pub fn check_made(
     given: &[Vec<Given<'_>>],
     measures: &[Measure],

@@ -1,20 +1,14 @@
 use Rattle.std.proofs.Common.{rules, map, sym, ◌∙◌, ap}
-use Rattle.cif_net.specs.View.{event_tree}
 use Rattle.cif_translate.specs.Looking.{source_for}
-use Rattle.cif_rows.specs.Names.{AreMatchedNames}
-use Rattle.cif_inst.specs.Net.{due, KeepsInstances}
+use Rattle.cif_inst.specs.Net.{due}
 use Rattle.cif_inst.specs.Roles.{first_mixed}
 use Rattle.cif_rows.specs.Views.{row_tree}
 use Rattle.cif_inst.proofs.MixedLaws.{mixed_told, all_below}
-use Rattle.cif_inst.proofs.NetLaws.{matched_names, kept_rules, source_fits, told_due}
-use Rattle.cif_inst.proofs.SizeLaws.{IsOutlined, no_algs, size_due}
+use Rattle.cif_inst.proofs.NetLaws.{matched_names, kept_rules, told_due}
 use Rattle.cif_inst.proofs.instantiating.alphabets_of.Goals as goal
 
 pub all_alphabets-requires-clause-names : goal.all_alphabets-requires-clause-names
 all_alphabets-requires-clause-names c = matched_names c.args.looking.now c.requires.names c.requires.kinds
-
-pub predicate_weights-requires-clause-names : goal.predicate_weights-requires-clause-names
-predicate_weights-requires-clause-names c = matched_names c.args.looking.now c.requires.names c.requires.kinds
 
 pub all_alphabets-requires-clause-events : goal.all_alphabets-requires-clause-events
 all_alphabets-requires-clause-events c = (c.total-total.ensures (source_for c.args.looking.now) c.requires.names.numbers).events
@@ -39,35 +33,12 @@ returns-in_err-check_roles-clause-refused c =
     (c.as_slice.ensures ∙ c.in_ok-alphabets.ensures.found) c.requires.rows c.in_err-check_roles.ensures.told in
     search rules
 
-pub returns-in_err-check_sizes-clause-refused : goal.returns-in_err-check_sizes-clause-refused
-returns-in_err-check_sizes-clause-refused c =
-    let names : AreMatchedNames c.args.looking.now = matched_names c.args.looking.now c.requires.names c.requires.kinds in
-    let kept : KeepsInstances (source_for c.args.looking.now) = kept_rules c.args.looking.now (map row_tree c.args.rows.now) c.in_ok-alphabets.alphabets names c.requires.few c.requires.ranges c.requires.rows c.in_ok-alphabets.ensures.found c.in_ok-alphabets.ensures.within
-    (sym (ap first_mixed c.as_slice.ensures) ∙ c.in_ok-check_roles.ensures.within) in
-    let outlined : IsOutlined c.args.looking.now (map row_tree c.args.rows.now) c.as_slice-2.result.now (map event_tree c.args.events.now) c.in_ok-predicates.predicates c.as_slice-3.result.now = record {
-      names = names;
-      of_source = c.requires.rows;
-      found = c.as_slice-2.ensures ∙ c.in_ok-alphabets.ensures.found;
-      declared = c.requires.events;
-      predicates = c.in_ok-predicates.ensures;
-      weighed = c.as_slice-3.ensures ∙ c.in_ok-measures.ensures;
-      kept = kept;
-      none = no_algs (source_for c.args.looking.now) c.total-total.result.algs (c.total-total.ensures (source_for c.args.looking.now) c.requires.names.numbers).algs c.if-total-gt0.false;
-      fits =
-          source_fits c.args.looking.now names c.requires.kinds kept c.nets_of_sources_are_nets.ensures
-          (c.counted_trees_have_small_parts.ensures c.args.looking.now.spec.now c.requires.countable c.requires.small) (c.trees_have_small_arguments.ensures c.args.looking.now.spec.now c.requires.small);
-    } in
-    let told : due (source_for c.args.looking.now) c.in_err-check_sizes.field-0.0 =
-    size_due c.args.looking.now (map row_tree c.args.rows.now) c.as_slice-2.result.now (map event_tree c.args.events.now) c.in_ok-predicates.predicates c.as_slice-3.result.now outlined
-    c.outlines_have_the_nodes_of_their_net.ensures c.in_err-check_sizes.field-0.0 c.in_err-check_sizes.ensures.told in
-    search rules
-
-pub returns-clause-none : goal.returns-clause-none
-returns-clause-none c =
+pub check_expressions-requires-clause-kept : goal.check_expressions-requires-clause-kept
+check_expressions-requires-clause-kept c =
     kept_rules c.args.looking.now (map row_tree c.args.rows.now) c.in_ok-alphabets.alphabets (matched_names c.args.looking.now c.requires.names c.requires.kinds) c.requires.few c.requires.ranges c.requires.rows c.in_ok-alphabets.ensures.found
     c.in_ok-alphabets.ensures.within (sym (ap first_mixed c.as_slice.ensures) ∙ c.in_ok-check_roles.ensures.within)
 
-pub returns-then-total-gt0-clause-none : goal.returns-then-total-gt0-clause-none
-returns-then-total-gt0-clause-none c =
+pub returns-clause-none : goal.returns-clause-none
+returns-clause-none c =
     kept_rules c.args.looking.now (map row_tree c.args.rows.now) c.in_ok-alphabets.alphabets (matched_names c.args.looking.now c.requires.names c.requires.kinds) c.requires.few c.requires.ranges c.requires.rows c.in_ok-alphabets.ensures.found
     c.in_ok-alphabets.ensures.within (sym (ap first_mixed c.as_slice.ensures) ∙ c.in_ok-check_roles.ensures.within)

@@ -1,4 +1,0 @@
-mod ReadyLaws
-mod CountedLaws
-mod NameLaws
-mod ArgumentLaws
