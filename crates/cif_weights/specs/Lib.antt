@@ -1,0 +1,5 @@
+pub mod Counted
+pub mod Definitions
+pub mod Naming
+pub mod Needs
+pub mod Weights
