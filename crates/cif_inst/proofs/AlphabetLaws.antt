@@ -7,10 +7,9 @@ use Rattle.cif_system.proofs.Picks.{append-left, append-right, map-member}
 use Rattle.cif_system.proofs.Distinct.{member-map}
 use Rattle.cif_source.specs.Source.{AutomatonTree, automaton_body, Source}
 use Rattle.cif_source.specs.Components.{Component, body_of, params_of}
-use Rattle.cif_source.specs.Lookup.{denotes}
 use Rattle.cif_source.specs.Objects.{components_of, EventEdge, event_edges, events}
-use Rattle.cif_source.specs.Uses.{uses, event_asked, asking, param_uses, body_uses, decl_uses, location_uses}
-use Rattle.cif_source.specs.Step.{event_at, role_of}
+use Rattle.cif_source.specs.Uses.{event_asked, asking, param_uses, body_uses, decl_uses, location_uses}
+use Rattle.cif_source.specs.Step.{role_of}
 use Rattle.cif_system.specs.System.{Role, syncing}
 use Rattle.cif_system.specs.Step.{same_role}
 use Rattle.cif_rules.specs.InstanceRules.{synchronised_name}

@@ -17,8 +17,7 @@ use Rattle.cif_net.specs.View.{role_of as net_role, edge_tree as net_tree}
 use Rattle.cif_system.specs.Words.{Member}
 use Rattle.cif_system.specs.System.{Role, syncing, sending, receiving}
 use Rattle.cif_system.proofs.Lists.{false-true, some-same, none-some, find-passes}
-use Rattle.cif_system.proofs.Picks.{map-member, append-left, append-right}
-use Rattle.cif_model.specs.Net.{NetEdge}
+use Rattle.cif_system.proofs.Picks.{map-member, append-right}
 use Rattle.cif_source.specs.Source.{Text, ParamTree, role_tree, use_tree, edge_tree, UseTree, EdgeTree, LocationTree, DeclTree, type_decl, enum_decl, event_decl, const_decl, alg_decl, input_decl, disc_decl, equation_decl, invariant_decl, marked_decl, AutomatonTree, automaton_body, Source}
 use Rattle.cif_source.specs.Components.{Component, scope_of, same_text, param_name, param_entries, body_entries, decl_entries, location_entry, entry_named, Entry, Entries, declared, literal, location, inner, definition, instance, parameter}
 use Rattle.cif_source.specs.Objects.{locs_of, EventEdge, event_edges, edges_of_uses}

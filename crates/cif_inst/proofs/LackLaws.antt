@@ -8,7 +8,7 @@ use Rattle.cif_ast.specs.declared.names.Name.{Name}
 use Rattle.cif_system.specs.Words.{Member}
 use Rattle.cif_system.proofs.Lists.{some-same, none-some}
 use Rattle.cif_system.proofs.Picks.{append-left, append-right}
-use Rattle.cif_system.proofs.Distinct.{member-append, member-map}
+use Rattle.cif_system.proofs.Distinct.{member-append}
 use Rattle.cif_model.specs.Facts.{has}
 use Rattle.cif_source.specs.Source.{UseTree, EdgeTree, LocationTree, AutomatonTree, automaton_body, Source}
 use Rattle.cif_source.specs.Components.{Component, body_of}

@@ -1,5 +1,5 @@
 -- What is told of the roles of events breaks their rule, and where nothing is told the rule is kept.
-use Rattle.std.proofs.Common.{◌≡◌, ℕ, suc, zero, ◌+◌, ◌≤◌, ◌<◌, Bool, true, false, inl, inr, List, [], ◌∷◌, ◌++◌, length, map, Option, Some, None, refl, sym, ◌∙◌, ap, subst}
+use Rattle.std.proofs.Common.{◌≡◌, ℕ, suc, zero, ◌+◌, ◌≤◌, ◌<◌, true, false, inl, inr, List, [], ◌∷◌, ◌++◌, length, map, Option, Some, None, refl, sym, ◌∙◌, ap, subst}
 use Rattle.std.specs.Prelude.{slice_get, unwrap_or, if◌then◌else◌}
 use Rattle.std.proofs.lemmas.List.{map-append}
 use Rattle.cif_system.specs.Words.{Member}
@@ -11,7 +11,6 @@ use Rattle.cif_source.specs.Components.{Component, whole, part, blank, copy, as_
 use Rattle.cif_source.specs.Objects.{components_of, automata, is_automaton, bodies, bodies_in, bodies_at, bodies_under, events}
 use Rattle.cif_rules.specs.BodyRules.{name_at}
 use Rattle.cif_rules.specs.InstanceRules.{role_count, RoleMixedDue}
-use Rattle.cif_scope.specs.Tables.{IsBody}
 use Rattle.cif_components.specs.Numbers.{IsNumber}
 use Rattle.cif_image.proofs.RuleLaws.{member-any}
 use Rattle.cif_image.proofs.StandingLaws.{any-member}
@@ -26,7 +25,7 @@ use Rattle.cif_inst.specs.Net.{due}
 use Rattle.cif_inst.specs.declared.alphabets.Alphabet.{Alphabet}
 use Rattle.cif_inst.specs.declared.error.InstErr.{InstErr}
 use Rattle.cif_inst.specs.declared.error.InstErr.TheVariants.{AlphabetLacks, RoleMixed, TooManyObjects, ConstantRange, TooLarge, Memory}
-use Rattle.cif_rows.proofs.SoundLaws.{component-is, component-listed, body-numbered, From, from-here, from-next, all-components}
+use Rattle.cif_rows.proofs.SoundLaws.{body-numbered, From, from-here, from-next, all-components}
 use Rattle.cif_inst.proofs.UseLaws.{automaton-listed}
 use Rattle.cif_inst.proofs.RoleLaws.{automaton-mixed, automaton-single, automaton-below}
 

@@ -1,10 +1,10 @@
 -- The automaton that is told has an event with two roles, and where none is told no automaton has.
-use Rattle.std.proofs.Common.{◌≡◌, ℕ, ◌+◌, ◌≤◌, ◌<◌, ◌⊎◌, Bool, true, false, inl, inr, List, [], ◌∷◌, ◌++◌, length, map, filter, refl, sym, ◌∙◌, ap, subst, arith}
+use Rattle.std.proofs.Common.{◌≡◌, ℕ, ◌≤◌, ◌<◌, ◌⊎◌, Bool, true, false, inl, inr, List, [], ◌∷◌, ◌++◌, length, map, filter, refl, sym, ◌∙◌, ap, subst, arith}
 use Rattle.std.specs.Prelude.{◌&&◌, ◌||◌, nat_eq, flat_map, if◌then◌else◌}
 use Rattle.std.specs.List.{list_any}
 use Rattle.std.proofs.lemmas.Bool.Decides.{nat_tests}
 use Rattle.cif_system.specs.Words.{Member}
-use Rattle.cif_system.specs.System.{Role, syncing, sending, receiving}
+use Rattle.cif_system.specs.System.{Role, sending, receiving}
 use Rattle.cif_system.specs.Step.{same_role, is_number}
 use Rattle.cif_system.proofs.Lists.{false-true}
 use Rattle.cif_model.specs.Facts.{has}

@@ -1,4 +1,4 @@
-use Rattle.std.proofs.Common.{◌≡◌, ℕ, true, List, ◌++◌, rules, map, sym, subst, ◌∙◌, ap}
+use Rattle.std.proofs.Common.{◌≡◌, ℕ, true, ◌++◌, rules, map, sym, subst, ◌∙◌, ap}
 use Rattle.cif_net.specs.View.{event_tree}
 use Rattle.cif_model.specs.Counts as counts
 use Rattle.cif_measure.specs.Sizes.{AreMeasured}
