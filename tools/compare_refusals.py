@@ -150,9 +150,14 @@ def shared(choose, count):
     return [high - low for low, high in zip([0] + cuts, cuts + [count])]
 
 
+def crowded_instances(choose):
+    """A source with definitions that double so often that its components stay far below the limit, or leave it."""
+    return doubled(choose.choice([4, 12, 16, 17, 40, 200])) + choose.choice(["", " event e;", " y: D1();", " automaton a: location: initial; end"])
+
+
 def made(choose):
-    if choose.random() < 0.02:
-        return choose.choice([crowded, crowded, crowded_channel])(choose)
+    if choose.random() < 0.025:
+        return choose.choice([crowded, crowded, crowded_channel, crowded_instances])(choose)
     return faulty(choose)
 
 
