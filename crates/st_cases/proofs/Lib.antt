@@ -1,1 +1,2 @@
 mod Needs
+mod LayoutRows
