@@ -1,4 +1,4 @@
--- A list that a loop has read the front of.
+-- Helper of the code: a list that a loop has read the front of.
 use Rattle.std.specs.Prelude.{ℕ, max, List, ◌++◌, Some, None}
 use Rattle.grammar.specs.Lang.{flat}
 use Rattle.grammar.specs.Reader.{Read}

@@ -1,4 +1,5 @@
--- Reading with one token of sight: what stands at the front, and what is left.
+-- Helper of the code: reading with one token of sight, which gives what stands at the front, and what is left. What a list of
+-- tokens may stand for is said by `Lang` and the grammars, without it.
 use Rattle.std.specs.Prelude.{ℕ, zero, suc, ◌+◌, max, Bool, false, nat_lt, List, [], ◌∷◌, length, Option, Some, None, if◌then◌else◌}
 use Rattle.grammar.specs.Lang.{has}
 

@@ -1,4 +1,4 @@
--- Sets of kinds of token, as lists of their numbers.
+-- Helper of the code: sets of kinds of token, as lists of their numbers.
 use Rattle.std.specs.Prelude.{ℕ, Bool, true, not, ◌&&◌, List, [], ◌∷◌}
 use Rattle.grammar.specs.Lang.{has}
 
