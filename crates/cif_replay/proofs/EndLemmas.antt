@@ -5,7 +5,7 @@ use Rattle.std.proofs.lemmas.Bool.Decides.{nat_tests}
 use Rattle.grammar.specs.Pieces.{Text}
 use Rattle.st_ast.specs.Tree.{Program}
 use Rattle.st_ast.specs.declared.tree.StVar.{StVar}
-use Rattle.plc_rows.specs.Rows.{RowFault, too_many_rows, most_rows, or_else, row_fault, rows_fault, header_fault, file_fault, first_row_fault, row_values, rows_after, records_of, RowsOf}
+use Rattle.plc_rows.specs.Rows.{RowFault, too_many_rows, most_rows, or_else, row_number, row_fault, rows_fault, header_fault, file_fault, first_row_fault, row_values, rows_after, records_of, RowsOf}
 use Rattle.plc_rows.specs.Told as told
 use Rattle.plc_rows.specs.declared.row.Row.{Row}
 use Rattle.plc_rows.specs.declared.error.RowErr.{RowErr}
@@ -31,24 +31,24 @@ length_of f (x ∷ xs) = ap suc (length_of f xs)
 abbrev FewFrom : ℕ → List (List Text) → Type 0
 FewFrom k rs = (k + length rs ≤ most_rows + 1) ⊎ (length rs ≡ 0)
 
-few_from : (vars : List StVar) (names : List Text) (k : ℕ) (rs : List (List Text)) → rows_fault vars names k rs ≡ None → FewFrom k rs
+few_from : (vars : List StVar) (names : List Text) (k : ℕ) (rs : List (List Text)) → rows_fault row_number vars names k rs ≡ None → FewFrom k rs
 few_from vars names k [] e = inr refl
 few_from vars names k (r ∷ rs) e = inl (go (nat_lt most_rows k) refl (few_from vars names (suc k) rs) e)
   where
-    go : (b : Bool) → nat_lt most_rows k ≡ b → (rows_fault vars names (suc k) rs ≡ None → FewFrom (suc k) rs)
-        → (if b then Some (too_many_rows (most_rows + 1)) else or_else (row_fault vars names k r) (rows_fault vars names (suc k) rs)) ≡ None
+    go : (b : Bool) → nat_lt most_rows k ≡ b → (rows_fault row_number vars names (suc k) rs ≡ None → FewFrom (suc k) rs)
+        → (if b then Some (too_many_rows (most_rows + 1)) else or_else (row_fault row_number vars names k r) (rows_fault row_number vars names (suc k) rs)) ≡ None
         → k + suc (length rs) ≤ most_rows + 1
     go true is more h = absurd cc
-    go false is more h = elim (more (none_left (row_fault vars names k r) (rows_fault vars names (suc k) rs) h)) [
+    go false is more h = elim (more (none_left (row_fault row_number vars names k r) (rows_fault row_number vars names (suc k) rs) h)) [
       | inl q ↦ omega (arith, q)
       | inr q ↦ let short : k ≤ most_rows = grind (arith, nat_tests) in omega (arith, q, short)
     ]
 
-few_in_file : (vars : List StVar) (rs : List (List Text)) → file_fault vars rs ≡ None → length (rows_after vars rs) ≤ most_rows
+few_in_file : (vars : List StVar) (rs : List (List Text)) → file_fault row_number vars rs ≡ None → length (rows_after vars rs) ≤ most_rows
 few_in_file vars [] e = absurd cc
 few_in_file vars (names ∷ rs) e =
     let same = length_of (row_values vars names) rs in
-    elim (few_from vars names 1 rs (none_left (header_fault vars names) (rows_fault vars names 1 rs) e)) [ inl q ↦ omega (arith, q, same) | inr q ↦ omega (arith, q, same) ]
+    elim (few_from vars names 1 rs (none_left (header_fault vars names) (rows_fault row_number vars names 1 rs) e)) [ inl q ↦ omega (arith, q, same) | inr q ↦ omega (arith, q, same) ]
 
 -- rows that break no rule are few
 pub few_rows : (vars : List StVar) (text : Text) (rows slice : List Row) → RowsOf vars text (told.cells_of rows) → slice ≡ rows → length slice ≤ 100000

@@ -4,8 +4,7 @@ use Rattle.grammar.specs.Pieces.{Text}
 use Rattle.st_ast.specs.Tree.{Program}
 use Rattle.st_ast.specs.Exec.{OutOfTurns}
 use Rattle.st_ast.specs.ReadsAs.{ReadsAsProgram}
-use Rattle.st_read.proofs.Whole.{one-program}
-use Rattle.st_read.proofs.Told.{one_derives, reads_derive}
+use Rattle.st_read.proofs.Whole.{one-program, one_derives}
 use Rattle.st_scan.specs.Endings.{stopped}
 use Rattle.plc_back.specs.Texts.{TheProgram}
 use Rattle.cif_run.specs.declared.status.Status.{Status}
@@ -25,7 +24,7 @@ the_one text p P reads h = (p, reads, h, λ q rq. one-program text q p rq reads)
 -- the name of a variable of the program is one of the text
 named_by : (text : Text) (p : Program) → ReadsAsProgram text p → (s : Status) (name : Text) → IsNamed p s name → IsNamedBy text s name
 named_by text p reads s name h q d =
-    let one = one_derives text p q (reads_derive text p reads) d in
+    let one = one_derives text p q reads.derives d in
     subst (λ (x : Program). IsNamed x s name) one h
 
 module _ (content : Content) (r : Replay) (c : Reading) (e : Ended) (st : Text) (holds : Holds (content r.st) st) (short : length st ≤ st_limit) where

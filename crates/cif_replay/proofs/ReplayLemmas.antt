@@ -6,15 +6,13 @@ use Rattle.st_ast.specs.Values.{Memory}
 use Rattle.st_ast.specs.Exec.{Outcome, Ended, Faulted, OutOfTurns}
 use Rattle.st_ast.specs.Scan.{scan_of, later_memories}
 use Rattle.st_ast.specs.Checks.{CheckFault, check_faults, stms_count}
-use Rattle.st_ast.specs.Scan.{is_input}
 use Rattle.st_ast.specs.View.{view, view_stmts}
 use Rattle.st_ast.specs.declared.tree.Program as rust
-use Rattle.st_read.specs.Derives.{Derives}
 use Rattle.st_read.proofs.Programs.{program_small}
 use Rattle.cif_replay.specs.Told.{variable_of_check}
-use Rattle.st_ast.specs.ReadsAs.{ReadsAsProgram}
+use Rattle.st_ast.specs.ReadsAs.{ReadsAsProgram, Derives}
 use Rattle.st_read.proofs.RefusalLaws.{refused_derives_none}
-use Rattle.st_read.proofs.Told.{one_derives, reads_derive}
+use Rattle.st_read.proofs.Whole.{one_derives}
 use Rattle.st_check.specs.Told.{first, IsFirst}
 use Rattle.st_check.specs.declared.error.StCheckErr.{StCheckErr}
 use Rattle.st_check.specs.declared.error.StCheckErr.TheVariants as check
@@ -43,9 +41,9 @@ broken p check.Memory other f none = other refl
 
 -- a text that is refused reads as no program
 pub refused_reads_none : (text : Text) (why : StRefusal) → IsStRefused text why → (p : Program) → ReadsAsProgram text p → ⊥
-refused_reads_none text (refusal.Text e) h p reads = refused_derives_none text e h.1 h.0 p (reads_derive text p reads)
+refused_reads_none text (refusal.Text e) h p reads = refused_derives_none text e h.1 h.0 p reads.derives
 refused_reads_none text (refusal.Check e) h p reads =
-    let same = one_derives text h.1.0 p h.1.1 (reads_derive text p reads) in
+    let same = one_derives text h.1.0 p h.1.1 reads.derives in
     broken p e h.0 (subst (λ (q : Program). IsFirst e (check_faults q)) same h.1.2) reads.checked
 
 -- what is known of a program that is read and checked
@@ -56,7 +54,7 @@ pub few_statements : (text : Text) (q : rust.Program) → Derives text (view q) 
 few_statements text q d h = let k = (program_small text (view q) d).1 in omega (arith, h, k)
 
 pub reads_checked : (text : Text) (q c : rust.Program) → Derives text (view q) → c ≡ q → check_faults (view q) ≡ [] → ReadsAsProgram text (view c)
-reads_checked text q c d e f = subst (λ (x : rust.Program). ReadsAsProgram text (view x)) (sym e) (record { tokens = d.tokens; are_tokens = d.are_tokens; derived = d.derived; checked = f })
+reads_checked text q c d e f = subst (λ (x : rust.Program). ReadsAsProgram text (view x)) (sym e) (record { derives = d; checked = f })
 
 -- the name of a variable in the program of a text
 pub named_in : (text : Text) (q : rust.Program) (e : StCheckErr) (number : ℕ) (name : Text) → variable_of_check e ≡ Some number → Derives text (view q) → name ≡ name_at q.vars number

@@ -4,7 +4,7 @@ use Rattle.grammar.specs.Pieces.{Text}
 use Rattle.st_ast.specs.Tree.{Program}
 use Rattle.st_ast.specs.Exec.{OutOfTurns}
 use Rattle.st_ast.specs.Scan.{start_memory}
-use Rattle.st_read.specs.Derives.{Derives}
+use Rattle.st_ast.specs.ReadsAs.{Derives}
 use Rattle.st_scan.specs.Endings.{stopped}
 use Rattle.st_scan.specs.declared.error.ScanErr.TheVariants as scan
 use Rattle.cif_run.specs.declared.status.Status.{Status}

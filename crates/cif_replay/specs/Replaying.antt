@@ -8,7 +8,7 @@ use Rattle.st_ast.specs.Scan.{start_memory, scan_of, later_memories}
 use Rattle.st_ast.specs.Interface.{output_values}
 use Rattle.st_ast.specs.Checks.{check_faults}
 use Rattle.st_ast.specs.declared.tree.StVar.{StVar}
-use Rattle.st_read.specs.Derives.{Derives}
+use Rattle.st_ast.specs.ReadsAs.{Derives}
 use Rattle.st_read.specs.Refusals.{RefusalDue}
 use Rattle.st_read.specs.declared.error.StErr.TheVariants as st
 use Rattle.st_check.specs.Told.{IsFirst}

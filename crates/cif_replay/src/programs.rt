@@ -1,10 +1,9 @@
 //! From the text of a program to the checked program, or why it is refused.
 
 ghost use Rattle.std.specs.Prelude.{◌≡◌, ◌≤◌, ℕ, Some, length, IfOk, IfErr};
-ghost use Rattle.st_ast.specs.ReadsAs.{ReadsAsProgram};
+ghost use Rattle.st_ast.specs.ReadsAs.{ReadsAsProgram, Derives};
 ghost use Rattle.st_ast.specs.Tree.{Program};
 ghost use Rattle.st_ast.specs.View.{view};
-ghost use Rattle.st_read.specs.Derives.{Derives};
 ghost use Rattle.cif_run.specs.Groups.{IsUnlessMemory};
 ghost use Rattle.cif_replay.specs.Told.{variable_of_check};
 ghost use Rattle.cif_replay.specs.Ends.{IsNamedBy, StEnds};

@@ -2,12 +2,13 @@
 use Rattle.std.proofs.Common.{◌≡◌, ◌≢◌, ◌==◌, ℕ, zero, suc, ◌+◌, ◌<◌, ℤ, pos, Bool, true, false, ◌&&◌, cond, List, [], ◌∷◌, map, length, Option, Some, None, get_or, refl, sym, ap, subst, ◌∙◌, arith, eqb-true, eq-eqb}
 use Rattle.std.specs.Prelude.{IsTrue, option_map, slice_get, slice_set}
 use Rattle.std.specs.List.{enumerate_from, AllZip}
+use Rattle.std.specs.Char.{to_ascii_lowercase}
 use Rattle.grammar.specs.Pieces.{Text}
 use Rattle.grammar.proofs.Texts.{and_left, and_right}
 use Rattle.cif_system.specs.System.{State, System, in_range}
 use Rattle.cif_system.proofs.Lists.{some-same, none-some}
 use Rattle.st_ast.specs.Tree.{Program}
-use Rattle.st_ast.specs.Names.{folded, same_name, place_of, declared}
+use Rattle.st_ast.specs.Names.{same_name, place_of, declared}
 use Rattle.st_ast.specs.Values.{Memory}
 use Rattle.st_ast.specs.Exec.{type_of, type_at}
 use Rattle.st_ast.specs.declared.tree.StVar.{StVar}
@@ -90,7 +91,7 @@ one-state face sys p m s t a b =
 
 pub same_name-self : (w : Text) → same_name w w ≡ true
 same_name-self [] = refl
-same_name-self (b ∷ w) = let e : (folded b == folded b) ≡ true = search (eq-eqb) in rw e (same_name-self w)
+same_name-self (b ∷ w) = let e : (to_ascii_lowercase b == to_ascii_lowercase b) ≡ true = search (eq-eqb) in rw e (same_name-self w)
 
 and-true : (a b : Bool) → a ≡ true → b ≡ true → (a && b) ≡ true
 and-true a b x y = rw x y
@@ -100,9 +101,9 @@ same_name-sym [] [] e = refl
 same_name-sym [] (b ∷ y) e = e
 same_name-sym (a ∷ x) [] e = e
 same_name-sym (a ∷ x) (b ∷ y) e =
-    and-true (folded b == folded a) (same_name y x)
-    (eq-eqb (folded b) (folded a) (sym (eqb-true (folded a) (folded b) (and_left (folded a == folded b) (same_name x y) e))))
-    (same_name-sym x y (and_right (folded a == folded b) (same_name x y) e))
+    and-true (to_ascii_lowercase b == to_ascii_lowercase a) (same_name y x)
+    (eq-eqb (to_ascii_lowercase b) (to_ascii_lowercase a) (sym (eqb-true (to_ascii_lowercase a) (to_ascii_lowercase b) (and_left (to_ascii_lowercase a == to_ascii_lowercase b) (same_name x y) e))))
+    (same_name-sym x y (and_right (to_ascii_lowercase a == to_ascii_lowercase b) (same_name x y) e))
 
 pub same_name-trans : (x y z : Text) → same_name x y ≡ true → same_name y z ≡ true → same_name x z ≡ true
 same_name-trans [] [] z e h = h
@@ -110,9 +111,9 @@ same_name-trans [] (b ∷ y) z e h = false-true false refl e
 same_name-trans (a ∷ x) [] z e h = false-true false refl e
 same_name-trans (a ∷ x) (b ∷ y) [] e h = h
 same_name-trans (a ∷ x) (b ∷ y) (c ∷ z) e h =
-    and-true (folded a == folded c) (same_name x z)
-    (eq-eqb (folded a) (folded c) (eqb-true (folded a) (folded b) (and_left (folded a == folded b) (same_name x y) e) ∙ eqb-true (folded b) (folded c) (and_left (folded b == folded c) (same_name y z) h)))
-    (same_name-trans x y z (and_right (folded a == folded b) (same_name x y) e) (and_right (folded b == folded c) (same_name y z) h))
+    and-true (to_ascii_lowercase a == to_ascii_lowercase c) (same_name x z)
+    (eq-eqb (to_ascii_lowercase a) (to_ascii_lowercase c) (eqb-true (to_ascii_lowercase a) (to_ascii_lowercase b) (and_left (to_ascii_lowercase a == to_ascii_lowercase b) (same_name x y) e) ∙ eqb-true (to_ascii_lowercase b) (to_ascii_lowercase c) (and_left (to_ascii_lowercase b == to_ascii_lowercase c) (same_name y z) h)))
+    (same_name-trans x y z (and_right (to_ascii_lowercase a == to_ascii_lowercase b) (same_name x y) e) (and_right (to_ascii_lowercase b == to_ascii_lowercase c) (same_name y z) h))
 
 pub declared-name : (vars : List StVar) (x : Text) (v : StVar) → declared vars x ≡ Some v → same_name v.name x ≡ true
 declared-name [] x v e = absurd (none-some v e)

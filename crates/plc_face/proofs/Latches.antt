@@ -13,7 +13,8 @@ use Rattle.st_ast.specs.Tree.{Program, named, stms_of}
 use Rattle.st_ast.specs.Names.{same_name, place_of}
 use Rattle.st_ast.specs.Values.{Memory}
 use Rattle.st_ast.specs.Exec.{Ended, is_within, exec, exec_one}
-use Rattle.st_ast.specs.Scan.{is_input, store_row}
+use Rattle.st_ast.specs.Scan.{store_row}
+use Rattle.st_ast.specs.Interface.{is_input, inputs_of}
 use Rattle.st_ast.specs.Checks.{CheckFault, duplicate, unless, variable_faults, variables_faults, check_faults}
 use Rattle.st_ast.specs.declared.tree.StVar.{StVar}
 use Rattle.st_ast.specs.declared.tree.StClass.TheVariants as class
@@ -131,9 +132,6 @@ store-other (u ∷ vars) (z ∷ row) (x ∷ m) (suc k) v e off = go (is_input u.
         → slice_get (cond b (z ∷ store_row vars row m) (x ∷ store_row vars (z ∷ row) m)) (suc k) ≡ slice_get (x ∷ m) (suc k)
     go true taken passed = taken
     go false taken passed = passed
-
-abbrev inputs_of : List StVar → List StVar
-inputs_of vars = filter (λ (v : StVar). is_input v.class) vars
 
 typed-store : (vars : List StVar) (row : List ℤ) (m : Memory) → Typed vars m → Typed (inputs_of vars) row → Typed vars (store_row vars row m)
 typed-store [] row m h g = h

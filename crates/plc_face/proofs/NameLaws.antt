@@ -3,11 +3,12 @@ use Rattle.std.proofs.Common.{◌≡◌, ◌==◌, ℕ, ◌^◌, ◌<◌, Bool, 
 use Rattle.std.specs.Prelude.{if◌then◌else◌}
 use Rattle.std.specs.Fmt.{decimal}
 use Rattle.std.specs.List.{list_all, list_any}
+use Rattle.std.specs.Char.{to_ascii_lowercase}
 use Rattle.std.proofs.lemmas.Fmt.{decimal_injective}
 use Rattle.std.proofs.lemmas.Bool.Decides.{nat_tests}
 use Rattle.grammar.specs.Pieces.{Text, AllAre}
 use Rattle.grammar.proofs.Texts.{and_left, and_right}
-use Rattle.st_ast.specs.Names.{folded, same_name}
+use Rattle.st_ast.specs.Names.{same_name}
 use Rattle.grammar.specs.Bytes.{begins_word, is_digit, is_wordy}
 use Rattle.st_ast.specs.Tokens.{is_identifier, in_table, keywords, reserved, kind_of_word}
 use Rattle.st_ast.specs.declared.kinds.TokenKind.{TokenKind}
@@ -36,7 +37,7 @@ byte_of letter.Q = 81
 byte_of letter.R = 82
 byte_of letter.T = 84
 
-letter_at-folded : (l : Letter) → letter_at (folded (byte_of l)) ≡ l
+letter_at-folded : (l : Letter) → letter_at (to_ascii_lowercase (byte_of l)) ≡ l
 unfolding letter_at
 letter_at-folded letter.I = refl
 letter_at-folded letter.H = refl
@@ -62,16 +63,16 @@ name_for-bytes l k path = ap (λ t. t ++ (decimal k ++ (underscore ∷ tidied pa
 
 -- ---- names that are the same
 
-first-same : (a b : ℕ) (x y : Text) → same_name (a ∷ x) (b ∷ y) ≡ true → folded a ≡ folded b
-first-same a b x y e = eqb-true (folded a) (folded b) (and_left (folded a == folded b) (same_name x y) e)
+first-same : (a b : ℕ) (x y : Text) → same_name (a ∷ x) (b ∷ y) ≡ true → to_ascii_lowercase a ≡ to_ascii_lowercase b
+first-same a b x y e = eqb-true (to_ascii_lowercase a) (to_ascii_lowercase b) (and_left (to_ascii_lowercase a == to_ascii_lowercase b) (same_name x y) e)
 
-digit-folded : (d : ℕ) → is_digit d ≡ true → folded d ≡ d
+digit-folded : (d : ℕ) → is_digit d ≡ true → to_ascii_lowercase d ≡ d
 digit-folded d e = grind (arith, nat_tests)
 
-digit-no_underscore : (d : ℕ) → is_digit d ≡ true → (underscore == folded d) ≡ false
+digit-no_underscore : (d : ℕ) → is_digit d ≡ true → (underscore == to_ascii_lowercase d) ≡ false
 digit-no_underscore d e = grind (arith, nat_tests)
 
-underscore-no_digit : (d : ℕ) → is_digit d ≡ true → (folded d == underscore) ≡ false
+underscore-no_digit : (d : ℕ) → is_digit d ≡ true → (to_ascii_lowercase d == underscore) ≡ false
 underscore-no_digit d e = grind (arith, nat_tests)
 
 pub false-true : {A : Type 0} (b : Bool) → b ≡ false → b ≡ true → A
@@ -79,11 +80,11 @@ false-true b off on = cc
 
 numbers-same : (x y t u : Text) → AllAre is_digit x → AllAre is_digit y → same_name (x ++ (underscore ∷ t)) (y ++ (underscore ∷ u)) ≡ true → x ≡ y
 numbers-same [] [] t u a b e = refl
-numbers-same [] (d ∷ y) t u a b e = false-true (underscore == folded d) (digit-no_underscore d b.0) (and_left (underscore == folded d) (same_name t (y ++ (underscore ∷ u))) e)
-numbers-same (d ∷ x) [] t u a b e = false-true (folded d == underscore) (underscore-no_digit d a.0) (and_left (folded d == underscore) (same_name (x ++ (underscore ∷ t)) u) e)
+numbers-same [] (d ∷ y) t u a b e = false-true (underscore == to_ascii_lowercase d) (digit-no_underscore d b.0) (and_left (underscore == to_ascii_lowercase d) (same_name t (y ++ (underscore ∷ u))) e)
+numbers-same (d ∷ x) [] t u a b e = false-true (to_ascii_lowercase d == underscore) (underscore-no_digit d a.0) (and_left (to_ascii_lowercase d == underscore) (same_name (x ++ (underscore ∷ t)) u) e)
 numbers-same (c ∷ x) (d ∷ y) t u a b e =
     let first : c ≡ d = sym (digit-folded c a.0) ∙ first-same c d (x ++ (underscore ∷ t)) (y ++ (underscore ∷ u)) e ∙ digit-folded d b.0 in
-    let rest : x ≡ y = numbers-same x y t u a.1 b.1 (and_right (folded c == folded d) (same_name (x ++ (underscore ∷ t)) (y ++ (underscore ∷ u))) e) in
+    let rest : x ≡ y = numbers-same x y t u a.1 b.1 (and_right (to_ascii_lowercase c == to_ascii_lowercase d) (same_name (x ++ (underscore ∷ t)) (y ++ (underscore ∷ u))) e) in
     ap (λ h. h ∷ x) first ∙ ap (λ r. d ∷ r) rest
 
 module _ (a b : Letter) (j k : ℕ) (p q : Text) where
@@ -100,7 +101,7 @@ module _ (a b : Letter) (j k : ℕ) (p q : Text) where
   numbers_same small_j small_k e =
       decimal_injective j k small_j small_k
       (numbers-same (decimal j) (decimal k) (tidied p) (tidied q) (decimal_digits j) (decimal_digits k)
-      (and_right (folded (byte_of a) == folded (byte_of b)) (same_name (decimal j ++ (underscore ∷ tidied p)) (decimal k ++ (underscore ∷ tidied q))) (bytes-same e)))
+      (and_right (to_ascii_lowercase (byte_of a) == to_ascii_lowercase (byte_of b)) (same_name (decimal j ++ (underscore ∷ tidied p)) (decimal k ++ (underscore ∷ tidied q))) (bytes-same e)))
 
   not_true : (t : Bool) → (t ≡ true → ⊥) → t ≡ false
   not_true true never = absurd (never refl)
@@ -141,14 +142,14 @@ has_second (b ∷ d ∷ w) = begins_word d
 
 second-differs : (r : Text) (c d : ℕ) (w : Text) → has_second r ≡ true → is_digit d ≡ true → same_name r (c ∷ d ∷ w) ≡ false
 second-differs [] c d w has digit = refl
-second-differs (b ∷ []) c d w has digit = one (folded b == folded c)
+second-differs (b ∷ []) c d w has digit = one (to_ascii_lowercase b == to_ascii_lowercase c)
   where
     one : (t : Bool) → (t && false) ≡ false
     one true = refl
     one false = refl
 second-differs (b ∷ e ∷ r) c d w has digit =
-    let apart : (folded e == folded d) ≡ false = grind (arith, nat_tests) in
-    rw apart (one (folded b == folded c))
+    let apart : (to_ascii_lowercase e == to_ascii_lowercase d) ≡ false = grind (arith, nat_tests) in
+    rw apart (one (to_ascii_lowercase b == to_ascii_lowercase c))
   where
     one : (t : Bool) → (t && false) ≡ false
     one true = refl

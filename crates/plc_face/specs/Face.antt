@@ -1,14 +1,13 @@
 -- What a program shows of a system of automata: the names, types and first values of its inputs and outputs, the state that
 -- a memory stands for, and the outputs (IEC 61131-3, "Variables").
-use Rattle.std.specs.Prelude.{◌≡◌, ℕ, ◌-◌, ◌^◌, ℤ, pos, negsuc, Bool, IsTrue, List, ◌++◌, map, filter, length, codes, Some, None, option_map, slice_get, if◌then◌else◌}
+use Rattle.std.specs.Prelude.{◌≡◌, ℕ, ◌-◌, ℤ, pos, Bool, List, ◌++◌, map, length, codes, Some, None, option_map, slice_get, if◌then◌else◌}
 use Rattle.std.specs.List.{enumerate_from, AllZip}
 use Rattle.grammar.specs.Pieces.{Text}
-use Rattle.cif_system.specs.System.{Automaton, IsState, Range, Observation, State, Stored, System, in_range, outputs}
+use Rattle.cif_system.specs.System.{Automaton, IsState, Range, Observation, State, Stored, System, outputs}
 use Rattle.st_ast.specs.Tree.{Program}
 use Rattle.st_ast.specs.Names.{place_of, declared}
 use Rattle.st_ast.specs.Values.{Memory, is_true}
-use Rattle.st_ast.specs.Scan.{is_input}
-use Rattle.st_ast.specs.Interface.{is_output, output_values}
+use Rattle.st_ast.specs.Interface.{output_values, inputs_of, outputs_of, lowest, highest, AreOfTypes}
 use Rattle.st_ast.specs.declared.tree.StVar.{StVar}
 use Rattle.st_ast.specs.declared.tree.StClass.{StClass}
 use Rattle.st_ast.specs.declared.tree.StClass.TheVariants as class
@@ -79,8 +78,8 @@ declarations l c xs = map (declaration l c) (enumerate_from 0 xs)
 -- these names, types and first values, in this order.
 pub record HasInterface (face : Face) (p : Program) : Type 0 where
   pub name : p.name ≡ codes "CifScan"
-  pub inputs : filter (λ (v : StVar). is_input v.class) p.vars ≡ declarations letter.I class.Input face.inputs
-  pub outputs : filter (λ (v : StVar). is_output v.class) p.vars
+  pub inputs : inputs_of p.vars ≡ declarations letter.I class.Input face.inputs
+  pub outputs : outputs_of p.vars
       ≡ declarations letter.P class.Output (places_of face)
       ++ declarations letter.Q class.Output face.variables
       ++ declarations letter.R class.Output (algs_of face)
@@ -125,13 +124,11 @@ Shows sys p m s = output_values p.vars m ≡ seen_values (outputs sys s)
 
 -- the numbers of a type
 abbrev pub range_of : StTy → Range
-range_of ty.Bool = record { lo = pos 0; hi = pos 1 }
-range_of ty.Lint = record { lo = negsuc (2 ^ 63 - 1); hi = pos (2 ^ 63 - 1) }
-range_of (ty.Range lo hi) = record { lo = lo; hi = hi }
+range_of t = record { lo = lowest t; hi = highest t }
 
 -- each variable holds a number of its type
 abbrev pub AreInTypes : Program → Memory → Type 0
-AreInTypes p m = AllZip (λ (v : StVar) z. IsTrue (in_range (range_of v.ty) z)) p.vars m
+AreInTypes p m = AreOfTypes p.vars m
 
 abbrev pub stored_of : VariableFace → Stored
 stored_of x = record { range = range_of x.ty; first = x.first }

@@ -16,8 +16,8 @@ use Rattle.st_ast.specs.Tree.{Program, Stm, Stms, append, stms, stms_of}
 use Rattle.st_ast.specs.Names.{declared}
 use Rattle.st_ast.specs.Values.{Memory}
 use Rattle.st_ast.specs.Exec.{Ended, exec}
-use Rattle.st_ast.specs.Scan.{is_input, start_memory, turns_of_scan}
-use Rattle.st_ast.specs.Interface.{is_output}
+use Rattle.st_ast.specs.Scan.{start_memory, turns_of_scan}
+use Rattle.st_ast.specs.Interface.{is_output, is_input}
 use Rattle.st_ast.specs.Checks.{check_faults}
 use Rattle.st_ast.specs.declared.tree.StVar.{StVar}
 use Rattle.st_ast.specs.declared.tree.StClass.TheVariants as class

@@ -8,7 +8,8 @@ use Rattle.grammar.specs.Pieces.{Text, same, AllAre}
 use Rattle.grammar.specs.Bytes.{is_digit, digits_from}
 use Rattle.grammar.proofs.Texts.{same_self, same_equal, and_left, and_right}
 use Rattle.grammar.proofs.Decimals.{decimal-value, decimal_digits, decimal_nonempty}
-use Rattle.st_ast.specs.Values.{fits}
+use Rattle.st_ast.specs.Interface.{lowest, highest, is_of_type}
+use Rattle.st_ast.specs.declared.tree.StTy.TheVariants as ty
 use Rattle.plc_rows.specs.Rows.{number_in, number_cell}
 use Rattle.plc_rows.proofs.Remaining.{none_some}
 
@@ -28,14 +29,6 @@ pub number_back : (z : ℤ) → FitsSigned w64 z → number_in (signed_decimal z
 number_back (pos n) h = of_digits (decimal n) (decimal_digits n) (decimal_nonempty n) ∙ ap pos (decimal-value n (omega (arith, h.sfits)))
 number_back (negsuc n) h = ap (λ m. neg_ℤ (pos m)) (decimal-value (suc n) (omega (arith, h.sfits)))
 
-pub fits_all : (z : ℤ) → FitsSigned w64 z → fits 64 z ≡ true
-fits_all (pos n) h = let k : n < 2 ^ 63 = h.sfits in grind (arith, nat_tests)
-fits_all (negsuc n) h = let k : n < 2 ^ 63 = h.sfits in grind (arith, nat_tests)
-
-pub fitting : (z : ℤ) → fits 64 z ≡ true → FitsSigned w64 z
-fitting (pos n) e = let k : n < 2 ^ 63 = grind (arith, nat_tests) in record { sfits = k }
-fitting (negsuc n) e = let k : n < 2 ^ 63 = grind (arith, nat_tests) in record { sfits = k }
-
 -- a number between two of 64 bits has 64 bits
 pub between : (lo hi z : ℤ) → FitsSigned w64 lo → FitsSigned w64 hi → (int_le lo z && int_le z hi) ≡ true → FitsSigned w64 z
 between lo (pos m) (pos n) a b e =
@@ -48,6 +41,14 @@ between (negsuc m) hi (negsuc n) a b e =
     let bound : m < 2 ^ 63 = a.sfits in
     let above : int_le (negsuc m) (negsuc n) ≡ true = and_left (int_le (negsuc m) (negsuc n)) (int_le (negsuc n) hi) e in
     let k : n < 2 ^ 63 = grind (arith, nat_tests) in record { sfits = k }
+
+-- the numbers of a LINT are those of 64 bits
+pub fits_all : (z : ℤ) → FitsSigned w64 z → is_of_type ty.Lint z ≡ true
+fits_all (pos n) h = let k : n < 2 ^ 63 = h.sfits in grind (arith, nat_tests)
+fits_all (negsuc n) h = let k : n < 2 ^ 63 = h.sfits in grind (arith, nat_tests)
+
+pub fitting : (z : ℤ) → is_of_type ty.Lint z ≡ true → FitsSigned w64 z
+fitting z e = between (lowest ty.Lint) (highest ty.Lint) z (record { sfits = omega arith }) (record { sfits = omega arith }) e
 
 -- a comparison of numbers of 64 bits
 pub compared : (a b : ℤ) (r : Bool) → FitsSigned w64 a → FitsSigned w64 b → int_le (to_z w64 (of_z w64 a)) (to_z w64 (of_z w64 b)) ≡ r → int_le a b ≡ r
@@ -76,6 +77,6 @@ a_number test t z b e h is =
     ap (λ y. if same t (signed_decimal y) && test y then Some y else None) back ∙ ap (λ w. if w && test z then Some z else None) written ∙ ap (λ w. if w then Some z else None) is
 
 -- a number of 64 bits
-pub any_number : (t : Text) (r : Option ℤ) → IfSome r (λ z. t ≡ signed_decimal z) → ((z : ℤ) → FitsSigned w64 z → t ≡ signed_decimal z → r ≡ Some z) → IfSome r (λ z. FitsSigned w64 z) → r ≡ number_cell (fits 64) t
-any_number t None is reads few = sym (no_number (fits 64) t None refl reads fitting)
-any_number t (Some z) is reads few = sym (a_number (fits 64) t z true is few (fits_all z few))
+pub any_number : (t : Text) (r : Option ℤ) → IfSome r (λ z. t ≡ signed_decimal z) → ((z : ℤ) → FitsSigned w64 z → t ≡ signed_decimal z → r ≡ Some z) → IfSome r (λ z. FitsSigned w64 z) → r ≡ number_cell (is_of_type ty.Lint) t
+any_number t None is reads few = sym (no_number (is_of_type ty.Lint) t None refl reads fitting)
+any_number t (Some z) is reads few = sym (a_number (is_of_type ty.Lint) t z true is few (fits_all z few))

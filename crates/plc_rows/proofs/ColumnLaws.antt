@@ -7,9 +7,8 @@ use Rattle.std.proofs.lemmas.Bool.Decides.{nat_tests}
 use Rattle.grammar.specs.Pieces.{Text, same}
 use Rattle.grammar.proofs.Texts.{same_equal, same_flip}
 use Rattle.st_ast.specs.declared.tree.StVar.{StVar}
-use Rattle.st_ast.specs.Interface.{numbers_of}
-use Rattle.st_ast.specs.Scan.{is_input}
-use Rattle.plc_rows.specs.Rows.{inputs_of, wanted, has_text}
+use Rattle.st_ast.specs.Interface.{numbers_of, is_input, inputs_of}
+use Rattle.plc_rows.specs.Rows.{wanted, has_text}
 use Rattle.plc_rows.specs.Columns.{place, input_column, column_of, ColumnsOf, is_taken}
 use Rattle.plc_rows.specs.declared.header.Column.{Column}
 use Rattle.plc_rows.specs.declared.header.Column.TheVariants as column

@@ -9,7 +9,7 @@ use Rattle.st_ast.specs.declared.tree.StTy.{StTy}
 use Rattle.st_ast.specs.declared.tree.StTy.TheVariants as ty
 use Rattle.st_ast.specs.declared.tree.StClass.{StClass}
 use Rattle.st_ast.specs.declared.tree.StClass.TheVariants as class
-use Rattle.plc_rows.specs.Rows.{header, cell, row_length, header_fault, cell_value, row_fault, file_fault, first_row_fault, row_values, rows_after, records_of}
+use Rattle.plc_rows.specs.Rows.{header, cell, row_length, header_fault, cell_value, row_number, row_fault, file_fault, first_row_fault, row_values, rows_after, records_of}
 
 abbrev variable : Text → StClass → StTy → StVar
 variable x k t = record { name = x; class = k; ty = t; init = None; at = None }
@@ -173,7 +173,7 @@ past_the_lower_limit = refl
 abbrev names : List Text
 names = codes "n" ∷ codes "scan" ∷ codes "s" ∷ codes "a" ∷ []
 
-a_row : row_fault three names 7 (codes "-3" ∷ codes "7" ∷ codes "4" ∷ codes "TRUE" ∷ []) ≡ None
+a_row : row_fault row_number three names 7 (codes "-3" ∷ codes "7" ∷ codes "4" ∷ codes "TRUE" ∷ []) ≡ None
 unfolding digits
 a_row = refl
 
@@ -182,19 +182,19 @@ values_of_the_row : row_values three names (codes "-3" ∷ codes "7" ∷ codes "
 unfolding digits
 values_of_the_row = refl
 
-another_row_number : row_fault three names 8 (codes "-3" ∷ codes "7" ∷ codes "4" ∷ codes "TRUE" ∷ []) ≡ Some (cell 8 2)
+another_row_number : row_fault row_number three names 8 (codes "-3" ∷ codes "7" ∷ codes "4" ∷ codes "TRUE" ∷ []) ≡ Some (cell 8 2)
 unfolding digits
 another_row_number = refl
 
-the_first_wrong_cell : row_fault three names 7 (codes "-3" ∷ codes "7" ∷ codes "1" ∷ codes "yes" ∷ []) ≡ Some (cell 7 3)
+the_first_wrong_cell : row_fault row_number three names 7 (codes "-3" ∷ codes "7" ∷ codes "1" ∷ codes "yes" ∷ []) ≡ Some (cell 7 3)
 unfolding digits
 the_first_wrong_cell = refl
 
-too_short : row_fault three names 7 (codes "x" ∷ codes "7" ∷ codes "4" ∷ []) ≡ Some (row_length 7)
+too_short : row_fault row_number three names 7 (codes "x" ∷ codes "7" ∷ codes "4" ∷ []) ≡ Some (row_length 7)
 unfolding digits
 too_short = refl
 
-too_long : row_fault three names 7 (codes "-3" ∷ codes "7" ∷ codes "4" ∷ codes "TRUE" ∷ [] ∷ []) ≡ Some (row_length 7)
+too_long : row_fault row_number three names 7 (codes "-3" ∷ codes "7" ∷ codes "4" ∷ codes "TRUE" ∷ [] ∷ []) ≡ Some (row_length 7)
 unfolding digits
 too_long = refl
 
@@ -204,14 +204,14 @@ an_empty_file : first_row_fault one [] ≡ Some (header 1)
 unfolding first_row_fault records_from next_record strip_bom
 an_empty_file = refl
 
-a_header_alone : file_fault one ((codes "scan" ∷ codes "a" ∷ []) ∷ []) ≡ None
+a_header_alone : file_fault row_number one ((codes "scan" ∷ codes "a" ∷ []) ∷ []) ≡ None
 a_header_alone = refl
 
-the_second_row_is_numbered_wrong : file_fault one ((codes "a" ∷ codes "scan" ∷ []) ∷ (codes "0" ∷ codes "1" ∷ []) ∷ (codes "1" ∷ codes "1" ∷ []) ∷ []) ≡ Some (cell 2 2)
+the_second_row_is_numbered_wrong : file_fault row_number one ((codes "a" ∷ codes "scan" ∷ []) ∷ (codes "0" ∷ codes "1" ∷ []) ∷ (codes "1" ∷ codes "1" ∷ []) ∷ []) ≡ Some (cell 2 2)
 unfolding digits
 the_second_row_is_numbered_wrong = refl
 
-the_header_first : file_fault one ((codes "scan" ∷ []) ∷ (codes "0" ∷ []) ∷ []) ≡ Some (header 2)
+the_header_first : file_fault row_number one ((codes "scan" ∷ []) ∷ (codes "0" ∷ []) ∷ []) ≡ Some (header 2)
 unfolding digits
 the_header_first = refl
 

@@ -3,16 +3,16 @@
 use Rattle.std.proofs.Common.{◌≡◌, ◌==◌, ◌<◌, ℕ, suc, ◌+◌, Bool, true, false, not, ◌||◌, ◌&&◌, List, [], ◌∷◌, ◌++◌, length, get_or, Option, Some, None, refl, sym, ap, subst, ◌∙◌, arith, eq-eqb}
 use Rattle.std.specs.Prelude.{slice_get, codes, if◌then◌else◌}
 use Rattle.std.specs.List.{list_any}
+use Rattle.std.specs.Char.{to_ascii_lowercase}
 use Rattle.std.proofs.lemmas.Option.{slice_get_read, get_or_from_slice_get}
 use Rattle.std.proofs.lemmas.Bool.{false≢true}
 use Rattle.grammar.specs.Pieces.{Text, same}
 use Rattle.grammar.proofs.Texts.{same_equal}
 use Rattle.st_ast.specs.Checks.{CheckFault, duplicate, init_range, unless, is_type, starts_well, variable_faults, variables_faults}
-use Rattle.st_ast.specs.Names.{folded, same_name, place_of}
-use Rattle.st_ast.specs.Scan.{is_input}
+use Rattle.st_ast.specs.Names.{same_name, place_of}
+use Rattle.st_ast.specs.Interface.{is_input, inputs_of}
 use Rattle.st_ast.specs.declared.tree.StVar.{StVar}
 use Rattle.st_check.specs.Told.{IsPlace}
-use Rattle.plc_rows.specs.Rows.{inputs_of}
 use Rattle.plc_rows.specs.Columns.{columns_from, input_column, column_of}
 use Rattle.plc_rows.specs.declared.header.Column.TheVariants as column
 use Rattle.plc_rows.proofs.Checking.{was_false, no_front, no_back, any_more, either_left, either_right}
@@ -20,7 +20,7 @@ use Rattle.plc_rows.proofs.Remaining.{one_some}
 
 name_itself : (w : Text) → same_name w w ≡ true
 name_itself [] = refl
-name_itself (b ∷ w) = let e : (folded b == folded b) ≡ true = search (eq-eqb) in rw e (name_itself w)
+name_itself (b ∷ w) = let e : (to_ascii_lowercase b == to_ascii_lowercase b) ≡ true = search (eq-eqb) in rw e (name_itself w)
 
 one_name : (x y : Text) → same x y ≡ true → same_name x y ≡ true
 one_name x y e = subst (λ (w : Text). same_name x w ≡ true) (same_equal x y e) (name_itself x)

@@ -8,7 +8,8 @@ use Rattle.std.proofs.lemmas.Option.{slice_get_within}
 use Rattle.grammar.specs.Pieces.{Text}
 use Rattle.csv.specs.Records.{field_at}
 use Rattle.st_ast.specs.declared.tree.StVar.{StVar}
-use Rattle.plc_rows.specs.Rows.{header, inputs_of, wanted, has_text, fields_fault, header_fault}
+use Rattle.plc_rows.specs.Rows.{header, wanted, has_text, fields_fault, header_fault}
+use Rattle.st_ast.specs.Interface.{inputs_of}
 use Rattle.plc_rows.specs.Columns.{place, column_of, ColumnsOf, is_taken, HeaderOf}
 use Rattle.plc_rows.specs.declared.header.Column.{Column}
 use Rattle.plc_rows.proofs.Checking.{get_set_same, get_set_other, length_set, any_more, same_numbers}

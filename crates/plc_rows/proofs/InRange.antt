@@ -1,25 +1,26 @@
 -- Rows that break no rule of a program are rows in range for it.
 use Rattle.std.proofs.Common.{◌≡◌, ◌≤◌, ◌<◌, ℕ, zero, suc, ◌+◌, ℤ, pos, Bool, true, false, ◌||◌, ◌&&◌, List, [], ◌∷◌, ◌++◌, map, length, Option, Some, None, refl, sym, ap, subst, ◌∙◌, arith}
 use Rattle.std.specs.Prelude.{IsTrue, slice_get, slice_set, nat_eq, nat_lt, replicate, is_some, unwrap_or, if◌then◌else◌}
-use Rattle.std.specs.List.{AllByRecursion, AllZip}
+use Rattle.std.specs.List.{AllZip}
 use Rattle.std.specs.Option.{option_or}
-use Rattle.std.proofs.lemmas.Bool.{false≢true, lt-ltb}
+use Rattle.std.proofs.lemmas.Bool.{false≢true}
 use Rattle.std.proofs.lemmas.Bool.Decides.{nat_tests}
 use Rattle.std.proofs.lemmas.List.{length-append}
 use Rattle.std.proofs.lemmas.Option.{slice_get_within}
 use Rattle.grammar.specs.Pieces.{Text, same}
-use Rattle.grammar.proofs.Texts.{same_equal, same_flip, and_right}
+use Rattle.grammar.proofs.Texts.{same_equal, same_flip}
 use Rattle.csv.specs.Records.{field_at}
 use Rattle.st_ast.specs.declared.tree.StVar.{StVar}
 use Rattle.st_ast.specs.declared.tree.StTy.{StTy}
 use Rattle.st_ast.specs.declared.tree.StTy.TheVariants as ty
-use Rattle.plc_rows.specs.Rows.{RowFault, header, cell, row_length, too_many_rows, most_rows, inputs_of, has_text, header_fault, truth_cell, number_in, number_cell, is_of_type, cell_value, cell_stands, cells_fault, row_fault, rows_fault, file_fault, records_of, first_row_fault, cell_under, row_values, rows_after, RowsOf, IsRowFor, AreRowsFor}
-use Rattle.plc_rows.specs.Columns.{place, column_of, ColumnsOf, HeaderOf, stands}
+use Rattle.plc_rows.specs.Rows.{RowFault, cell, row_length, too_many_rows, most_rows, has_text, header_fault, truth_cell, number_in, number_cell, cell_value, ScanRule, row_number, cell_stands, cells_fault, row_fault, rows_fault, file_fault, records_of, first_row_fault, cell_under, row_values, rows_after, RowsOf, IsRowFor, AreRowsFor}
+use Rattle.st_ast.specs.Interface.{inputs_of, is_of_type}
+use Rattle.plc_rows.specs.Columns.{place, column_of, HeaderOf}
 use Rattle.plc_rows.specs.declared.header.Column.{Column}
 use Rattle.plc_rows.specs.declared.header.Column.TheVariants as column
-use Rattle.plc_rows.proofs.ColumnLaws.{as_many, covered}
+use Rattle.plc_rows.proofs.ColumnLaws.{covered}
 use Rattle.plc_rows.proofs.HeaderLaws.{Reading, starts, unwanted, within, repeated, goes_on, missing, whole}
-use Rattle.plc_rows.proofs.Remaining.{one_some, none_some}
+use Rattle.plc_rows.proofs.Remaining.{none_some}
 use Rattle.plc_rows.proofs.RowLaws.{stands_same, kept, worth, past, field_within}
 
 -- ---- a header that breaks no rule has columns
@@ -90,36 +91,36 @@ number_typed test t e = go _ (test (number_in t)) refl e
 
 cell_typed : (t : StTy) (c : Text) → is_some (cell_value t c) ≡ true → is_of_type t (unwrap_or (cell_value t c) (pos 0)) ≡ true
 cell_typed ty.Bool c e = truth_typed c e
-cell_typed ty.Lint c e = number_typed (λ z. is_of_type ty.Lint z) c e
-cell_typed (ty.Range lo hi) c e = number_typed (λ z. is_of_type (ty.Range lo hi) z) c e
+cell_typed ty.Lint c e = number_typed (is_of_type ty.Lint) c e
+cell_typed (ty.Range lo hi) c e = number_typed (is_of_type (ty.Range lo hi)) c e
 
 -- ---- the cell under the name of an input keeps the rule of its column
 
-module _ (vars : List StVar) (i : ℕ) (v : StVar) (is : column_of vars v.name ≡ Some (column.Input i v.ty)) (k : ℕ) where
-  cell_right : (names ts : List Text) (j : ℕ) → length ts ≡ length names → cells_fault vars k j names ts ≡ None → has_text names v.name ≡ true → is_some (cell_value v.ty (cell_under v.name names ts)) ≡ true
+module _ (scan : ScanRule) (vars : List StVar) (i : ℕ) (v : StVar) (is : column_of vars v.name ≡ Some (column.Input i v.ty)) (k : ℕ) where
+  cell_right : (names ts : List Text) (j : ℕ) → length ts ≡ length names → cells_fault scan vars k j names ts ≡ None → has_text names v.name ≡ true → is_some (cell_value v.ty (cell_under v.name names ts)) ≡ true
   cell_right [] ts j n e h = absurd (false≢true h)
   cell_right (f ∷ names) [] j n e h = absurd (omega (arith, n))
   cell_right (f ∷ names) (t ∷ ts) j n e h =
-      let p = kept (cell_stands vars k f t) (cells_fault vars k (suc j) names ts) (cell k j) e in
+      let p = kept (cell_stands scan vars k f t) (cells_fault scan vars k (suc j) names ts) (cell k j) e in
       go (same v.name f) refl (same_flip f v.name) h p.0 (λ there. cell_right names ts (suc j) (omega (arith, n)) p.1 there)
     where
-      go : (b : Bool) → same v.name f ≡ b → same f v.name ≡ same v.name f → (b || has_text names v.name) ≡ true → cell_stands vars k f t ≡ true
+      go : (b : Bool) → same v.name f ≡ b → same f v.name ≡ same v.name f → (b || has_text names v.name) ≡ true → cell_stands scan vars k f t ≡ true
           → (has_text names v.name ≡ true → is_some (cell_value v.ty (cell_under v.name names ts)) ≡ true)
           → is_some (cell_value v.ty (if same f v.name then t else cell_under v.name names ts)) ≡ true
       go true s flip h st more =
           ap (λ b. is_some (cell_value v.ty (if b then t else cell_under v.name names ts))) (flip ∙ s)
-          ∙ sym (stands_same vars f (column.Input i v.ty) (ap (column_of vars) (sym (same_equal v.name f s)) ∙ is) k t) ∙ st
+          ∙ sym (stands_same scan vars f (column.Input i v.ty) (ap (column_of vars) (sym (same_equal v.name f s)) ∙ is) k t) ∙ st
       go false s flip h st more = ap (λ b. is_some (cell_value v.ty (if b then t else cell_under v.name names ts))) (flip ∙ s) ∙ more h
 
 zip_map : {A B : Type 0} (R : A → B → Type 0) (g : A → B) (xs : List A) → ((i : ℕ) (x : A) → slice_get xs i ≡ Some x → R x (g x)) → AllZip R xs (map g xs)
 zip_map R g [] each = tt
 zip_map R g (x ∷ xs) each = (each zero x refl, zip_map R g xs (λ i y e. each (suc i) y e))
 
-row_typed : (vars : List StVar) (names : List Text) (cols : List Column) (k : ℕ) (ts : List Text) → HeaderOf vars names cols → row_fault vars names k ts ≡ None → IsRowFor vars (row_values vars names ts)
-row_typed vars names cols k ts h e = zip_map (λ (v : StVar) z. IsTrue (is_of_type v.ty z)) (λ (v : StVar). worth v names ts) (inputs_of vars) each
+row_typed : (scan : ScanRule) (vars : List StVar) (names : List Text) (cols : List Column) (k : ℕ) (ts : List Text) → HeaderOf vars names cols → row_fault scan vars names k ts ≡ None → IsRowFor vars (row_values vars names ts)
+row_typed scan vars names cols k ts h e = zip_map (λ (v : StVar) z. IsTrue (is_of_type v.ty z)) (λ (v : StVar). worth v names ts) (inputs_of vars) each
   where
-    p : (nat_eq (length ts) (length names) ≡ true) × (cells_fault vars k 1 names ts ≡ None)
-    p = kept (nat_eq (length ts) (length names)) (cells_fault vars k 1 names ts) (row_length k) e
+    p : (nat_eq (length ts) (length names) ≡ true) × (cells_fault scan vars k 1 names ts ≡ None)
+    p = kept (nat_eq (length ts) (length names)) (cells_fault scan vars k 1 names ts) (row_length k) e
 
     each : (i : ℕ) (v : StVar) → slice_get (inputs_of vars) i ≡ Some v → IsTrue (is_of_type v.ty (worth v names ts))
     each i v at =
@@ -127,7 +128,7 @@ row_typed vars names cols k ts h e = zip_map (λ (v : StVar) z. IsTrue (is_of_ty
         let c = covered vars names cols i v h.columns at (h.each (suc i) (omega (arith, few))) in
         let q = p.0 in
         let long : length ts ≡ length names = grind (arith, nat_tests) in
-        cell_typed v.ty (cell_under v.name names ts) (cell_right vars i v c.column k names ts 1 long p.1 c.there)
+        cell_typed v.ty (cell_under v.name names ts) (cell_right scan vars i v c.column k names ts 1 long p.1 c.there)
 
 -- ---- all rows
 
@@ -139,21 +140,21 @@ left : (b : Bool) (f : RowFault) (x : Option RowFault) → (if b then Some f els
 left true f x e = none_some (sym e)
 left false f x e = e
 
-rows_typed : (vars : List StVar) (names : List Text) (cols : List Column) → HeaderOf vars names cols → (k : ℕ) (rs : List (List Text)) → rows_fault vars names k rs ≡ None → AreRowsFor vars (map (row_values vars names) rs)
-rows_typed vars names cols h k [] e = tt
-rows_typed vars names cols h k (r ∷ rs) e =
-    let p = neither (row_fault vars names k r) (rows_fault vars names (suc k) rs) (left (nat_lt most_rows k) (too_many_rows (most_rows + 1)) _ e) in
-    (row_typed vars names cols k r h p.0, rows_typed vars names cols h (suc k) rs p.1)
+rows_typed : (scan : ScanRule) (vars : List StVar) (names : List Text) (cols : List Column) → HeaderOf vars names cols → (k : ℕ) (rs : List (List Text)) → rows_fault scan vars names k rs ≡ None → AreRowsFor vars (map (row_values vars names) rs)
+rows_typed scan vars names cols h k [] e = tt
+rows_typed scan vars names cols h k (r ∷ rs) e =
+    let p = neither (row_fault scan vars names k r) (rows_fault scan vars names (suc k) rs) (left (nat_lt most_rows k) (too_many_rows (most_rows + 1)) _ e) in
+    (row_typed scan vars names cols k r h p.0, rows_typed scan vars names cols h (suc k) rs p.1)
 
-file_typed : (vars : List StVar) (rs : List (List Text)) → file_fault vars rs ≡ None → AreRowsFor vars (rows_after vars rs)
-file_typed vars [] e = none_some (sym e)
-file_typed vars (names ∷ rs) e =
-    let p = neither (header_fault vars names) (rows_fault vars names 1 rs) e in
+file_typed : (scan : ScanRule) (vars : List StVar) (rs : List (List Text)) → file_fault scan vars rs ≡ None → AreRowsFor vars (rows_after vars rs)
+file_typed scan vars [] e = none_some (sym e)
+file_typed scan vars (names ∷ rs) e =
+    let p = neither (header_fault vars names) (rows_fault scan vars names 1 rs) e in
     let h = columns_of_header vars names p.0 in
-    rows_typed vars names h.0 h.1 1 rs p.1
+    rows_typed scan vars names h.0 h.1 1 rs p.1
 
 pub in_range : (vars : List StVar) (text : Text) (rows : List (List ℤ)) → RowsOf vars text rows → AreRowsFor vars rows
 unfolding RowsOf first_row_fault
-in_range vars text rows h = subst (λ (rs : List (List ℤ)). AreRowsFor vars rs) (sym h.1) (file_typed vars (records_of text) h.0)
+in_range vars text rows h = subst (λ (rs : List (List ℤ)). AreRowsFor vars rs) (sym h.1) (file_typed row_number vars (records_of text) h.0)
 
 pub ruleset ranges = (in_range)

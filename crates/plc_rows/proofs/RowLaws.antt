@@ -10,7 +10,8 @@ use Rattle.grammar.specs.Pieces.{Text, same}
 use Rattle.grammar.proofs.Texts.{same_equal, same_flip, and_right}
 use Rattle.csv.specs.Records.{field_at}
 use Rattle.st_ast.specs.declared.tree.StVar.{StVar}
-use Rattle.plc_rows.specs.Rows.{RowFault, header, cell, row_length, inputs_of, wanted, has_text, fields_fault, cell_value, cell_stands, cells_fault, row_fault, cell_under, row_values}
+use Rattle.plc_rows.specs.Rows.{RowFault, header, cell, row_length, wanted, has_text, fields_fault, cell_value, ScanRule, cell_stands, cells_fault, row_fault, cell_under, row_values}
+use Rattle.st_ast.specs.Interface.{inputs_of}
 use Rattle.plc_rows.specs.Columns.{place, column_of, ColumnsOf, HeaderOf, stands, columns_fault, line_fault, with_cell, with_cells}
 use Rattle.plc_rows.specs.declared.header.Column.{Column}
 use Rattle.plc_rows.specs.declared.header.Column.TheVariants as column
@@ -31,26 +32,27 @@ places vars (f ∷ names) (c ∷ cols) n e h =
 
 -- ---- the fault of a row
 
-pub stands_same : (vars : List StVar) (name : Text) (c : Column) → column_of vars name ≡ Some c → (k : ℕ) (t : Text) → cell_stands vars k name t ≡ stands k c t
-stands_same vars name c e k t = go (of_name vars name c e)
-  where
-    go : OfName vars name c → cell_stands vars k name t ≡ stands k c t
-    go (the_scan n s) = let is = same_text name (codes "scan") n in rw is (ap (λ d. stands k d t) (sym s))
-    go (an_input n a) = let first = a.first in rw (n, first) (ap (λ d. stands k d t) (sym a.is))
+module _ (scan : ScanRule) (vars : List StVar) where
+  pub stands_same : (name : Text) (c : Column) → column_of vars name ≡ Some c → (k : ℕ) (t : Text) → cell_stands scan vars k name t ≡ stands scan k c t
+  stands_same name c e k t = go (of_name vars name c e)
+    where
+      go : OfName vars name c → cell_stands scan vars k name t ≡ stands scan k c t
+      go (the_scan n s) = let is = same_text name (codes "scan") n in rw is (ap (λ d. stands scan k d t) (sym s))
+      go (an_input n a) = let first = a.first in rw (n, first) (ap (λ d. stands scan k d t) (sym a.is))
 
-fault_same : (vars : List StVar) (names : List Text) (cols : List Column) → ColumnsOf vars names cols → (k j : ℕ) (ts : List Text) → cells_fault vars k j names ts ≡ columns_fault k j cols ts
-fault_same vars [] [] h k j ts = refl
-fault_same vars [] (c ∷ cols) h k j ts = absurd h
-fault_same vars (f ∷ names) [] h k j ts = absurd h
-fault_same vars (f ∷ names) (c ∷ cols) h k j [] = refl
-fault_same vars (f ∷ names) (c ∷ cols) h k j (t ∷ ts) =
-    ap (λ b. if b then cells_fault vars k (suc j) names ts else Some (cell k j)) (stands_same vars f c h.0 k t)
-    ∙ ap (λ r. if stands k c t then r else Some (cell k j)) (fault_same vars names cols h.1 k (suc j) ts)
+  fault_same : (names : List Text) (cols : List Column) → ColumnsOf vars names cols → (k j : ℕ) (ts : List Text) → cells_fault scan vars k j names ts ≡ columns_fault scan k j cols ts
+  fault_same [] [] h k j ts = refl
+  fault_same [] (c ∷ cols) h k j ts = absurd h
+  fault_same (f ∷ names) [] h k j ts = absurd h
+  fault_same (f ∷ names) (c ∷ cols) h k j [] = refl
+  fault_same (f ∷ names) (c ∷ cols) h k j (t ∷ ts) =
+      ap (λ b. if b then cells_fault scan vars k (suc j) names ts else Some (cell k j)) (stands_same f c h.0 k t)
+      ∙ ap (λ r. if stands scan k c t then r else Some (cell k j)) (fault_same names cols h.1 k (suc j) ts)
 
-pub line_same : (vars : List StVar) (names : List Text) (cols : List Column) → ColumnsOf vars names cols → (k : ℕ) (ts : List Text) → row_fault vars names k ts ≡ line_fault cols k ts
-line_same vars names cols h k ts =
-    ap (λ n. if nat_eq (length ts) n then cells_fault vars k 1 names ts else Some (row_length k)) (sym (as_many vars names cols h))
-    ∙ ap (λ r. if nat_eq (length ts) (length cols) then r else Some (row_length k)) (fault_same vars names cols h k 1 ts)
+  pub line_same : (names : List Text) (cols : List Column) → ColumnsOf vars names cols → (k : ℕ) (ts : List Text) → row_fault scan vars names k ts ≡ line_fault scan cols k ts
+  line_same names cols h k ts =
+      ap (λ n. if nat_eq (length ts) n then cells_fault scan vars k 1 names ts else Some (row_length k)) (sym (as_many vars names cols h))
+      ∙ ap (λ r. if nat_eq (length ts) (length cols) then r else Some (row_length k)) (fault_same names cols h k 1 ts)
 
 -- ---- cells from left to right
 
@@ -79,11 +81,11 @@ field_missing (f ∷ ts) zero e = none_some (sym e)
 field_missing (f ∷ ts) (suc j) e = let more = field_missing ts j e in omega (arith, more)
 
 module _ (cols : List Column) (ts : List Text) (j k : ℕ) (c : Column) (t : Text) (l : j < length cols) (at : c ≡ get_or cols j c) (there : field_at ts j ≡ Some t) where
-  pub cell_wrong : stands k c t ≡ false → columns_fault k (j + 1) (drop j cols) (drop j ts) ≡ Some (cell k (j + 1))
-  cell_wrong e = let a = drop_item cols j c l at in let b = field_there ts j t there in rw (a, b, e) refl
+  pub cell_wrong : (scan : ScanRule) → stands scan k c t ≡ false → columns_fault scan k (j + 1) (drop j cols) (drop j ts) ≡ Some (cell k (j + 1))
+  cell_wrong scan e = let a = drop_item cols j c l at in let b = field_there ts j t there in rw (a, b, e) refl
 
-  pub cell_right : stands k c t ≡ true → columns_fault k (j + 1 + 1) (drop (j + 1) cols) (drop (j + 1) ts) ≡ columns_fault k (j + 1) (drop j cols) (drop j ts)
-  cell_right e = let a = drop_item cols j c l at in let b = field_there ts j t there in rw (a, b, e) (ap (λ n. columns_fault k n (drop (j + 1) cols) (drop (j + 1) ts)) (add-one (j + 1)))
+  pub cell_right : (scan : ScanRule) → stands scan k c t ≡ true → columns_fault scan k (j + 1 + 1) (drop (j + 1) cols) (drop (j + 1) ts) ≡ columns_fault scan k (j + 1) (drop j cols) (drop j ts)
+  cell_right scan e = let a = drop_item cols j c l at in let b = field_there ts j t there in rw (a, b, e) (ap (λ n. columns_fault scan k n (drop (j + 1) cols) (drop (j + 1) ts)) (add-one (j + 1)))
 
   pub cell_put : (zs : List ℤ) → with_cells (drop (j + 1) cols) (drop (j + 1) ts) (with_cell c t zs) ≡ with_cells (drop j cols) (drop j ts) zs
   cell_put zs = let a = drop_item cols j c l at in let b = field_there ts j t there in rw (a, b) refl
@@ -203,13 +205,13 @@ values_of_row vars names cols ts n h l e = same_places _ _ (λ i. go i (slice_ge
         ∙ sym (map_get (λ (v : StVar). worth v names ts) (inputs_of vars) i v at)
 
 -- a row without a fault has as many cells as the header
-pub no_fault_long : (cols : List Column) (k : ℕ) (ts : List Text) → line_fault cols k ts ≡ None → length ts ≡ length cols
-no_fault_long cols k ts e = let p = kept (nat_eq (length ts) (length cols)) (columns_fault k 1 cols ts) (row_length k) e in let t = p.0 in grind (arith, nat_tests)
+pub no_fault_long : (scan : ScanRule) (cols : List Column) (k : ℕ) (ts : List Text) → line_fault scan cols k ts ≡ None → length ts ≡ length cols
+no_fault_long scan cols k ts e = let p = kept (nat_eq (length ts) (length cols)) (columns_fault scan k 1 cols ts) (row_length k) e in let t = p.0 in grind (arith, nat_tests)
 
 -- ---- the length first
 
-pub line_of : (cols : List Column) (k : ℕ) (ts : List Text) → length ts ≡ length cols → line_fault cols k ts ≡ columns_fault k 1 cols ts
-line_of cols k ts e = ap (λ b. if b then columns_fault k 1 cols ts else Some (row_length k)) (ap (λ n. nat_eq n (length cols)) e ∙ same_numbers (length cols))
+pub line_of : (scan : ScanRule) (cols : List Column) (k : ℕ) (ts : List Text) → length ts ≡ length cols → line_fault scan cols k ts ≡ columns_fault scan k 1 cols ts
+line_of scan cols k ts e = ap (λ b. if b then columns_fault scan k 1 cols ts else Some (row_length k)) (ap (λ n. nat_eq n (length cols)) e ∙ same_numbers (length cols))
 
 -- an element that is there, whatever is given where there is none
 pub item_again : {A : Type 0} (xs : List A) (i : ℕ) (d : A) → i < length xs → get_or xs i d ≡ get_or xs i (get_or xs i d)

@@ -5,7 +5,8 @@ use Rattle.std.specs.Option.{option_or}
 use Rattle.std.proofs.lemmas.Bool.{lt-ltb, le-ltb}
 use Rattle.grammar.specs.Pieces.{Text}
 use Rattle.csv.specs.declared.reader.Reader.{Reader}
-use Rattle.plc_rows.specs.Rows.{RowFault, header, too_many_rows, most_rows, header_fault, row_fault, rows_fault, file_fault, first_row_fault, records_of, inputs_of, row_values, rows_after, RowsOf}
+use Rattle.plc_rows.specs.Rows.{RowFault, header, too_many_rows, most_rows, header_fault, row_number, row_fault, rows_fault, file_fault, first_row_fault, records_of, row_values, rows_after, RowsOf}
+use Rattle.st_ast.specs.Interface.{inputs_of}
 use Rattle.st_ast.specs.declared.tree.StVar.{StVar}
 use Rattle.plc_rows.specs.Columns.{HeaderOf, line_fault, with_cells}
 use Rattle.plc_rows.specs.declared.header.Column.{Column}
@@ -21,7 +22,7 @@ use Rattle.plc_rows.specs.declared.error.RowErr.TheVariants as err
 -- what is left of a file from the row k on, after these rows, under a header with these columns
 unfoldable pub Stands : List StVar → List Column → Text → Reader Source → ℕ → List (List ℤ) → Type 0
 Stands vars cols text reader k done = (names : List Text) × (rs : List (List Text)) × HeaderOf vars names cols × Left reader rs
-    × (first_row_fault vars text ≡ rows_fault vars names k rs) × (rows_after vars (records_of text) ≡ done ++ map (row_values vars names) rs)
+    × (first_row_fault vars text ≡ rows_fault row_number vars names k rs) × (rows_after vars (records_of text) ≡ done ++ map (row_values vars names) rs)
 
 tells_first : (a b : Option RowFault) (e : RowErr) → Tells a e → Tells (option_or a b) e
 tells_first a b (err.Header c) h = rw h refl
@@ -55,19 +56,19 @@ header_fits text fields after l n = let s = something (records_of text) fields a
 module _ (vars : List StVar) (text : Text) (fields : List Text) (after : Reader Source) where
   pub no_record : Next false fields after (records_of text) → first_row_fault vars text ≡ Some (header 1)
   unfolding first_row_fault
-  no_record n = ap (file_fault vars) (nothing (records_of text) fields after n)
+  no_record n = ap (file_fault row_number vars) (nothing (records_of text) fields after n)
 
   pub wrong_header : Next true fields after (records_of text) → (e : RowErr) → Tells (header_fault vars fields) e → IsFirst vars text e
   unfolding first_row_fault
   wrong_header n e h =
       let s = something (records_of text) fields after n in
-      is_first vars text e (subst (λ rs. Tells (file_fault vars rs) e) (sym s.1) (tells_first (header_fault vars fields) (rows_fault vars fields 1 s.0) e h))
+      is_first vars text e (subst (λ rs. Tells (file_fault row_number vars rs) e) (sym s.1) (tells_first (header_fault vars fields) (rows_fault row_number vars fields 1 s.0) e h))
 
   pub right_header : Next true fields after (records_of text) → (cols : List Column) → HeaderOf vars fields cols → Stands vars cols text after 1 []
   unfolding first_row_fault Stands
   right_header n cols h =
       let s = something (records_of text) fields after n in
-      (fields, s.0, h, s.2, ap (file_fault vars) s.1 ∙ ap (λ f. option_or f (rows_fault vars fields 1 s.0)) h.right, ap (rows_after vars) s.1)
+      (fields, s.0, h, s.2, ap (file_fault row_number vars) s.1 ∙ ap (λ f. option_or f (rows_fault row_number vars fields 1 s.0)) h.right, ap (rows_after vars) s.1)
 
 -- ---- a row
 
@@ -85,7 +86,7 @@ record Opened (vars : List StVar) (cols : List Column) (text : Text) (after : Re
   rest : List (List Text)
   head : HeaderOf vars names cols
   left : Left after rest
-  fault : first_row_fault vars text ≡ rows_fault vars names k (fields ∷ rest)
+  fault : first_row_fault vars text ≡ rows_fault row_number vars names k (fields ∷ rest)
   rows : rows_after vars (records_of text) ≡ done ++ (row_values vars names fields ∷ map (row_values vars names) rest)
 
 module _ (vars : List StVar) (cols : List Column) (text : Text) (before after : Reader Source) (k : ℕ) (rows : List Row) (fields : List Text) where
@@ -98,7 +99,7 @@ module _ (vars : List StVar) (cols : List Column) (text : Text) (before after : 
         rest = q.0;
         head = s.2;
         left = q.2;
-        fault = s.4 ∙ ap (rows_fault vars s.0 k) q.1;
+        fault = s.4 ∙ ap (rows_fault row_number vars s.0 k) q.1;
         rows = s.5 ∙ ap (λ rs. cells_of rows ++ map (row_values vars s.0) rs) q.1;
       }
 
@@ -106,33 +107,33 @@ module _ (vars : List StVar) (cols : List Column) (text : Text) (before after : 
   unfolding Stands RowsOf
   no_more s n =
       let e = nothing s.1 fields after (n s.1 s.3) in
-      (s.4 ∙ ap (rows_fault vars s.0 k) e, sym (s.5 ∙ ap (λ rs. cells_of rows ++ map (row_values vars s.0) rs) e ∙ all_nil (cells_of rows)))
+      (s.4 ∙ ap (rows_fault row_number vars s.0 k) e, sym (s.5 ∙ ap (λ rs. cells_of rows ++ map (row_values vars s.0) rs) e ∙ all_nil (cells_of rows)))
 
   pub too_many : Stands vars cols text before k (cells_of rows) → ((rs : List (List Text)) → Left before rs → Next true fields after rs) → most_rows < k → first_row_fault vars text ≡ Some (too_many_rows 100001)
   too_many s n l =
       let q = opened s n in
-      q.fault ∙ ap (λ b. if b then Some (too_many_rows 100001) else option_or (row_fault vars q.names k fields) (rows_fault vars q.names (suc k) q.rest)) (lt-ltb most_rows k l)
+      q.fault ∙ ap (λ b. if b then Some (too_many_rows 100001) else option_or (row_fault row_number vars q.names k fields) (rows_fault row_number vars q.names (suc k) q.rest)) (lt-ltb most_rows k l)
 
-  looked_at : k ≤ most_rows → (names : List Text) (ss : List (List Text)) → rows_fault vars names k (fields ∷ ss) ≡ option_or (row_fault vars names k fields) (rows_fault vars names (suc k) ss)
-  looked_at l names ss = ap (λ b. if b then Some (too_many_rows 100001) else option_or (row_fault vars names k fields) (rows_fault vars names (suc k) ss)) (le-ltb most_rows k l)
+  looked_at : k ≤ most_rows → (names : List Text) (ss : List (List Text)) → rows_fault row_number vars names k (fields ∷ ss) ≡ option_or (row_fault row_number vars names k fields) (rows_fault row_number vars names (suc k) ss)
+  looked_at l names ss = ap (λ b. if b then Some (too_many_rows 100001) else option_or (row_fault row_number vars names k fields) (rows_fault row_number vars names (suc k) ss)) (le-ltb most_rows k l)
 
-  pub wrong_row : Stands vars cols text before k (cells_of rows) → ((rs : List (List Text)) → Left before rs → Next true fields after rs) → k ≤ most_rows → (e : RowErr) → Tells (line_fault cols k fields) e → IsFirst vars text e
+  pub wrong_row : Stands vars cols text before k (cells_of rows) → ((rs : List (List Text)) → Left before rs → Next true fields after rs) → k ≤ most_rows → (e : RowErr) → Tells (line_fault row_number cols k fields) e → IsFirst vars text e
   wrong_row s n l e h =
       let q = opened s n in
-      let told : Tells (row_fault vars q.names k fields) e = subst (λ f. Tells f e) (sym (line_same vars q.names cols q.head.columns k fields)) h in
-      is_first vars text e (subst (λ f. Tells f e) (sym (q.fault ∙ looked_at l q.names q.rest)) (tells_first (row_fault vars q.names k fields) (rows_fault vars q.names (suc k) q.rest) e told))
+      let told : Tells (row_fault row_number vars q.names k fields) e = subst (λ f. Tells f e) (sym (line_same row_number vars q.names cols q.head.columns k fields)) h in
+      is_first vars text e (subst (λ f. Tells f e) (sym (q.fault ∙ looked_at l q.names q.rest)) (tells_first (row_fault row_number vars q.names k fields) (rows_fault row_number vars q.names (suc k) q.rest) e told))
 
-  pub right_row : Stands vars cols text before k (cells_of rows) → ((rs : List (List Text)) → Left before rs → Next true fields after rs) → k ≤ most_rows → line_fault cols k fields ≡ None
+  pub right_row : Stands vars cols text before k (cells_of rows) → ((rs : List (List Text)) → Left before rs → Next true fields after rs) → k ≤ most_rows → line_fault row_number cols k fields ≡ None
       → (r : Row) (n : ℕ) → n ≡ length (inputs_of vars) → r.cells ≡ with_cells cols fields (replicate n (pos 0)) → Stands vars cols text after (suc k) (cells_of (rows ++ r ∷ []))
   unfolding Stands
   right_row s n l h r m few e =
       let q = opened s n in
-      let none : row_fault vars q.names k fields ≡ None = line_same vars q.names cols q.head.columns k fields ∙ h in
-      let values : r.cells ≡ row_values vars q.names fields = e ∙ values_of_row vars q.names cols fields m q.head (no_fault_long cols k fields h) few in (
+      let none : row_fault row_number vars q.names k fields ≡ None = line_same row_number vars q.names cols q.head.columns k fields ∙ h in
+      let values : r.cells ≡ row_values vars q.names fields = e ∙ values_of_row vars q.names cols fields m q.head (no_fault_long row_number cols k fields h) few in (
         q.names,
         q.rest,
         q.head,
         q.left,
-        q.fault ∙ looked_at l q.names q.rest ∙ ap (λ f. option_or f (rows_fault vars q.names (suc k) q.rest)) none,
+        q.fault ∙ looked_at l q.names q.rest ∙ ap (λ f. option_or f (rows_fault row_number vars q.names (suc k) q.rest)) none,
         q.rows ∙ sym (ap (λ l. l ++ map (row_values vars q.names) q.rest) (cells_more rows r ∙ ap (λ c. cells_of rows ++ c ∷ []) values) ∙ append_assoc (cells_of rows) (row_values vars q.names fields ∷ []) (map (row_values vars q.names) q.rest)),
       )

@@ -1,10 +1,10 @@
 -- Helper of the code: the columns that the names of a header stand for, and what a row is by its columns.
-use Rattle.std.specs.Prelude.{◌≡◌, ⊤, ℕ, suc, ◌+◌, ◌≤◌, nat_eq, ℤ, pos, Bool, true, List, [], ◌∷◌, length, codes, decimal, slice_set, Option, Some, None, is_some, unwrap_or, if◌then◌else◌}
+use Rattle.std.specs.Prelude.{◌≡◌, ⊤, ℕ, suc, ◌+◌, ◌≤◌, nat_eq, ℤ, pos, Bool, true, List, [], ◌∷◌, length, codes, slice_set, Option, Some, None, is_some, unwrap_or, if◌then◌else◌}
 use Rattle.std.specs.List.{list_any}
 use Rattle.grammar.specs.Pieces.{Text, same}
-use Rattle.st_ast.specs.Scan.{is_input}
+use Rattle.st_ast.specs.Interface.{is_input, inputs_of}
 use Rattle.st_ast.specs.declared.tree.StVar.{StVar}
-use Rattle.plc_rows.specs.Rows.{RowFault, cell, row_length, inputs_of, header_fault, cell_value}
+use Rattle.plc_rows.specs.Rows.{RowFault, cell, row_length, header_fault, ScanRule, cell_value}
 use Rattle.plc_rows.specs.declared.header.Column.{Column}
 use Rattle.plc_rows.specs.declared.header.Column.TheVariants as column
 
@@ -47,19 +47,19 @@ pub record HeaderOf (vars : List StVar) (names : List Text) (cols : List Column)
 -- ---- a row
 
 -- whether the cell of the row k keeps the rule of its column
-abbrev pub stands : ℕ → Column → Text → Bool
-stands k column.Scan t = same t (decimal k)
-stands k (column.Input rank ty) t = is_some (cell_value ty t)
+abbrev pub stands : ScanRule → ℕ → Column → Text → Bool
+stands scan k column.Scan t = scan k t
+stands scan k (column.Input rank ty) t = is_some (cell_value ty t)
 
 -- the first wrong cell, from the column j on
-abbrev pub columns_fault : ℕ → ℕ → List Column → List Text → Option RowFault
-columns_fault k j [] ts = None
-columns_fault k j (c ∷ cols) [] = None
-columns_fault k j (c ∷ cols) (t ∷ ts) = if stands k c t then columns_fault k (suc j) cols ts else Some (cell k j)
+abbrev pub columns_fault : ScanRule → ℕ → ℕ → List Column → List Text → Option RowFault
+columns_fault scan k j [] ts = None
+columns_fault scan k j (c ∷ cols) [] = None
+columns_fault scan k j (c ∷ cols) (t ∷ ts) = if stands scan k c t then columns_fault scan k (suc j) cols ts else Some (cell k j)
 
 -- the row k: its length before its cells
-abbrev pub line_fault : List Column → ℕ → List Text → Option RowFault
-line_fault cols k ts = if nat_eq (length ts) (length cols) then columns_fault k 1 cols ts else Some (row_length k)
+abbrev pub line_fault : ScanRule → List Column → ℕ → List Text → Option RowFault
+line_fault scan cols k ts = if nat_eq (length ts) (length cols) then columns_fault scan k 1 cols ts else Some (row_length k)
 
 -- the values with that of a cell in its place
 abbrev pub with_cell : Column → Text → List ℤ → List ℤ

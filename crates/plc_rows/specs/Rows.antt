@@ -1,16 +1,16 @@
 -- The rules of a rows file for a program: the records of the text, as `csv` has them, are the header, which is the field
 -- `scan` and the names of the inputs in any order, and then the rows, which are numbered from 1. The cell of a row in the
--- column `scan` is its number, and a cell in the column of an input is a value of its type.
-use Rattle.std.specs.Prelude.{◌≡◌, ℕ, suc, ◌+◌, ◌==◌, nat_lt, nat_eq, ℤ, pos, neg_ℤ, int_le, Bool, IsTrue, false, not, ◌&&◌, ◌||◌, List, [], ◌∷◌, ◌++◌, codes, decimal, map, filter, find, length, Option, Some, None, is_some, unwrap_or, if◌then◌else◌}
+-- column `scan` is its number, and a cell in the column of an input is a value of its type. The rules take the one of the
+-- column `scan` as a parameter, so that another kind of file can have the same rules with another one there.
+use Rattle.std.specs.Prelude.{◌≡◌, ℕ, suc, ◌+◌, ◌==◌, nat_lt, nat_eq, ℤ, pos, neg_ℤ, Bool, false, not, ◌&&◌, List, [], ◌∷◌, ◌++◌, codes, decimal, map, find, length, Option, Some, None, is_some, unwrap_or, if◌then◌else◌}
 use Rattle.std.specs.Fmt.{signed_decimal}
-use Rattle.std.specs.List.{list_any, AllByRecursion, AllZip}
+use Rattle.std.specs.List.{list_any, AllByRecursion}
 use Rattle.std.specs.Option.{option_or}
 pub use Rattle.std.specs.Option.{option_or as or_else}
 use Rattle.grammar.specs.Bytes.{digits_from}
 use Rattle.grammar.specs.Pieces.{Text, same}
 use Rattle.csv.specs.Reading.{default_config, records, strip_bom}
-use Rattle.st_ast.specs.Scan.{is_input}
-use Rattle.st_ast.specs.Values.{fits, same_number}
+use Rattle.st_ast.specs.Interface.{inputs_of, is_of_type, AreOfTypes}
 use Rattle.st_ast.specs.declared.tree.StVar.{StVar}
 use Rattle.st_ast.specs.declared.tree.StTy.{StTy}
 use Rattle.st_ast.specs.declared.tree.StTy.TheVariants as ty
@@ -25,10 +25,6 @@ pub data RowFault : Type 0 where
 -- the most rows of a file
 abbrev pub most_rows : ℕ
 most_rows = 100000
-
--- the inputs of a program, in the order of declaration
-abbrev pub inputs_of : List StVar → List StVar
-inputs_of vars = filter (λ (v : StVar). is_input v.class) vars
 
 -- What the header has, each once and in any order, by its exact spelling. An input that is spelled `scan` has no column of
 -- its own, so that no header has all that is wanted.
@@ -64,55 +60,58 @@ number_in (b ∷ t) = if b == 45 then neg_ℤ (pos (digits_from 0 t)) else pos (
 abbrev pub number_cell : (ℤ → Bool) → Text → Option ℤ
 number_cell test t = if same t (signed_decimal (number_in t)) && test (number_in t) then Some (number_in t) else None
 
--- whether a number is a value of a type, where a BOOL is 0 or 1
-abbrev pub is_of_type : StTy → ℤ → Bool
-is_of_type ty.Bool z = same_number z (pos 0) || same_number z (pos 1)
-is_of_type ty.Lint z = fits 64 z
-is_of_type (ty.Range lo hi) z = int_le lo z && int_le z hi
-
 -- the value of a cell in the column of an input of that type
 abbrev pub cell_value : StTy → Text → Option ℤ
 cell_value ty.Bool t = truth_cell t
-cell_value ty.Lint t = number_cell (λ z. is_of_type ty.Lint z) t
-cell_value (ty.Range lo hi) t = number_cell (λ z. is_of_type (ty.Range lo hi) z) t
+cell_value ty.Lint t = number_cell (is_of_type ty.Lint) t
+cell_value (ty.Range lo hi) t = number_cell (is_of_type (ty.Range lo hi)) t
 
 -- the input with this name
 abbrev pub input_named : List StVar → Text → Option StVar
 input_named vars name = find (λ (v : StVar). same v.name name) (inputs_of vars)
 
+-- whether a text may stand in the column `scan` of the row k
+abbrev pub ScanRule : Type 0
+ScanRule = ℕ → Text → Bool
+
+-- the rule of rows files
+abbrev pub row_number : ScanRule
+row_number k c = same c (decimal k)
+
 -- the cell of the row k in the column of this name
-abbrev pub cell_stands : List StVar → ℕ → Text → Text → Bool
-cell_stands vars k name c =
-    if same name (codes "scan") then same c (decimal k)
+abbrev pub cell_stands : ScanRule → List StVar → ℕ → Text → Text → Bool
+cell_stands scan vars k name c =
+    if same name (codes "scan") then scan k c
     else elim (input_named vars name) [ None ↦ false | Some v ↦ is_some (cell_value v.ty c) ]
 
 -- the first wrong cell, from the column j on
-abbrev pub cells_fault : List StVar → ℕ → ℕ → List Text → List Text → Option RowFault
-cells_fault vars k j [] cs = None
-cells_fault vars k j (name ∷ names) [] = None
-cells_fault vars k j (name ∷ names) (c ∷ cs) = if cell_stands vars k name c then cells_fault vars k (suc j) names cs else Some (cell k j)
+abbrev pub cells_fault : ScanRule → List StVar → ℕ → ℕ → List Text → List Text → Option RowFault
+cells_fault scan vars k j [] cs = None
+cells_fault scan vars k j (name ∷ names) [] = None
+cells_fault scan vars k j (name ∷ names) (c ∷ cs) =
+    if cell_stands scan vars k name c then cells_fault scan vars k (suc j) names cs else Some (cell k j)
 
 -- the row k: its length before its cells
-abbrev pub row_fault : List StVar → List Text → ℕ → List Text → Option RowFault
-row_fault vars names k cs = if nat_eq (length cs) (length names) then cells_fault vars k 1 names cs else Some (row_length k)
+abbrev pub row_fault : ScanRule → List StVar → List Text → ℕ → List Text → Option RowFault
+row_fault scan vars names k cs = if nat_eq (length cs) (length names) then cells_fault scan vars k 1 names cs else Some (row_length k)
 
 -- the rows from the row k on; the row after the most is not looked at
-abbrev pub rows_fault : List StVar → List Text → ℕ → List (List Text) → Option RowFault
-rows_fault vars names k [] = None
-rows_fault vars names k (r ∷ rs) =
-    if nat_lt most_rows k then Some (too_many_rows (most_rows + 1)) else option_or (row_fault vars names k r) (rows_fault vars names (suc k) rs)
+abbrev pub rows_fault : ScanRule → List StVar → List Text → ℕ → List (List Text) → Option RowFault
+rows_fault scan vars names k [] = None
+rows_fault scan vars names k (r ∷ rs) =
+    if nat_lt most_rows k then Some (too_many_rows (most_rows + 1)) else option_or (row_fault scan vars names k r) (rows_fault scan vars names (suc k) rs)
 
-abbrev pub file_fault : List StVar → List (List Text) → Option RowFault
-file_fault vars [] = Some (header 1)
-file_fault vars (names ∷ rs) = option_or (header_fault vars names) (rows_fault vars names 1 rs)
+abbrev pub file_fault : ScanRule → List StVar → List (List Text) → Option RowFault
+file_fault scan vars [] = Some (header 1)
+file_fault scan vars (names ∷ rs) = option_or (header_fault vars names) (rows_fault scan vars names 1 rs)
 
 -- the records of a text, after its byte order mark where it begins with one
 abbrev pub records_of : Text → List (List Text)
 records_of text = records default_config (strip_bom text)
 
--- the first broken rule in the order of the file
+-- the first broken rule of a rows file, in the order of the file
 unfoldable pub first_row_fault : List StVar → Text → Option RowFault
-first_row_fault vars text = file_fault vars (records_of text)
+first_row_fault vars text = file_fault row_number vars (records_of text)
 
 -- ---- values
 
@@ -136,7 +135,7 @@ RowsOf vars text rows = (first_row_fault vars text ≡ None) × (rows ≡ rows_a
 
 -- one value for each input, in the order of declaration and of its type
 abbrev pub IsRowFor : List StVar → List ℤ → Type 0
-IsRowFor vars row = AllZip (λ (v : StVar) z. IsTrue (is_of_type v.ty z)) (inputs_of vars) row
+IsRowFor vars row = AreOfTypes (inputs_of vars) row
 
 -- the rows are in range for a program with these variables
 abbrev pub AreRowsFor : List StVar → List (List ℤ) → Type 0

@@ -65,7 +65,7 @@ fn cell_value(ty: StTy, cell: &[u8]) -> Option<i64>
 /// Puts the value of a cell in its place among those of the inputs; `false` where the cell breaks the rule of its column.
 fn put_cell(cells: &mut Items<i64>, column: Column, number: u32, cell: &[u8]) -> bool
     requires { place column ≤ length cells.old }
-    ensures stands { result ≡ stands number column cell.now }
+    ensures stands { result ≡ stands rows.row_number number column cell.now }
     ensures put { OnTrue result (cells.new ≡ with_cell column cell.now cells.old) }
 {
     match column {
@@ -90,9 +90,9 @@ pub fn read_row(
 ) -> Result<Row, RowErr>
     requires few { length columns.now < 2 ^ 32 }
     requires places { All (λ c. place c ≤ inputs) columns.now }
-    ensures ok { IfOk result (λ r. (line_fault columns.now number (fields_of row.now) ≡ None)
+    ensures ok { IfOk result (λ r. (line_fault rows.row_number columns.now number (fields_of row.now) ≡ None)
         × (r.cells ≡ with_cells columns.now (fields_of row.now) (replicate inputs (pos 0)))) }
-    ensures err { IfErr result (Tells (line_fault columns.now number (fields_of row.now))) }
+    ensures err { IfErr result (Tells (line_fault rows.row_number columns.now number (fields_of row.now))) }
 {
     if row.len() != columns.len() {
         return Err(RowErr::RowLength { row: number });

@@ -2,9 +2,9 @@
 
 ghost use Rattle.std.specs.Prelude.{◌≡◌, ◌++◌, [], ◌∷◌, ℤ, List, map, length, All, IfOk, IfSome, OnOk, decimal, codes};
 ghost use Rattle.std.specs.Fmt.{signed_decimal};
-ghost use Rattle.st_ast.specs.Interface.{is_output, numbers_of};
+ghost use Rattle.st_ast.specs.Interface.{is_output, numbers_of, outputs_of};
 ghost use Rattle.st_ast.specs.declared.tree.StVar.{StVar};
-ghost use Rattle.plc_rows.specs.Table.{output_table, outputs_of, names_text, header_text, line_text, cells_text, value_text};
+ghost use Rattle.plc_rows.specs.Table.{output_table, names_text, header_text, line_text, cells_text, value_text};
 ghost use Rattle.plc_rows.specs.Told.{cells_of};
 
 use crate::row::Row;

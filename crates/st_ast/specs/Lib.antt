@@ -8,6 +8,6 @@ pub mod Spelled
 pub mod Checks
 pub mod ReadsAs
 pub mod Values
+pub mod Interface
 pub mod Exec
 pub mod Scan
-pub mod Interface

@@ -12,11 +12,9 @@ pub record Derives (text : Text) (p : Program) : Type 0 where
   pub are_tokens : Tokens text tokens
   pub derived : whole p tokens
 
--- the text's tokens derive the program within the depth limits, and it breaks no check
+-- the text derives the program, and that breaks no check
 pub record ReadsAsProgram (text : Text) (p : Program) : Type 0 where
-  pub tokens : List Token
-  pub are_tokens : Tokens text tokens
-  pub derived : whole p tokens
+  pub derives : Derives text p
   pub checked : check_faults p ≡ []
 
 -- The text derives this program and no other. It reads as the program, unless that breaks a check, and as no other.

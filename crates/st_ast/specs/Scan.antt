@@ -1,16 +1,15 @@
 -- A scan of a program: the inputs take over a row, and the statements are executed once with 1,000,000 loop turns
 -- (IEC 61131-3, "Programs" and "Variables"). And scans one after another, from the memory of the declarations on.
-use Rattle.std.specs.Prelude.{ℕ, ℤ, pos, Bool, true, false, List, [], ◌∷◌, map, Option, Some, None, if◌then◌else◌}
+use Rattle.std.specs.Prelude.{ℕ, ℤ, pos, Bool, List, [], ◌∷◌, map, Option, Some, None, if◌then◌else◌}
 use Rattle.st_ast.specs.Tree.{Program}
 use Rattle.st_ast.specs.Values.{Memory, of_bool}
 use Rattle.st_ast.specs.Exec.{Outcome, Ended, Faulted, OutOfTurns, exec}
+use Rattle.st_ast.specs.Interface.{is_input}
 use Rattle.st_ast.specs.declared.tree.StVar.{StVar}
 use Rattle.st_ast.specs.declared.tree.StTy.{StTy}
 use Rattle.st_ast.specs.declared.tree.StTy.TheVariants as ty
 use Rattle.st_ast.specs.declared.tree.StLit.{StLit}
 use Rattle.st_ast.specs.declared.tree.StLit.TheVariants as lit
-use Rattle.st_ast.specs.declared.tree.StClass.{StClass}
-use Rattle.st_ast.specs.declared.tree.StClass.TheVariants as class
 
 abbrev pub value_of_literal : StLit → ℤ
 value_of_literal (lit.Bool b) = of_bool b
@@ -32,12 +31,6 @@ first_of v = first_or v.ty v.init
 -- the memory of the declarations
 abbrev pub start_memory : Program → Memory
 start_memory p = map first_of p.vars
-
-abbrev pub is_input : StClass → Bool
-is_input class.Input = true
-is_input class.Plain = false
-is_input class.Constant = false
-is_input class.Output = false
 
 -- the inputs, in the order of declaration, take over the numbers of a row, as far as it goes
 abbrev pub store_row : List StVar → List ℤ → Memory → Memory

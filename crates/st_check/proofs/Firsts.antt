@@ -1,5 +1,5 @@
 -- The first of some broken checks is the first of these and of others behind them.
-use Rattle.std.proofs.Common.{◌≡◌, ℕ, List, [], ◌∷◌, ◌++◌, Option, Some, None}
+use Rattle.std.proofs.Common.{◌≡◌, List, [], ◌∷◌, ◌++◌, Some}
 use Rattle.std.proofs.lemmas.Option.{none-some}
 use Rattle.st_ast.specs.Checks.{CheckFault}
 use Rattle.st_check.specs.Told.{first, IsFirst}

@@ -2,3 +2,4 @@ pub mod Places
 pub mod Declaring
 pub mod Numbers
 pub mod Firsts
+pub mod Sorted

@@ -2,12 +2,13 @@
 use Rattle.std.proofs.Common.{◌≡◌, ◌==◌, ℕ, suc, ◌+◌, ◌≤◌, Bool, true, false, cond, not, ◌&&◌, ◌||◌, List, [], ◌∷◌, length, Option, Some, None, refl, sym, ap, subst, ◌∙◌, arith}
 use Rattle.std.specs.Prelude.{nat_eq, nat_lt, slice_get}
 use Rattle.std.specs.List.{list_any, position_or_len}
+use Rattle.std.specs.Char.{to_ascii_lowercase}
 use Rattle.std.specs.Cmp.Lexicographic.{pointwise}
 use Rattle.std.proofs.lemmas.Bool.Decides.{nat_tests}
 use Rattle.std.proofs.lemmas.List.{length-map}
 use Rattle.grammar.specs.Pieces.{Text}
 use Rattle.grammar.proofs.Texts.{flip}
-use Rattle.st_ast.specs.Names.{folded, same_name, place_of, declared}
+use Rattle.st_ast.specs.Names.{same_name, place_of, declared}
 use Rattle.st_ast.specs.declared.tree.StVar.{StVar}
 use Rattle.st_check.specs.Keys.{key, keys_of, is_among, found_at}
 use Rattle.st_check.specs.Told.{IsPlace}
@@ -17,7 +18,7 @@ pub key_same : (x y : Text) → pointwise nat_eq (key x) (key y) ≡ same_name y
 key_same [] [] = refl
 key_same [] (b ∷ y) = refl
 key_same (a ∷ x) [] = refl
-key_same (a ∷ x) (b ∷ y) = ap (λ u. (folded a == folded b) && u) (key_same x y) ∙ ap (λ u. u && same_name y x) (flip (folded a) (folded b))
+key_same (a ∷ x) (b ∷ y) = ap (λ u. (to_ascii_lowercase a == to_ascii_lowercase b) && u) (key_same x y) ∙ ap (λ u. u && same_name y x) (flip (to_ascii_lowercase a) (to_ascii_lowercase b))
 
 -- a name is among the keys where a variable has it
 pub among_vars : (vars : List StVar) (x : Text) → is_among (keys_of vars) (key x) ≡ list_any (λ (u : StVar). same_name u.name x) vars

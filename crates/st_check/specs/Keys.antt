@@ -3,12 +3,12 @@
 use Rattle.std.specs.Prelude.{ℕ, Bool, List, Option, map, nat_eq, position}
 use Rattle.std.specs.List.{list_any}
 use Rattle.std.specs.Cmp.Lexicographic.{pointwise}
+use Rattle.std.specs.Str.{str_to_ascii_lowercase}
 use Rattle.grammar.specs.Pieces.{Text}
-use Rattle.st_ast.specs.Names.{folded}
 use Rattle.st_ast.specs.declared.tree.StVar.{StVar}
 
 abbrev pub key : Text → Text
-key name = map folded name
+key = str_to_ascii_lowercase
 
 abbrev pub keys_of : List StVar → List Text
 keys_of vars = map (λ (v : StVar). key v.name) vars

@@ -2,8 +2,7 @@
 
 ghost use Rattle.std.specs.Prelude.{◌≡◌, ◌<◌, ◌^◌, [], length, IfOk, IfErr};
 ghost use Rattle.st_ast.specs.Checks.{check_faults, stms_count};
-ghost use Rattle.st_ast.specs.Interface.{is_output, numbers_of};
-ghost use Rattle.st_ast.specs.Scan.{is_input};
+ghost use Rattle.st_ast.specs.Interface.{is_output, numbers_of, is_input};
 ghost use Rattle.st_ast.specs.View.{view, view_stmts};
 ghost use Rattle.st_check.specs.Told.{IsFirst, IsPlace};
 
@@ -31,8 +30,7 @@ impl Model for Checked {
     ghost use Rattle.std.specs.Prelude.{◌≡◌, ◌<◌, ◌^◌, [], length};
     ghost use Rattle.std.specs.Coded.{codes};
     ghost use Rattle.st_ast.specs.Checks.{check_faults};
-    ghost use Rattle.st_ast.specs.Interface.{is_output, numbers_of};
-    ghost use Rattle.st_ast.specs.Scan.{is_input};
+    ghost use Rattle.st_ast.specs.Interface.{is_output, numbers_of, is_input};
     ghost use Rattle.st_ast.specs.View as tree;
     ghost use Rattle.st_ast.specs.declared.tree.Program.{Program};
     ghost use Rattle.st_ast.specs.contracts.tree.Stmt as statement;

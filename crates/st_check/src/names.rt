@@ -1,33 +1,27 @@
 //! The names of variables, found through a map, the case of letters ignored.
 
 ghost use Rattle.std.specs.Prelude.{◌≡◌, [], ◌∷◌, ◌++◌, map, not, IfOk, if◌then◌else◌};
-ghost use Rattle.st_ast.specs.Names.{folded};
 ghost use Rattle.st_check.specs.Keys as keys;
 
 use cif_base::Memory;
 use indexmap::IndexSet;
+use smallvec::SmallVec;
 use std::alloc::Global;
 use std::marker::Model;
-
-/// A byte, a capital letter as its small one.
-fn fold(byte: u8) -> u8
-    ensures { result ≡ folded byte }
-{
-    if byte >= b'A' && byte <= b'Z' {
-        byte + 32
-    } else {
-        byte
-    }
-}
 
 /// The key of a name: the name with its capital letters as small ones.
 fn key(alloc: Global, name: &[u8]) -> Result<Vec<u8>, Memory>
     ensures { IfOk result (λ k. k.items ≡ keys.key name.now) }
 {
-    let mut key = Vec::with_capacity(alloc, name.len())?;
-    for byte in name {
-        key.push(fold(*byte))?;
-    }
+    Ok(name.to_ascii_lowercase(alloc)?)
+}
+
+/// The key of a name that is looked up, which takes no heap for a name of up to 32 bytes.
+fn look_up_key(alloc: Global, name: &[u8]) -> Result<SmallVec<u8, 32>, Memory>
+    ensures { IfOk result (λ k. k.items ≡ keys.key name.now) }
+{
+    let mut key = SmallVec::from_slice(alloc, name)?;
+    key.as_mut_slice().make_ascii_lowercase();
     Ok(key)
 }
 
@@ -68,7 +62,7 @@ impl Names {
     pub fn number(&self, alloc: Global, name: &[u8]) -> Result<Option<usize>, Memory>
         ensures { IfOk result (λ found. found ≡ keys.found_at self.now (keys.key name.now)) }
     {
-        let key = key(alloc, name)?;
+        let key = look_up_key(alloc, name)?;
         Ok(self.keys.get_index_of(key.as_slice()))
     }
 }

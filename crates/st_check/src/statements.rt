@@ -53,6 +53,7 @@ fn can_be_assigned(var: &StVar) -> bool
 }
 
 /// Checks the assignment with the number `statement`.
+#[tactic(auto, using(crate::proofs::Sorted::value_known))]
 fn check_assignment(
     alloc: Global,
     scope: &Scope,
@@ -65,11 +66,11 @@ fn check_assignment(
     let Some(var) = scope.declared(alloc, target)? else {
         return Err(StCheckErr::StUnknown { statement });
     };
-    if !knows(alloc, scope, value)? {
-        return Err(StCheckErr::StUnknown { statement });
-    }
     let wanted = Some(sort_of_type(var.ty));
     if !is_same(wanted, sort_of(alloc, scope, value)?) {
+        if !knows(alloc, scope, value)? {
+            return Err(StCheckErr::StUnknown { statement });
+        }
         return Err(StCheckErr::StMismatch { statement });
     }
     if !can_be_assigned(var) {
@@ -79,6 +80,7 @@ fn check_assignment(
 }
 
 /// Checks the conditions of the IF with the number `statement`.
+#[tactic(auto, using(crate::proofs::Sorted::conditions_known))]
 fn check_conditions(
     alloc: Global,
     scope: &Scope,
@@ -87,16 +89,17 @@ fn check_conditions(
 ) -> Result<(), StCheckErr>
     ensures { Tells result (checks.own_faults scope.now statement (choice (view_branches branches.now) no_other)) }
 {
-    if !knows_conditions(alloc, scope, branches)? {
-        return Err(StCheckErr::StUnknown { statement });
-    }
     if !have_boolean_conditions(alloc, scope, branches)? {
+        if !knows_conditions(alloc, scope, branches)? {
+            return Err(StCheckErr::StUnknown { statement });
+        }
         return Err(StCheckErr::StMismatch { statement });
     }
     Ok(())
 }
 
 /// Checks the condition of the WHILE with the number `statement`.
+#[tactic(auto, using(crate::proofs::Sorted::condition_known))]
 fn check_condition(
     alloc: Global,
     scope: &Scope,
@@ -105,10 +108,10 @@ fn check_condition(
 ) -> Result<(), StCheckErr>
     ensures { Tells result (checks.own_faults scope.now statement (loop (view_expr cond.now) no_stms)) }
 {
-    if !knows(alloc, scope, cond)? {
-        return Err(StCheckErr::StUnknown { statement });
-    }
     if !is_boolean(sort_of(alloc, scope, cond)?) {
+        if !knows(alloc, scope, cond)? {
+            return Err(StCheckErr::StUnknown { statement });
+        }
         return Err(StCheckErr::StMismatch { statement });
     }
     Ok(())

@@ -10,7 +10,7 @@ use Rattle.st_ast.specs.Grammar.{whole, max_depth}
 use Rattle.st_ast.specs.ReadsAs as reads
 use Rattle.st_ast.specs.Spelled.{is_name, are_stms, are_declarations, is_spelled}
 use Rattle.st_ast.specs.Tree.{Stm, Stms, stms_of, Program}
-use Rattle.st_read.proofs.Told.{reads_derive, one_derives}
+use Rattle.st_read.proofs.Whole.{one_derives}
 use Rattle.st_print.specs.Layout.{Mark, variables_marks, stms_marks, program_marks, printed}
 use Rattle.st_print.specs.Layout as mark
 use Rattle.st_print.specs.Marks.{tokens_of}
@@ -50,9 +50,9 @@ reads_back p r =
     let d = printed_derives p r in
     record {
       derives = d;
-      reads = λ e. record { tokens = d.tokens; are_tokens = d.are_tokens; derived = d.derived; checked = e };
+      reads = λ e. record { derives = d; checked = e };
       derives_no_other = λ q other. one_derives (printed p) q p other d;
-      reads_as_no_other = λ q other. one_derives (printed p) q p (reads_derive (printed p) q other) d;
+      reads_as_no_other = λ q other. one_derives (printed p) q p other.derives d;
     }
 
 pub read_again : {V E : Type 0} (items : V → Text) (p : Program) → is_spelled p ≡ true → (r : Result V E) → IfOk r (λ t. items t ≡ printed p) → IfOk r (λ t. reads.ReadsBack (items t) p)

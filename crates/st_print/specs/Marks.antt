@@ -1,4 +1,5 @@
--- The tokens of what is printed, mark by mark, and the marks that are printed so that these are the tokens of the text.
+-- Helper of the proofs: the tokens of what is printed, mark by mark, and the marks that are printed so that these are the
+-- tokens of the text.
 use Rattle.std.specs.Prelude.{◌≡◌, Bool, true, List, [], ◌∷◌, codes, decimal, Option, Some, None, filter_map}
 use Rattle.std.specs.List.{list_any}
 use Rattle.grammar.specs.Pieces.{Text, same}

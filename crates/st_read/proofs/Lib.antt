@@ -3,6 +3,7 @@ pub mod Agrees
 pub mod Whole
 pub mod Literals
 pub mod SeenLoops
+pub mod Others
 pub mod Fronts
 pub mod FoundLaws
 pub mod LexSteps
@@ -10,6 +11,7 @@ pub mod Cursors
 pub mod Programs
 pub mod RefusalLaws
 pub mod Numbers
+pub mod Signs
 pub mod Made
 pub mod WordLaws
 pub mod Told

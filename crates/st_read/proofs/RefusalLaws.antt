@@ -14,7 +14,7 @@ use Rattle.st_lex.specs.Cutting.{piece_cut}
 use Rattle.st_lex.proofs.CuttingLaws.{piece_cuts}
 use Rattle.st_read.specs.declared.error.StErr.{StErr}
 use Rattle.st_read.specs.declared.error.StErr.TheVariants as err
-use Rattle.st_read.specs.Derives.{Derives}
+use Rattle.st_ast.specs.ReadsAs.{Derives}
 use Rattle.st_read.specs.Lexing.{IsInRange, Lexes}
 use Rattle.st_read.specs.Refusals.{Front, BadByteDue, NumberTooBigDue, OpenCommentDue, RefusalDue}
 use Rattle.st_read.proofs.Fronts.{comment_cut, open_uncut}

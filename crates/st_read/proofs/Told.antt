@@ -1,31 +1,19 @@
 -- What is told of a text that is read or refused.
-use Rattle.std.proofs.Common.{◌≡◌, ℕ, ◌≤◌, List, None, Result, Ok, Err, refl, ap, subst, ◌∙◌}
+use Rattle.std.proofs.Common.{◌≡◌, ℕ, ◌≤◌, List, None, Result, Ok, Err, refl, ap, ◌∙◌}
 use Rattle.std.specs.Prelude.{IfOk, IfErr, MatchResult, length}
 use Rattle.grammar.specs.Pieces.{Text}
 use Rattle.st_ast.specs.Tokens.{Token}
 use Rattle.st_ast.specs.Tree.{Program}
-use Rattle.st_ast.specs.Grammar.{whole}
-use Rattle.st_ast.specs.ReadsAs.{ReadsAsProgram}
+use Rattle.st_ast.specs.ReadsAs.{Derives}
 use Rattle.st_lex.proofs.CuttingLaws.{token_lists_agree}
 use Rattle.st_read.specs.declared.error.StErr.{StErr}
 use Rattle.st_read.specs.declared.error.StErr.TheVariants as err
 use Rattle.st_read.specs.Told.{Refuses, Tells}
 use Rattle.st_read.specs.Lexing.{Lexes}
 use Rattle.st_read.specs.Reading.{program_of}
-use Rattle.st_read.specs.Derives.{Derives}
 use Rattle.st_read.specs.Refusals.{NotReadDue, RefusalDue}
-use Rattle.st_read.proofs.Whole.{read_derives, none_derives, one_derivation}
+use Rattle.st_read.proofs.Whole.{read_derives, none_derives, one_derives}
 use Rattle.st_read.proofs.RefusalLaws.{no_bad_byte, no_big_number, no_open_comment, refused_derives_none}
-
--- a text that reads as a program derives it
-pub reads_derive : (text : Text) (p : Program) → ReadsAsProgram text p → Derives text p
-reads_derive text p d = record { tokens = d.tokens; are_tokens = d.are_tokens; derived = d.derived }
-
--- a text derives at most one program
-pub one_derives : (text : Text) (p q : Program) → Derives text p → Derives text q → p ≡ q
-one_derives text p q d e =
-    let same = token_lists_agree text e.tokens d.tokens e.are_tokens d.are_tokens in
-    one_derivation d.tokens p q d.derived (subst (λ ts. whole q ts) same e.derived)
 
 -- ---- tokens of which no program is read
 

@@ -5,7 +5,7 @@ use Rattle.grammar.specs.Reader.{Read}
 use Rattle.st_ast.specs.Tokens.{Token}
 use Rattle.st_ast.specs.Tree.{Program}
 use Rattle.st_ast.specs.Grammar.{whole}
-use Rattle.st_ast.specs.ReadsAs.{ReadsAsProgram}
+use Rattle.st_ast.specs.ReadsAs.{Derives, ReadsAsProgram}
 use Rattle.st_lex.proofs.CuttingLaws.{token_lists_agree}
 use Rattle.st_read.specs.Reading.{program_at, ended, finished, program_of}
 use Rattle.st_read.proofs.Agrees.{program_takes}
@@ -37,7 +37,11 @@ none_derives ts e p d = let r = derived_reads ts p d in absurd cc
 pub one_derivation : (ts : List Token) (p q : Program) → whole p ts → whole q ts → p ≡ q
 one_derivation ts p q d e = let a = derived_reads ts p d in let b = derived_reads ts q e in cc
 
-pub one-program : (text : Text) (p q : Program) → ReadsAsProgram text p → ReadsAsProgram text q → p ≡ q
-one-program text p q d e =
+-- a text derives at most one program
+pub one_derives : (text : Text) (p q : Program) → Derives text p → Derives text q → p ≡ q
+one_derives text p q d e =
     let same = token_lists_agree text e.tokens d.tokens e.are_tokens d.are_tokens in
     one_derivation d.tokens p q d.derived (subst (λ ts. whole q ts) same e.derived)
+
+pub one-program : (text : Text) (p q : Program) → ReadsAsProgram text p → ReadsAsProgram text q → p ≡ q
+one-program text p q d e = one_derives text p q d.derives e.derives

@@ -1,10 +1,13 @@
 -- The kind of a word is found among the words of its length.
-use Rattle.std.proofs.Common.{◌≡◌, ◌≢◌, ◌==◌, ◌||◌, ℕ, Bool, not, true, false, if◌then◌else◌, List, [], ◌∷◌, ◌++◌, length, refl, ap, ◌∙◌, eq-eqb, arith}
+use Rattle.std.proofs.Common.{◌≡◌, ◌≢◌, ◌==◌, ◌||◌, ℕ, Bool, not, true, false, if◌then◌else◌, List, [], ◌∷◌, ◌++◌, map, length, refl, ap, ◌∙◌, eq-eqb, arith}
+use Rattle.std.specs.Prelude.{IsTrue, ◌↔◌}
 use Rattle.std.specs.List.{list_any}
-use Rattle.std.proofs.lemmas.Bool.Decides.{nat_tests}
+use Rattle.std.specs.Char.{to_ascii_lowercase}
+use Rattle.std.proofs.lemmas.Bool.Decides.{nat_tests, same_from_decides}
+use Rattle.std.proofs.lemmas.Slice.Eq.{bytes_eq-Decides}
 use Rattle.grammar.specs.Pieces.{Text}
 use Rattle.grammar.proofs.Texts.{and_right}
-use Rattle.st_ast.specs.Names.{folded, same_name}
+use Rattle.st_ast.specs.Names.{same_name}
 use Rattle.st_ast.specs.Tokens.{keywords, reserved, in_table}
 use Rattle.st_ast.specs.declared.kinds.TokenKind.{TokenKind}
 use Rattle.st_ast.specs.declared.kinds.TokenKind.TheVariants as kinds
@@ -39,13 +42,17 @@ words_found : (w : Text) → in_table words w (name_kind w) ≡ word_kind w
 unfolding word_kind other_kind is_reserved
 words_found w = both_found keywords (unused reserved) w (name_kind w) ∙ ap (in_table keywords w) (unused_found reserved w (name_kind w))
 
+-- what a comparison of bytes tells, ignoring the case of letters
+pub same_where_folded : (b : Bool) (x y : Text) → IsTrue b ↔ (map to_ascii_lowercase x ≡ map to_ascii_lowercase y) → b ≡ same_name x y
+same_where_folded b x y told = same_from_decides b (same_name x y) told (bytes_eq-Decides (map to_ascii_lowercase x) (map to_ascii_lowercase y))
+
 -- ---- the words of some lengths
 
 same_length : (a b : Text) → same_name a b ≡ true → length a ≡ length b
 same_length [] [] e = refl
 same_length [] (b ∷ bs) e = absurd cc
 same_length (a ∷ as') [] e = absurd cc
-same_length (a ∷ as') (b ∷ bs) e = let m = same_length as' bs (and_right (folded a == folded b) (same_name as' bs) e) in omega (arith, m)
+same_length (a ∷ as') (b ∷ bs) e = let m = same_length as' bs (and_right (to_ascii_lowercase a == to_ascii_lowercase b) (same_name as' bs) e) in omega (arith, m)
 
 -- the entries whose number of bytes passes a test
 abbrev having : (ℕ → Bool) → Table → Table

@@ -91,6 +91,15 @@ abbrev pub sign_in : List Text → Text → Option (Text × Text)
 sign_in [] text = None
 sign_in (s ∷ ss) text = with_sign s (strip s text) (sign_in ss text)
 
+-- the same with its kind, of signs with their kinds
+abbrev pub with_entry : Text × TokenKind → Option Text → Option ((Text × TokenKind) × Text) → Option ((Text × TokenKind) × Text)
+with_entry p None other = other
+with_entry p (Some rest) other = Some (p, rest)
+
+abbrev pub entry_in : List (Text × TokenKind) → Text → Option ((Text × TokenKind) × Text)
+entry_in [] text = None
+entry_in (p ∷ ps) text = with_entry p (strip p.0 text) (entry_in ps text)
+
 unfoldable pub sign_of : Text → Option (Text × Text)
 sign_of text = sign_in signs text
 

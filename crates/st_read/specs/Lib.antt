@@ -6,6 +6,5 @@ pub mod ReadsStatement
 pub mod Lexing
 pub mod Told
 pub mod Cursor
-pub mod Derives
 pub mod Refusals
 pub mod PartsOf

@@ -141,8 +141,12 @@ other_at l r = deep_map after_kind (deep_both (flat_at (one_at sort (codes_of (o
 unfoldable pub others_at : ℕ → Deep Token Expr → Deep Token Others
 others_at l r ts = deep_from sort (codes_of (operators l)) (other_at l r) (most_others l (length ts)) ts
 
+-- a first operand of a level as one form with those after it
+abbrev pub form_at : ℕ → Deep Token Expr → Expr × ℕ → Reader Token (Expr × ℕ)
+form_at l r first us = and_then (others_at l r us) (λ more vs. chained max_depth (made_at l) first more vs)
+
 unfoldable pub joined_at : ℕ → Deep Token Expr → Deep Token Expr
-joined_at l r ts = and_then (r ts) (λ first us. and_then (others_at l r us) (λ more vs. chained max_depth (made_at l) first more vs))
+joined_at l r ts = and_then (r ts) (form_at l r)
 
 -- so many levels over the reader of operands
 unfoldable pub level_at : ℕ → Deep Token Expr → Deep Token Expr

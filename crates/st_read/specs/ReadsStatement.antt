@@ -1,4 +1,4 @@
--- A function value that reads statements, so deep.
+-- Helper of the code: a function value that reads statements, so deep.
 use Rattle.std.specs.Prelude.{ℕ, List, Result}
 use Rattle.std.specs.declared.alloc.Global.{Global}
 use Rattle.st_ast.specs.Tokens.{Token}

@@ -3,7 +3,7 @@ use Rattle.std.specs.Prelude.{◌≡◌, ℕ, ◌+◌, ◌≤◌, ◌<◌, false
 use Rattle.grammar.specs.Pieces.{Text, IsLongest, Begun}
 use Rattle.st_ast.specs.Tokens.{Piece, number, piece, opens_comment, number_of, greatest}
 use Rattle.st_ast.specs.Tree.{Program}
-use Rattle.st_read.specs.Derives.{Derives}
+use Rattle.st_ast.specs.ReadsAs.{Derives}
 use Rattle.st_read.specs.declared.error.StErr.{StErr}
 use Rattle.st_read.specs.declared.error.StErr.TheVariants as err
 

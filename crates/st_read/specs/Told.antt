@@ -1,4 +1,4 @@
--- What a reader of the tokens of a text tells.
+-- Helper of the code: what a reader of the tokens of a text tells.
 use Rattle.std.specs.Prelude.{◌≡◌, ℕ, ◌≤◌, Option, Some, None, Result, Ok, Err}
 use Rattle.st_read.specs.declared.error.StErr.{StErr}
 use Rattle.st_read.specs.declared.error.StErr.TheVariants.{StBadByte, StNumberTooBig, StOpenComment, StNotRead, Memory}

@@ -3,18 +3,11 @@
 ghost use Rattle.std.specs.Prelude.{◌≡◌, ◌≤◌, length};
 ghost use Rattle.grammar.specs.Pieces.{Text};
 ghost use Rattle.st_ast.specs.Checks.{stms_count};
-ghost use Rattle.st_ast.specs.ReadsAs.{ReadsAsProgram};
+ghost use Rattle.st_ast.specs.ReadsAs.{ReadsAsProgram, Derives};
 ghost use Rattle.st_ast.specs.Tree as tree;
-ghost use Rattle.st_read.specs.Derives.{Derives};
 ghost use Rattle.st_read.specs.Refusals.{RefusalDue};
 ghost use Rattle.st_read.specs.declared.error.StErr.{StErr};
 ghost use Rattle.st_read.specs.declared.error.StErr.TheVariants.{Memory as no_memory};
-
-/// A text that reads as a program derives it, so that a text which is refused reads as none.
-#[tactic(auto, using(crate::proofs::Told::reads_derive))]
-pub fn reads_derive()
-    ensures { (text : Text) (p : tree.Program) → ReadsAsProgram text p → Derives text p }
-{}
 
 /// A text reads as at most one program.
 pub fn one_program()

@@ -137,9 +137,26 @@ impl<F: Fn(Global, Tokens<'_>, u16) -> Result<(Deep, Tokens<'_>), Stop>> Levels<
         Ok(((found, deep), rest))
     }
 
-    /// An expression of so many levels of operators.
+    /// A first operand of a level as one form with those after it.
     #[cycle(levels)]
-    #[tactic(auto, using(crate::proofs::SeenLoops::seen_chained), unfolding(crate::specs::Reading::level_at, crate::specs::Reading::joined_at))]
+    #[tactic(auto, using(crate::proofs::SeenLoops::seen_chained))]
+    fn after<'a>(&self, level: u8, operand: Deep, tokens: Tokens<'a>) -> Read<'a, Deep>
+        requires { ReadsUnary self.now.fuel (F.pre self.now.unary) (F.post self.now.unary) }
+        ensures { Gives (λ x. ((view_expr x.0.0, x.0.1), x.1)) result (reading.form_at level (reading.level_at level (reading.unary_at self.now.fuel)) (view_expr operand.0, operand.1) tokens.entry) }
+    {
+        let (first, depth) = operand;
+        let ((more, deep), rest) = self.others(level, tokens)?;
+        if more.is_empty() {
+            return Ok(((first, depth), rest));
+        }
+        let ((first, depth), rest) = deeper(first, depth, rest)?;
+        let e = made(self.alloc, level, first, more)?;
+        Ok(((e, depth.max(deep)), rest))
+    }
+
+    /// An expression of so many levels of operators. Most operands of a level stand alone, and are given on as they are.
+    #[cycle(levels)]
+    #[tactic(auto, unfolding(crate::specs::Reading::level_at, crate::specs::Reading::joined_at))]
     pub fn at<'a>(&self, levels: u8, tokens: Tokens<'a>) -> Read<'a, Deep>
         requires { ReadsUnary self.now.fuel (F.pre self.now.unary) (F.post self.now.unary) }
         ensures { Gives (λ x. ((view_expr x.0.0, x.0.1), x.1)) result (reading.level_at levels (reading.unary_at self.now.fuel) tokens.entry) }
@@ -148,14 +165,11 @@ impl<F: Fn(Global, Tokens<'_>, u16) -> Result<(Deep, Tokens<'_>), Stop>> Levels<
             return self.operand(tokens);
         }
         let level = levels - 1;
-        let ((first, depth), rest) = self.at(level, tokens)?;
-        let ((more, deep), rest) = self.others(level, rest)?;
-        if more.is_empty() {
-            return Ok(((first, depth), rest));
+        let (operand, rest) = self.at(level, tokens)?;
+        if !starts(&rest, operators(level)) {
+            return Ok((operand, rest));
         }
-        let ((first, depth), rest) = deeper(first, depth, rest)?;
-        let e = made(self.alloc, level, first, more)?;
-        Ok(((e, depth.max(deep)), rest))
+        self.after(level, operand, rest)
     }
 
     /// A whole expression inside a form.

@@ -2,7 +2,6 @@
 
 ghost use Rattle.std.specs.Prelude.{◌≡◌, ◌≤◌, not, map, position, unwrap_or, length, option_map, All, IfOk, IfErr};
 ghost use Rattle.std.specs.Option.{option_copied};
-ghost use Rattle.grammar.specs.Pieces as pieces;
 ghost use Rattle.grammar.specs.Pieces.{run_of, strip};
 ghost use Rattle.st_ast.specs.Tokens as k;
 ghost use Rattle.st_read.specs.Cursor.{first_in, token_at, tokens_in};
@@ -15,8 +14,43 @@ use crate::found::{Fault, Found, Token};
 use crate::words::{begins_word, is_blank, is_digit, is_wordy, kind_of_word, value_of};
 use st_ast::TokenKind;
 
-/// The signs with their kinds, the longer ones first.
-static SIGNS: [(&[u8], TokenKind); 18] = [
+/// A sign and its kind.
+type Sign = (&'static [u8], TokenKind);
+
+// The signs by their first byte, so that one is compared with few others; the longer ones come first.
+
+static COLON: [Sign; 2] = [(b":=", TokenKind::Assigns), (b":", TokenKind::Colon)];
+
+static LESS: [Sign; 3] = [
+    (b"<>", TokenKind::Differs),
+    (b"<=", TokenKind::AtMost),
+    (b"<", TokenKind::Less),
+];
+
+static GREATER: [Sign; 2] = [(b">=", TokenKind::AtLeast), (b">", TokenKind::Greater)];
+
+static SEMICOLON: [Sign; 1] = [(b";", TokenKind::Semicolon)];
+
+static OPEN: [Sign; 1] = [(b"(", TokenKind::Open)];
+
+static CLOSE: [Sign; 1] = [(b")", TokenKind::Close)];
+
+static COMMA: [Sign; 1] = [(b",", TokenKind::Comma)];
+
+static PLUS: [Sign; 1] = [(b"+", TokenKind::Plus)];
+
+static DASH: [Sign; 1] = [(b"-", TokenKind::Dash)];
+
+static TIMES: [Sign; 1] = [(b"*", TokenKind::Times)];
+
+static SLASH: [Sign; 1] = [(b"/", TokenKind::Slash)];
+
+static EQUALS: [Sign; 1] = [(b"=", TokenKind::Equals)];
+
+static AND: [Sign; 1] = [(b"&", TokenKind::And)];
+
+/// All signs with their kinds, the longer ones first.
+static SIGNS: [Sign; 18] = [
     (b":=", TokenKind::Assigns),
     (b"..", TokenKind::Dots),
     (b"<>", TokenKind::Differs),
@@ -149,53 +183,52 @@ fn stripped<'a>(sign: &[u8], text: &'a [u8]) -> Option<&'a [u8]>
     }
 }
 
-/// The first of the signs that stands at the front, and what is left.
-fn first_sign<'a>(text: &'a [u8], signs: &[(&'a [u8], TokenKind)]) -> Option<(&'a [u8], &'a [u8])>
-    ensures { option_map (λ w. (w.0.now, w.1.now)) result ≡ lexing.sign_in (map (λ s. s.0.now) signs.now) text.now }
+/// The signs among which that at the front of a text is: those with its first byte, or all.
+fn signs_for(text: &[u8]) -> &'static [Sign]
+    ensures { lexing.entry_in (map (λ s. (s.0.now, s.1)) result.now) text.now ≡ lexing.entry_in k.sign_kinds text.now }
 {
-    for (sign, _kind) in signs {
+    let [byte, _rest @ ..] = text else {
+        return &SIGNS;
+    };
+    match *byte {
+        b':' => &COLON,
+        b'<' => &LESS,
+        b'>' => &GREATER,
+        b';' => &SEMICOLON,
+        b'(' => &OPEN,
+        b')' => &CLOSE,
+        b',' => &COMMA,
+        b'+' => &PLUS,
+        b'-' => &DASH,
+        b'*' => &TIMES,
+        b'/' => &SLASH,
+        b'=' => &EQUALS,
+        b'&' => &AND,
+        _ => &SIGNS,
+    }
+}
+
+/// The first of the signs that stands at the front, with its kind, and what is left.
+fn first_sign<'a>(text: &'a [u8], signs: &[Sign]) -> Option<(Sign, &'a [u8])>
+    ensures { option_map (λ w. ((w.0.0.now, w.0.1), w.1.now)) result ≡ lexing.entry_in (map (λ s. (s.0.now, s.1)) signs.now) text.now }
+{
+    for (sign, kind) in signs {
         if let Some(rest) = stripped(*sign, text) {
-            return Some((*sign, rest));
+            return Some(((*sign, *kind), rest));
         }
     }
     None
 }
 
-#[tactic(auto, using(grammar::proofs::Texts::same_is))]
-fn same(word: &[u8], other: &[u8]) -> bool
-    ensures { result ≡ pieces.same word.now other.now }
-{
-    word == other
-}
-
-/// The kind that a table has for a sign.
-fn sign_in_table(table: &[(&[u8], TokenKind)], sign: &[u8]) -> TokenKind
-    ensures { result ≡ k.kind_of_sign_in (map (λ p. (p.0.now, p.1)) table.now) sign.now }
-{
-    for (text, kind) in table {
-        if same(text, sign) {
-            return *kind;
-        }
-    }
-    TokenKind::Outside
-}
-
-#[tactic(auto, unfolding(crate::specs::Lexing::sign_kind))]
-fn kind_of_sign(sign: &[u8]) -> TokenKind
-    ensures { result ≡ lexing.sign_kind sign.now }
-{
-    sign_in_table(&SIGNS, sign)
-}
-
 /// The sign at the front.
-#[tactic(auto, using(crate::proofs::Numbers::sign_apart), unfolding(crate::specs::Lexing::sign_of))]
+#[tactic(auto, using(crate::proofs::Signs::sign_found, crate::proofs::Signs::no_sign, crate::proofs::Signs::entry_apart))]
 fn sign(text: &[u8]) -> Found<'_>
     ensures { Finds (λ x. (x.0, x.1.now)) result (lexing.signed (lexing.sign_of text.now)) }
 {
-    let Some((sign, rest)) = first_sign(text, &SIGNS) else {
+    let Some(((sign, kind), rest)) = first_sign(text, signs_for(text)) else {
         return Err(Fault::BadByte);
     };
-    Ok((Some(Token::plain(kind_of_sign(sign), sign)), rest))
+    Ok((Some(Token::plain(kind, sign)), rest))
 }
 
 /// A comment, of which the first two bytes are read.

@@ -17,5 +17,5 @@ mod tokens;
 mod words;
 
 pub use error::StErr;
-pub use laws::{no_program_where_refused, one_program, programs_are_small, reads_derive};
+pub use laws::{no_program_where_refused, one_program, programs_are_small};
 pub use texts::read;

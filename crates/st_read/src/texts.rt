@@ -5,7 +5,7 @@ ghost use Rattle.st_ast.specs.Tree as tree;
 ghost use Rattle.st_ast.specs.Spelled.{is_spelled};
 ghost use Rattle.st_ast.specs.View.{view};
 ghost use Rattle.st_read.specs.Cursor.{tokens_in};
-ghost use Rattle.st_read.specs.Derives.{Derives};
+ghost use Rattle.st_ast.specs.ReadsAs.{Derives};
 ghost use Rattle.st_read.specs.PartsOf.{view_parts};
 ghost use Rattle.st_read.specs.Reading as reading;
 ghost use Rattle.st_read.specs.Refusals.{RefusalDue};

@@ -112,38 +112,12 @@ pub fn is_wordy(byte: u8) -> bool
     begins_word(byte) || is_digit(byte)
 }
 
-/// A byte, a capital letter as its small one.
-fn folded(byte: u8) -> u8
-    ensures { result ≡ names.folded byte }
-{
-    if b'A' <= byte && byte <= b'Z' {
-        byte + 32
-    } else {
-        byte
-    }
-}
-
 /// Whether two words are the same, ignoring the case of letters.
+#[tactic(auto, using(crate::proofs::WordLaws::same_where_folded))]
 fn same_name(one: &[u8], other: &[u8]) -> bool
     ensures { result ≡ names.same_name one.now other.now }
 {
-    let mut left = one;
-    let mut right = other;
-    loop {
-        match left {
-            [] => return right.is_empty(),
-            [a, more @ ..] => match right {
-                [] => return false,
-                [b, others @ ..] => {
-                    if folded(*a) != folded(*b) {
-                        return false;
-                    }
-                    left = more;
-                    right = others;
-                }
-            },
-        }
-    }
+    one.eq_ignore_ascii_case(other)
 }
 
 /// Whether no two underscores adjoin, and the last byte is none.

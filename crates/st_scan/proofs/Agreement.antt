@@ -11,8 +11,8 @@ use Rattle.st_ast.specs.declared.tree.StVar.{StVar}
 use Rattle.st_ast.specs.Tree.{Expr, Exprs, Factors, Terms, truth, number, named, paren, negation, complement, product, sum, order, equal, all_of, odd_of, any_of, absolute, least, greatest, selection, no_exprs, exprs, no_factors, factors, no_terms, terms, Stm, Stms, Branches, Other, assign, choice, loop, no_stms, stms, no_branches, branches, no_other, other}
 use Rattle.st_ast.specs.Values.{Fault, Memory, of_bool, is_true, checked, with_value, both, holds, added, are_equal, multiplied, differ, value_of, product_on, sum_on, joined}
 use Rattle.st_ast.specs.Exec.{Outcome, Ended, Faulted, OutOfTurns, Act, and_then, take_turn, repeated, exec, exec_one, exec_other, exec_choice}
-use Rattle.st_ast.specs.Interface.{numbers_of}
-use Rattle.st_ast.specs.Scan.{is_input, turns_of_scan, scan_of}
+use Rattle.st_ast.specs.Interface.{numbers_of, is_input}
+use Rattle.st_ast.specs.Scan.{turns_of_scan, scan_of}
 use Rattle.st_ast.specs.View.{view_stmts, view}
 use Rattle.st_ast.specs.declared.tree.Program.{Program}
 use Rattle.st_scan.specs.Placing.{of_order, of_equality, placed, placed_exprs, placed_factors, placed_terms, placed_stm, placed_stms, placed_branches, placed_other}

@@ -3,9 +3,9 @@ use Rattle.std.proofs.Common.{◌≡◌, ℕ, zero, suc, ◌+◌, ◌<◌, ◌�
 use Rattle.std.specs.Prelude.{slice_set, if◌then◌else◌}
 use Rattle.std.proofs.lemmas.List.{drop_all}
 use Rattle.std.proofs.Math.Seq.{set-append_seam}
-use Rattle.st_ast.specs.Interface.{numbers_of}
+use Rattle.st_ast.specs.Interface.{numbers_of, is_input}
 use Rattle.st_ast.specs.declared.tree.StVar.{StVar}
-use Rattle.st_ast.specs.Scan.{is_input, store_row}
+use Rattle.st_ast.specs.Scan.{store_row}
 use Rattle.st_scan.specs.Stored.{stored}
 
 drop-one : {A : Type 0} (xs : List A) (i : ℕ) (d : A) → i < length xs → drop i xs ≡ get_or xs i d ∷ drop (i + 1) xs

@@ -1,6 +1,6 @@
 use Rattle.std.proofs.Common.{◌≡◌, ℕ, Some, sym, ap, ◌∙◌}
 use Rattle.st_ast.specs.Tree.{Program}
-use Rattle.st_read.specs.Derives.{Derives}
+use Rattle.st_ast.specs.ReadsAs.{Derives}
 use Rattle.cif_replay.specs.Told.{variable_of_check}
 use Rattle.cif_replay.specs.Replaying.{name_at}
 use Rattle.cif_replay.proofs.ReplayLemmas.{on_ok, named_in}

@@ -1,7 +1,12 @@
-use Rattle.std.proofs.Common.{◌∙◌, length, false, true, ap, get_or, None, codes, arith}
+use Rattle.std.proofs.Common.{◌∙◌, length, false, true, ap, get_or, None, codes, refl, arith}
 use Rattle.plc_rows.proofs.Checking.{no_front, told_alike, told_other}
 use Rattle.plc_rows.proofs.Finding.{not_declared, otherwise_spelled, column_found, number_fits, as_many_columns}
 use Rattle.plc_rows.proofs.header.column_of.Goals as goal
+
+pub returns-then-eq : goal.returns-then-eq
+returns-then-eq c =
+    let is = told_alike c.eq.result c.args.name.now c.as_slice.result.now (codes "scan") true c.eq.ensures c.as_slice.ensures c.if-eq.true in
+    rw is refl
 
 pub returns-in_default : goal.returns-in_default
 returns-in_default c =

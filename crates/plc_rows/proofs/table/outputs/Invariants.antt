@@ -1,5 +1,5 @@
 use Rattle.std.proofs.Common.{◌≡◌, ◌++◌, map, drop}
-use Rattle.plc_rows.specs.Table.{outputs_of}
+use Rattle.st_ast.specs.Interface.{outputs_of}
 use Rattle.plc_rows.proofs.table.outputs.Given as goal
 
 abbrev pub invariant-loop-var : goal.invariant-loop-var

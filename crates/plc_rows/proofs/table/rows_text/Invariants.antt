@@ -1,5 +1,6 @@
 use Rattle.std.proofs.Common.{◌≡◌, ◌++◌, ◌+◌, drop}
-use Rattle.plc_rows.specs.Table.{outputs_of, output_table, lines_text}
+use Rattle.plc_rows.specs.Table.{output_table, lines_text}
+use Rattle.st_ast.specs.Interface.{outputs_of}
 use Rattle.plc_rows.specs.Told.{cells_of}
 use Rattle.plc_rows.proofs.table.rows_text.Given as goal
 

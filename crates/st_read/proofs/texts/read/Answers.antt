@@ -3,7 +3,7 @@ use Rattle.std.specs.Prelude.{IfOk, IfErr}
 use Rattle.st_ast.specs.Tree.{Program}
 use Rattle.st_ast.specs.View.{view}
 use Rattle.st_read.specs.Cursor.{tokens_in}
-use Rattle.st_read.specs.Derives.{Derives}
+use Rattle.st_ast.specs.ReadsAs.{Derives}
 use Rattle.st_read.specs.PartsOf.{view_parts}
 use Rattle.st_read.specs.Refusals.{RefusalDue}
 use Rattle.st_read.proofs.Spellings.{derived_is_spelled}

@@ -9,4 +9,4 @@ returns c =
     let view : map (λ k. k.items) c.self.inside.keys.keys ≡ c.args.self.now = c.self.view_is in
     c.get_index_of.ensures.index ∙ found_is (λ k. k.items) c.as_slice.result.now c.self.inside.keys.keys
     ∙ ap (λ (names : List (List ℕ)). found_at names c.as_slice.result.now) view
-    ∙ ap (λ (x : List ℕ). found_at c.args.self.now x) (c.as_slice.ensures.value ∙ c.in_ok-key.ensures)
+    ∙ ap (λ (x : List ℕ). found_at c.args.self.now x) (c.as_slice.ensures ∙ c.in_ok-key.ensures)

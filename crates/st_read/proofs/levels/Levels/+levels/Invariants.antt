@@ -7,13 +7,16 @@ use Rattle.st_read.specs.Reading.{codes_of, operators, other_at, others_at, leve
 use Rattle.st_read.proofs.levels.Levels.+levels.Given as goal
 
 abbrev pub decreases-other : goal.decreases-other
-decreases-other g l = 3 * l.level + 1
+decreases-other g l = 4 * l.level + 1
 
 abbrev pub decreases-others : goal.decreases-others
-decreases-others g l = 3 * l.level + 2
+decreases-others g l = 4 * l.level + 2
+
+abbrev pub decreases-after : goal.decreases-after
+decreases-after g l = 4 * l.level + 3
 
 abbrev pub decreases-at : goal.decreases-at
-decreases-at g l = 3 * l.levels
+decreases-at g l = 4 * l.levels
 
 abbrev pub invariant-others-loop-turn : goal.invariant-others-loop-turn
 invariant-others-loop-turn g l = others_at l.fn.level (level_at l.fn.level (unary_at l.self.fuel)) l.fn.tokens
