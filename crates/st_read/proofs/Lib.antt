@@ -7,7 +7,7 @@ pub mod Others
 pub mod Fronts
 pub mod FoundLaws
 pub mod LexSteps
-pub mod Cursors
+pub mod Marked
 pub mod Programs
 pub mod RefusalLaws
 pub mod Numbers

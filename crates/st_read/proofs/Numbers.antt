@@ -30,40 +30,54 @@ small_enough digits n i e none l =
     let test : nat_le (number_of digits) greatest ≡ true = grind (arith, nat_tests) in
     rw test (ap (λ (m : ℕ). Some m) is)
 
--- ---- no word and no sign is a literal
+-- ---- no word and no sign is a literal, and no sign is a name
 
-abbrev none_literal : List (Text × TokenKind) → Bool
-none_literal [] = true
-none_literal (p ∷ ps) = not (code p.1 == code kinds.Literal) && none_literal ps
+abbrev none_of : TokenKind → List (Text × TokenKind) → Bool
+none_of kind [] = true
+none_of kind (p ∷ ps) = not (code p.1 == code kind) && none_of kind ps
 
-no_literal : (kind : TokenKind) → not (code kind == code kinds.Literal) ≡ true → kind ≡ kinds.Literal → ⊥
-no_literal kind e is = let f : not (code kinds.Literal == code kinds.Literal) ≡ true = ap (λ (k : TokenKind). not (code k == code kinds.Literal)) (sym is) ∙ e in absurd cc
+-- a kind that has not its own number is none
+abbrev HasItself : TokenKind → Type 0
+HasItself kind = not (code kind == code kind) ≡ true → ⊥
 
-table_apart : (ps : List (Text × TokenKind)) (w : Text) (other : TokenKind) → none_literal ps ≡ true → (other ≡ kinds.Literal → ⊥) → in_table ps w other ≡ kinds.Literal → ⊥
+apart : (kind other : TokenKind) → HasItself kind → not (code other == code kind) ≡ true → other ≡ kind → ⊥
+apart kind other itself e is = itself (ap (λ (k : TokenKind). not (code k == code kind)) (sym is) ∙ e)
+
+literal_itself : HasItself kinds.Literal
+literal_itself e = absurd cc
+
+name_itself : HasItself kinds.Name
+name_itself e = absurd cc
+
+table_apart : (ps : List (Text × TokenKind)) (w : Text) (other : TokenKind) → none_of kinds.Literal ps ≡ true → (other ≡ kinds.Literal → ⊥) → in_table ps w other ≡ kinds.Literal → ⊥
 table_apart [] w other e n is = n is
-table_apart (p ∷ ps) w other e n is = go (same_name p.0 w) (table_apart ps w other (and_right (not (code p.1 == code kinds.Literal)) (none_literal ps) e) n) is
+table_apart (p ∷ ps) w other e n is = go (same_name p.0 w) (table_apart ps w other (and_right (not (code p.1 == code kinds.Literal)) (none_of kinds.Literal ps) e) n) is
   where
     go : (x : Bool) → (in_table ps w other ≡ kinds.Literal → ⊥) → (if x then p.1 else in_table ps w other) ≡ kinds.Literal → ⊥
-    go true ih g = no_literal p.1 (and_left (not (code p.1 == code kinds.Literal)) (none_literal ps) e) g
+    go true ih g = apart kinds.Literal p.1 literal_itself (and_left (not (code p.1 == code kinds.Literal)) (none_of kinds.Literal ps) e) g
     go false ih g = ih g
 
 other_apart : (x y : Bool) → (if x then kinds.Outside else (if y then kinds.Name else kinds.Outside)) ≡ kinds.Literal → ⊥
-other_apart true y e = no_literal kinds.Outside refl e
-other_apart false true e = no_literal kinds.Name refl e
-other_apart false false e = no_literal kinds.Outside refl e
+other_apart true y e = apart kinds.Literal kinds.Outside literal_itself refl e
+other_apart false true e = apart kinds.Literal kinds.Name literal_itself refl e
+other_apart false false e = apart kinds.Literal kinds.Outside literal_itself refl e
 
 pub word_apart : (w : Text) → word_kind w ≡ kinds.Literal → ⊥
 unfolding word_kind other_kind
 word_apart w e = table_apart keywords w (other_kind w) refl (other_apart (is_reserved w) (is_identifier w)) e
 
-signs_apart : (ps : List (Text × TokenKind)) (s : Text) → none_literal ps ≡ true → kind_of_sign_in ps s ≡ kinds.Literal → ⊥
-signs_apart [] s e is = no_literal kinds.Outside refl is
-signs_apart (p ∷ ps) s e is = go (same p.0 s) (signs_apart ps s (and_right (not (code p.1 == code kinds.Literal)) (none_literal ps) e)) is
+signs_apart : (kind : TokenKind) (ps : List (Text × TokenKind)) (s : Text) → HasItself kind → not (code kinds.Outside == code kind) ≡ true → none_of kind ps ≡ true → kind_of_sign_in ps s ≡ kind → ⊥
+signs_apart kind [] s itself out e is = apart kind kinds.Outside itself out is
+signs_apart kind (p ∷ ps) s itself out e is = go (same p.0 s) (signs_apart kind ps s itself out (and_right (not (code p.1 == code kind)) (none_of kind ps) e)) is
   where
-    go : (x : Bool) → (kind_of_sign_in ps s ≡ kinds.Literal → ⊥) → (if x then p.1 else kind_of_sign_in ps s) ≡ kinds.Literal → ⊥
-    go true ih g = no_literal p.1 (and_left (not (code p.1 == code kinds.Literal)) (none_literal ps) e) g
+    go : (x : Bool) → (kind_of_sign_in ps s ≡ kind → ⊥) → (if x then p.1 else kind_of_sign_in ps s) ≡ kind → ⊥
+    go true ih g = apart kind p.1 itself (and_left (not (code p.1 == code kind)) (none_of kind ps) e) g
     go false ih g = ih g
 
-pub sign_apart : (s : Text) → sign_kind s ≡ kinds.Literal → ⊥
+pub sign_no_literal : (s : Text) → sign_kind s ≡ kinds.Literal → ⊥
 unfolding sign_kind
-sign_apart s e = signs_apart sign_kinds s refl e
+sign_no_literal s e = signs_apart kinds.Literal sign_kinds s literal_itself refl refl e
+
+pub sign_no_name : (s : Text) → sign_kind s ≡ kinds.Name → ⊥
+unfolding sign_kind
+sign_no_name s e = signs_apart kinds.Name sign_kinds s name_itself refl refl e

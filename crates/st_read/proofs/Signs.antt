@@ -4,10 +4,8 @@ use Rattle.std.specs.Prelude.{option_map}
 use Rattle.grammar.specs.Pieces.{Text, strip}
 use Rattle.st_ast.specs.Tokens.{sign_kinds, kind_of_sign}
 use Rattle.st_ast.specs.declared.kinds.TokenKind.{TokenKind}
-use Rattle.st_ast.specs.declared.kinds.TokenKind.TheVariants as kinds
 use Rattle.st_read.specs.Lexing.{sign_in, sign_of, sign_kind, with_sign, with_entry, entry_in, signed}
 use Rattle.st_read.specs.declared.found.Fault.TheVariants as f
-use Rattle.st_read.proofs.Numbers.{sign_apart}
 
 abbrev Entry : Type 0
 Entry = Text × TokenKind
@@ -52,11 +50,6 @@ sign_found table text s kind rest all is =
     let e : entry_in sign_kinds text ≡ Some ((s, kind), rest) = sym (is ∙ all) in
     ap signed (sign_is sign_kinds text ∙ ap (option_map (λ (w : Entry × Text). (w.0.0, w.1))) e)
     ∙ ap (λ (t : TokenKind). Ok (Some (record { kind = t; text = s }), rest)) (kind_is sign_kinds text all_kinded (s, kind) rest e)
-
-pub entry_apart : (table : List Entry) (text s : Text) (kind : TokenKind) (rest : Text) → entry_in table text ≡ entry_in sign_kinds text
-    → Some ((s, kind), rest) ≡ entry_in table text → kind ≡ kinds.Literal → ⊥
-unfolding sign_kind
-entry_apart table text s kind rest all is same = sign_apart s (kind_is sign_kinds text all_kinded (s, kind) rest (sym (is ∙ all)) ∙ same)
 
 pub no_sign : (table : List Entry) (text : Text) → entry_in table text ≡ entry_in sign_kinds text → None ≡ entry_in table text → signed (sign_of text) ≡ Err f.BadByte
 unfolding sign_of

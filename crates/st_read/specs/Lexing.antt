@@ -1,5 +1,5 @@
 -- Helper of the code: what stands at the front of a text, found by its first bytes.
-use Rattle.std.specs.Prelude.{◌≡◌, ℕ, ◌≤◌, ◌==◌, ◌&&◌, Bool, false, List, [], ◌∷◌, All, Option, Some, None, Result, Ok, Err, nat_le, if◌then◌else◌}
+use Rattle.std.specs.Prelude.{◌≡◌, ℕ, ◌≤◌, ◌==◌, ◌&&◌, Bool, false, List, [], ◌∷◌, All, Option, Some, None, Result, Ok, Err, option_map, nat_le, if◌then◌else◌}
 use Rattle.std.specs.List.{list_any}
 use Rattle.grammar.specs.Pieces.{Text, run_of, strip, rest_after}
 use Rattle.st_ast.specs.Names.{same_name}
@@ -22,9 +22,14 @@ Halts f.BadByte found = found ≡ Err f.BadByte
 Halts f.NumberTooBig found = found ≡ Err f.NumberTooBig
 Halts f.OpenComment found = found ≡ Err f.OpenComment
 
--- what the code returned, and what is found
-abbrev pub Finds : {X : Type 0} → (X → Option Token × Text) → Result X Fault → Found → Type 0
-Finds view (Ok x) found = found ≡ Ok (view x)
+-- the kind of a token in its place
+abbrev pub kind_found : Found → Result (Option TokenKind × Text) Fault
+kind_found (Err fault) = Err fault
+kind_found (Ok w) = Ok (option_map (λ (t : Token). t.kind) w.0, w.1)
+
+-- what the code returned, and what is found, of which it tells the kind
+abbrev pub Finds : {X : Type 0} → (X → Option TokenKind × Text) → Result X Fault → Found → Type 0
+Finds view (Ok x) found = kind_found found ≡ Ok (view x)
 Finds view (Err e) found = Halts e found
 
 -- the error for a fault at a place

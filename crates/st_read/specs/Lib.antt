@@ -5,6 +5,6 @@ pub mod ReadsUnary
 pub mod ReadsStatement
 pub mod Lexing
 pub mod Told
-pub mod Cursor
+pub mod Marks
 pub mod Refusals
 pub mod PartsOf

@@ -121,9 +121,13 @@ operators (suc (suc (suc (suc zero)))) = kinds.And ∷ []
 operators (suc (suc (suc (suc (suc zero))))) = kinds.Xor ∷ []
 operators (suc (suc (suc (suc (suc (suc n)))))) = kinds.Or ∷ []
 
+-- whether a level has one operand after the first at the most: orders and equalities have
+abbrev pub has_pairs : ℕ → Bool
+has_pairs l = nat_eq l 2 || nat_eq l 3
+
 -- the most operands after the first, of so many tokens
 abbrev pub most_others : ℕ → ℕ → ℕ
-most_others l n = if nat_eq l 2 || nat_eq l 3 then 1 else n
+most_others l n = if has_pairs l then 1 else n
 
 abbrev pub made_at : ℕ → Expr → Others → Expr
 made_at zero = product_of

@@ -1,9 +1,10 @@
 //! Expressions, level by level of operators. The reader of operands is a parameter, so that the levels are proved by
 //! themselves.
 
-ghost use Rattle.std.specs.Prelude.{◌≡◌, [], ◌∷◌, map};
+ghost use Rattle.std.specs.Prelude.{◌≡◌, true, false, map};
 ghost use Rattle.grammar.specs.Reader as reader;
 ghost use Rattle.st_ast.specs.Grammar.{max_depth};
+ghost use Rattle.st_ast.specs.Grammar as grammar;
 ghost use Rattle.st_ast.specs.View.{view_expr};
 ghost use Rattle.st_read.specs.Gives.{Gives};
 ghost use Rattle.st_read.specs.Operands.{operand_view};
@@ -11,7 +12,7 @@ ghost use Rattle.st_read.specs.Reading as reading;
 ghost use Rattle.st_read.specs.ReadsUnary.{ReadsUnary};
 
 use crate::error::Stop;
-use crate::making::{Operand, made};
+use crate::making::{Operand, made, pair};
 use crate::tokens::{Read, Tokens, one_of, starts};
 use cif_base::{Boxed, Items};
 use st_ast::{StExpr, TokenKind};
@@ -58,11 +59,11 @@ fn operators(level: u8) -> &'static [TokenKind]
     }
 }
 
-/// The most operands after the first: one for an order and an equality.
-fn most_others(level: u8, tokens: usize) -> usize
-    ensures { result ≡ reading.most_others level tokens }
+/// Whether a level has one operand after the first at the most.
+fn has_pairs(level: u8) -> bool
+    ensures { result ≡ reading.has_pairs level }
 {
-    if level == 2 || level == 3 { 1 } else { tokens }
+    level == 2 || level == 3
 }
 
 /// One more level of depth.
@@ -116,11 +117,12 @@ impl<F: Fn(Global, Tokens<'_>, u16) -> Result<(Deep, Tokens<'_>), Stop>> Levels<
     #[cycle(levels)]
     #[tactic(auto, using(crate::proofs::SeenLoops::seen_deep_step, grammar::proofs::Loops::deep_stop, grammar::proofs::Loops::deep_fail, grammar::proofs::Loops::deep_end, grammar::proofs::Loops::deep_after_none), unfolding(crate::specs::Reading::others_at))]
     fn others<'a>(&self, level: u8, tokens: Tokens<'a>) -> Read<'a, (Items<Operand>, u16)>
-        requires { ReadsUnary self.now.fuel (F.pre self.now.unary) (F.post self.now.unary) }
+        requires reads { ReadsUnary self.now.fuel (F.pre self.now.unary) (F.post self.now.unary) }
+        requires many { reading.has_pairs level ≡ false }
         ensures { Gives (λ x. ((map operand_view x.0.0, x.0.1), x.1)) result (reading.others_at level (reading.level_at level (reading.unary_at self.now.fuel)) tokens.entry) }
     {
         let signs = operators(level);
-        let most = most_others(level, tokens.len());
+        let most = tokens.len();
         let mut found = Items::new(self.alloc);
         let mut deep = 0;
         let mut rest = tokens;
@@ -140,8 +142,9 @@ impl<F: Fn(Global, Tokens<'_>, u16) -> Result<(Deep, Tokens<'_>), Stop>> Levels<
     /// A first operand of a level as one form with those after it.
     #[cycle(levels)]
     #[tactic(auto, using(crate::proofs::SeenLoops::seen_chained))]
-    fn after<'a>(&self, level: u8, operand: Deep, tokens: Tokens<'a>) -> Read<'a, Deep>
-        requires { ReadsUnary self.now.fuel (F.pre self.now.unary) (F.post self.now.unary) }
+    fn chained<'a>(&self, level: u8, operand: Deep, tokens: Tokens<'a>) -> Read<'a, Deep>
+        requires reads { ReadsUnary self.now.fuel (F.pre self.now.unary) (F.post self.now.unary) }
+        requires many { reading.has_pairs level ≡ false }
         ensures { Gives (λ x. ((view_expr x.0.0, x.0.1), x.1)) result (reading.form_at level (reading.level_at level (reading.unary_at self.now.fuel)) (view_expr operand.0, operand.1) tokens.entry) }
     {
         let (first, depth) = operand;
@@ -154,22 +157,53 @@ impl<F: Fn(Global, Tokens<'_>, u16) -> Result<(Deep, Tokens<'_>), Stop>> Levels<
         Ok(((e, depth.max(deep)), rest))
     }
 
-    /// An expression of so many levels of operators. Most operands of a level stand alone, and are given on as they are.
+    /// A first operand of an order or an equality as one form with that after it.
     #[cycle(levels)]
-    #[tactic(auto, unfolding(crate::specs::Reading::level_at, crate::specs::Reading::joined_at))]
+    #[tactic(auto, using(crate::proofs::Others::pair_at))]
+    fn paired<'a>(&self, level: u8, operand: Deep, tokens: Tokens<'a>) -> Read<'a, Deep>
+        requires reads { ReadsUnary self.now.fuel (F.pre self.now.unary) (F.post self.now.unary) }
+        requires one { reading.has_pairs level ≡ true }
+        requires starts { reader.starts grammar.sort (reading.codes_of (reading.operators level)) tokens ≡ true }
+        ensures { Gives (λ x. ((view_expr x.0.0, x.0.1), x.1)) result (reading.form_at level (reading.level_at level (reading.unary_at self.now.fuel)) (view_expr operand.0, operand.1) tokens.entry) }
+    {
+        let (first, depth) = operand;
+        let (((kind, other), deep), rest) = self.other(level, tokens)?;
+        let ((first, depth), rest) = deeper(first, depth, rest)?;
+        let e = pair(self.alloc, level, first, kind, other)?;
+        Ok(((e, depth.max(deep)), rest))
+    }
+
+    /// A first operand of a level as one form with those after it, where an operator of the level comes next.
+    #[cycle(levels)]
+    fn after<'a>(&self, level: u8, operand: Deep, tokens: Tokens<'a>) -> Read<'a, Deep>
+        requires reads { ReadsUnary self.now.fuel (F.pre self.now.unary) (F.post self.now.unary) }
+        requires starts { reader.starts grammar.sort (reading.codes_of (reading.operators level)) tokens ≡ true }
+        ensures { Gives (λ x. ((view_expr x.0.0, x.0.1), x.1)) result (reading.form_at level (reading.level_at level (reading.unary_at self.now.fuel)) (view_expr operand.0, operand.1) tokens.entry) }
+    {
+        if has_pairs(level) {
+            self.paired(level, operand, tokens)
+        } else {
+            self.chained(level, operand, tokens)
+        }
+    }
+
+    /// An expression of so many levels of operators: an operand goes up the levels, and takes those after it where an operator of the
+    /// level comes next.
+    #[cycle(levels)]
+    #[tactic(auto, using(crate::proofs::Others::risen))]
     pub fn at<'a>(&self, levels: u8, tokens: Tokens<'a>) -> Read<'a, Deep>
         requires { ReadsUnary self.now.fuel (F.pre self.now.unary) (F.post self.now.unary) }
         ensures { Gives (λ x. ((view_expr x.0.0, x.0.1), x.1)) result (reading.level_at levels (reading.unary_at self.now.fuel) tokens.entry) }
     {
-        if levels == 0 {
-            return self.operand(tokens);
+        let (mut operand, mut rest) = self.operand(tokens)?;
+        for level in 0..levels {
+            if starts(&rest, operators(level)) {
+                let (joined, left) = self.after(level, operand, rest)?;
+                operand = joined;
+                rest = left;
+            }
         }
-        let level = levels - 1;
-        let (operand, rest) = self.at(level, tokens)?;
-        if !starts(&rest, operators(level)) {
-            return Ok((operand, rest));
-        }
-        self.after(level, operand, rest)
+        Ok((operand, rest))
     }
 
     /// A whole expression inside a form.

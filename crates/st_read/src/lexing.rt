@@ -1,18 +1,22 @@
 //! A text as its tokens.
 
-ghost use Rattle.std.specs.Prelude.{◌≡◌, ◌≤◌, not, map, position, unwrap_or, length, option_map, All, IfOk, IfErr};
+ghost use Rattle.std.specs.Prelude.{◌≡◌, ◌≤◌, map, length, option_map, All, IfOk, IfErr};
 ghost use Rattle.std.specs.Option.{option_copied};
 ghost use Rattle.grammar.specs.Pieces.{run_of, strip};
 ghost use Rattle.st_ast.specs.Tokens as k;
-ghost use Rattle.st_read.specs.Cursor.{first_in, token_at, tokens_in};
 ghost use Rattle.st_read.specs.Lexing as lexing;
 ghost use Rattle.st_read.specs.Lexing.{Finds, Lexes, refusal_of};
+ghost use Rattle.st_read.specs.Marks.{IsMark, after_blanks, tokens_of};
 ghost use Rattle.st_read.specs.Refusals.{RefusalDue};
 
 use crate::error::StErr;
-use crate::found::{Fault, Found, Token};
-use crate::words::{begins_word, is_blank, is_digit, is_wordy, kind_of_word, value_of};
+use crate::found::{Fault, Found};
+use crate::marks::Mark;
+use crate::runs::{split_number, split_word};
+use crate::words::{begins_word, is_blank, is_digit, kind_of_word, value_of};
+use cif_base::Items;
 use st_ast::TokenKind;
+use std::alloc::Global;
 
 /// A sign and its kind.
 type Sign = (&'static [u8], TokenKind);
@@ -71,59 +75,12 @@ static SIGNS: [Sign; 18] = [
     (b"&", TokenKind::And),
 ];
 
-/// The place of the first byte that no word has.
-fn first_unwordy(text: &[u8]) -> Option<usize>
-    ensures { result ≡ position (λ b. not (lexing.wordy b)) text.now }
-{
-    text.iter().position(|byte| !is_wordy(*byte))
-}
-
-/// The place of the first byte that is no digit.
-fn first_undigit(text: &[u8]) -> Option<usize>
-    ensures { result ≡ position (λ b. not (lexing.digit b)) text.now }
-{
-    text.iter().position(|byte| !is_digit(*byte))
-}
-
-#[tactic(auto, using(grammar::proofs::Runs::first_within))]
-fn wordy_len(text: &[u8]) -> usize
-    ensures count { result ≡ unwrap_or (position (λ b. not (lexing.wordy b)) text.now) (length text.now) }
-    ensures within { result ≤ length text.now }
-{
-    first_unwordy(text).unwrap_or(text.len())
-}
-
-#[tactic(auto, using(grammar::proofs::Runs::first_within))]
-fn digits_len(text: &[u8]) -> usize
-    ensures count { result ≡ unwrap_or (position (λ b. not (lexing.digit b)) text.now) (length text.now) }
-    ensures within { result ≤ length text.now }
-{
-    first_undigit(text).unwrap_or(text.len())
-}
-
-/// The letters and digits at the front, and the bytes after them.
-#[tactic(auto, using(grammar::proofs::Runs::run_is))]
-fn split_word(text: &[u8]) -> (&[u8], &[u8])
-    ensures { run_of lexing.wordy text.now ≡ (result.0.now, result.1.now) }
-{
-    text.split_at(wordy_len(text))
-}
-
-/// The digits at the front, and the bytes after them.
-#[tactic(auto, using(grammar::proofs::Runs::run_is))]
-fn split_number(text: &[u8]) -> (&[u8], &[u8])
-    ensures { run_of lexing.digit text.now ≡ (result.0.now, result.1.now) }
-{
-    text.split_at(digits_len(text))
-}
-
 /// The word at the front.
-#[tactic(auto, using(crate::proofs::Numbers::word_apart))]
 fn word(text: &[u8]) -> Found<'_>
     ensures { Finds (λ x. (x.0, x.1.now)) result (lexing.worded (run_of lexing.wordy text.now)) }
 {
     let (word, rest) = split_word(text);
-    Ok((Some(Token::plain(kind_of_word(word), word)), rest))
+    Ok((Some(kind_of_word(word)), rest))
 }
 
 /// The digits at the front.
@@ -132,10 +89,10 @@ fn number(text: &[u8]) -> Found<'_>
     ensures { Finds (λ x. (x.0, x.1.now)) result (lexing.numbered (run_of lexing.digit text.now)) }
 {
     let (digits, rest) = split_number(text);
-    let Some(value) = value_of(digits) else {
-        return Err(Fault::NumberTooBig);
-    };
-    Ok((Some(Token::literal(digits, value)), rest))
+    match value_of(digits) {
+        Some(_value) => Ok((Some(TokenKind::Literal), rest)),
+        None => Err(Fault::NumberTooBig),
+    }
 }
 
 /// What follows the first `*)`.
@@ -221,14 +178,14 @@ fn first_sign<'a>(text: &'a [u8], signs: &[Sign]) -> Option<(Sign, &'a [u8])>
 }
 
 /// The sign at the front.
-#[tactic(auto, using(crate::proofs::Signs::sign_found, crate::proofs::Signs::no_sign, crate::proofs::Signs::entry_apart))]
+#[tactic(auto, using(crate::proofs::Signs::sign_found, crate::proofs::Signs::no_sign))]
 fn sign(text: &[u8]) -> Found<'_>
     ensures { Finds (λ x. (x.0, x.1.now)) result (lexing.signed (lexing.sign_of text.now)) }
 {
-    let Some(((sign, kind), rest)) = first_sign(text, signs_for(text)) else {
+    let Some(((_sign, kind), rest)) = first_sign(text, signs_for(text)) else {
         return Err(Fault::BadByte);
     };
-    Ok((Some(Token::plain(kind, sign)), rest))
+    Ok((Some(kind), rest))
 }
 
 /// A comment, of which the first two bytes are read.
@@ -267,55 +224,40 @@ fn refusal(fault: Fault, at: u32) -> StErr
     }
 }
 
-/// The first token of a text, and the text after it.
-#[tactic(auto, using(crate::proofs::Cursors::found_first, crate::proofs::Cursors::found_later, crate::proofs::Cursors::found_none, crate::proofs::Cursors::found_end))]
-fn first(text: &[u8]) -> Option<(Token<'_>, &[u8])>
-    ensures { option_map (λ w. (w.0, w.1.now)) result ≡ first_in (length text.now) text.now }
+/// What follows the blanks at the front of a text.
+#[tactic(auto, unfolding(crate::specs::Marks::after_blanks))]
+fn without_blanks(text: &[u8]) -> &[u8]
+    ensures { result.now ≡ after_blanks text.now }
 {
     let mut rest = text;
-    for _turn in 0..text.len() {
-        let (token, left) = match front(rest) {
-            Ok(found) => found,
-            Err(_fault) => return None,
-        };
-        if let Some(token) = token {
-            return Some((token, left));
+    loop {
+        match rest {
+            [byte, left @ ..] if is_blank(*byte) => rest = left,
+            _ => return rest,
         }
-        rest = left;
-    }
-    None
-}
-
-/// The first token of a text, and the text after it. A token of no production stands for none.
-#[tactic(auto, unfolding(crate::specs::Cursor::token_at))]
-pub fn next(text: &[u8]) -> (Token<'_>, &[u8])
-    ensures { (result.0, result.1.now) ≡ token_at text.now }
-{
-    match first(text) {
-        Some((token, rest)) => (token, rest),
-        None => (Token::plain(TokenKind::Outside, b""), b""),
     }
 }
 
-/// How many tokens a text has, in which no number is too big.
-#[tactic(auto, using(crate::proofs::Cursors::counted_token, crate::proofs::Cursors::counted_skip, crate::proofs::Cursors::counted_none, crate::proofs::LexSteps::left_shorter))]
-pub fn token_count(text: &[u8]) -> Result<u32, StErr>
+/// The places of the tokens of a text in which no number is too big, with their kinds.
+#[tactic(auto, using(crate::proofs::Marked::marked_none, crate::proofs::Marked::marked_token, crate::proofs::Marked::marked_skip, crate::proofs::Marked::blanks_shorter, crate::proofs::Marked::later_shorter))]
+pub fn token_marks(alloc: Global, text: &[u8]) -> Result<Items<Mark>, StErr>
     requires { length text.now ≤ 16777216 }
-    ensures tokens { IfOk result (λ n. Lexes text.now (tokens_in n text.now)) }
+    ensures tokens { IfOk result (λ found. Lexes text.now (tokens_of text.now found)) }
+    ensures marks { IfOk result (λ found. All (IsMark text.now) found) }
     ensures refused { IfErr result (RefusalDue text.now) }
 {
-    let mut count = 0;
-    let mut rest = text;
+    let mut marks = Items::new(alloc);
+    let mut rest = without_blanks(text);
     while !rest.is_empty() {
         let at = (text.len() - rest.len()) as u32;
         let (token, left) = match front(rest) {
             Ok(found) => found,
             Err(fault) => return Err(refusal(fault, at)),
         };
-        if token.is_some() {
-            count += 1;
+        if let Some(kind) = token {
+            marks.push(Mark { at, kind })?;
         }
-        rest = left;
+        rest = without_blanks(left);
     }
-    Ok(count)
+    Ok(marks)
 }

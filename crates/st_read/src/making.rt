@@ -1,6 +1,6 @@
 //! The form that operands of one level make, with the operators between them.
 
-ghost use Rattle.std.specs.Prelude.{◌≡◌, ◌∷◌, map, IfOk};
+ghost use Rattle.std.specs.Prelude.{◌≡◌, [], ◌∷◌, true, false, map, IfOk};
 ghost use Rattle.st_ast.specs.Grammar as grammar;
 ghost use Rattle.st_ast.specs.Tree as tree;
 ghost use Rattle.st_ast.specs.View.{view_expr, view_factor, view_term, factors_of, terms_of};
@@ -54,25 +54,25 @@ fn is_equality(kind: TokenKind) -> bool
 fn factors(alloc: Global, others: Items<Operand>) -> Result<Items<StFactor>, Memory>
     ensures { IfOk result (λ all. map view_factor all ≡ map factor_of others) }
 {
-    let mut all = Items::new(alloc);
+    let mut all = Vec::with_capacity(alloc, others.len())?;
     for other in others.into_vec() {
         let op = mul_of(other.kind);
         let value = other.value;
         all.push(StFactor { op, value })?;
     }
-    Ok(all)
+    Ok(Items::from_vec(all))
 }
 
 fn terms(alloc: Global, others: Items<Operand>) -> Result<Items<StTerm>, Memory>
     ensures { IfOk result (λ all. map view_term all ≡ map term_of others) }
 {
-    let mut all = Items::new(alloc);
+    let mut all = Vec::with_capacity(alloc, others.len())?;
     for other in others.into_vec() {
         let minus = is_minus(other.kind);
         let value = other.value;
         all.push(StTerm { minus, value })?;
     }
-    Ok(all)
+    Ok(Items::from_vec(all))
 }
 
 /// All operands, the first among them.
@@ -83,11 +83,12 @@ fn joined(
 ) -> Result<Items<StExpr>, Memory>
     ensures { IfOk result (λ all. map view_expr all ≡ view_expr first ∷ map value_of others) }
 {
-    let mut all = Items::only(alloc, first.into_inner())?;
+    let mut all = Vec::with_capacity(alloc, others.len().saturating_add(1))?;
+    all.push(first.into_inner())?;
     for other in others.into_vec() {
         all.push(other.value)?;
     }
-    Ok(all)
+    Ok(Items::from_vec(all))
 }
 
 fn product(
@@ -128,11 +129,10 @@ fn order(
     alloc: Global,
     left: Boxed<StExpr>,
     op: StOrder,
-    right: StExpr,
+    right: Boxed<StExpr>,
 ) -> Result<Boxed<StExpr>, Memory>
     ensures { IfOk result (λ e. view_expr e ≡ tree.order (view_expr left) op (view_expr right)) }
 {
-    let right = Boxed::new(alloc, right)?;
     Boxed::new(alloc, StExpr::Order { left, op, right })
 }
 
@@ -140,45 +140,33 @@ fn equality(
     alloc: Global,
     left: Boxed<StExpr>,
     equal: bool,
-    right: StExpr,
+    right: Boxed<StExpr>,
 ) -> Result<Boxed<StExpr>, Memory>
     ensures { IfOk result (λ e. view_expr e ≡ tree.equal (view_expr left) equal (view_expr right)) }
 {
-    let right = Boxed::new(alloc, right)?;
     Boxed::new(alloc, StExpr::Equal { left, equal, right })
 }
 
-/// An order, by the last of the further operands.
-#[tactic(auto, using(crate::proofs::Made::operands))]
-fn ordered(
+/// What two operands make with an order or an equality between them.
+#[tactic(auto, using(crate::proofs::Made::pairs))]
+pub fn pair(
     alloc: Global,
+    level: u8,
     left: Boxed<StExpr>,
-    mut others: Items<Operand>,
+    kind: TokenKind,
+    right: Boxed<StExpr>,
 ) -> Result<Boxed<StExpr>, Memory>
-    ensures { IfOk result (λ e. view_expr e ≡ reading.ordered_of (view_expr left) (map operand_view others)) }
+    requires { reading.has_pairs level ≡ true }
+    ensures { IfOk result (λ e. view_expr e ≡ reading.made_at level (view_expr left) ((kind, view_expr right) ∷ [])) }
 {
-    match others.pop() {
-        None => Ok(left),
-        Some(other) => order(alloc, left, order_of(other.kind), other.value),
+    if level == 2 {
+        order(alloc, left, order_of(kind), right)
+    } else {
+        equality(alloc, left, is_equality(kind), right)
     }
 }
 
-/// An equality, by the last of the further operands.
-#[tactic(auto, using(crate::proofs::Made::operands))]
-fn equated(
-    alloc: Global,
-    left: Boxed<StExpr>,
-    mut others: Items<Operand>,
-) -> Result<Boxed<StExpr>, Memory>
-    ensures { IfOk result (λ e. view_expr e ≡ reading.equated_of (view_expr left) (map operand_view others)) }
-{
-    match others.pop() {
-        None => Ok(left),
-        Some(other) => equality(alloc, left, is_equality(other.kind), other.value),
-    }
-}
-
-/// What the operands of a level make, of which there are at least two.
+/// What the operands of a level make, of which there may be more than two.
 #[tactic(auto, using(crate::proofs::Made::operands))]
 pub fn made(
     alloc: Global,
@@ -186,13 +174,12 @@ pub fn made(
     first: Boxed<StExpr>,
     others: Items<Operand>,
 ) -> Result<Boxed<StExpr>, Memory>
+    requires { reading.has_pairs level ≡ false }
     ensures { IfOk result (λ e. view_expr e ≡ reading.made_at level (view_expr first) (map operand_view others)) }
 {
     match level {
         0 => product(alloc, first, factors(alloc, others)?),
         1 => sum(alloc, first, terms(alloc, others)?),
-        2 => ordered(alloc, first, others),
-        3 => equated(alloc, first, others),
         4 => all_of(alloc, joined(alloc, first, others)?),
         5 => odd_of(alloc, joined(alloc, first, others)?),
         _ => any_of(alloc, joined(alloc, first, others)?),

@@ -1,6 +1,6 @@
 //! Names and numbers.
 
-ghost use Rattle.std.specs.Prelude.{◌≡◌, ◌≤◌, pos, IfOk};
+ghost use Rattle.std.specs.Prelude.{◌≤◌, pos, IfOk};
 ghost use Rattle.st_ast.specs.Tokens.{greatest};
 ghost use Rattle.st_read.specs.Gives.{Gives};
 ghost use Rattle.st_read.specs.Reading as reading;
@@ -15,7 +15,7 @@ pub fn identifier(alloc: Global, tokens: Tokens<'_>) -> Read<'_, Text>
     ensures { Gives (λ x. (x.0, x.1)) result (reading.identifier_at tokens.entry) }
 {
     let (token, rest) = word(tokens, TokenKind::Name)?;
-    Ok((Text::from_slice(alloc, token.text())?, rest))
+    Ok((Text::from_slice(alloc, token.name())?, rest))
 }
 
 /// A number without a sign.

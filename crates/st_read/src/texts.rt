@@ -1,11 +1,11 @@
 //! A text as one program.
 
-ghost use Rattle.std.specs.Prelude.{◌≡◌, ◌≤◌, true, length, IfOk, IfErr, MatchResult};
+ghost use Rattle.std.specs.Prelude.{◌≡◌, ◌≤◌, true, length, All, IfOk, IfErr, MatchResult};
 ghost use Rattle.st_ast.specs.Tree as tree;
 ghost use Rattle.st_ast.specs.Spelled.{is_spelled};
 ghost use Rattle.st_ast.specs.View.{view};
-ghost use Rattle.st_read.specs.Cursor.{tokens_in};
 ghost use Rattle.st_ast.specs.ReadsAs.{Derives};
+ghost use Rattle.st_read.specs.Marks.{IsMark, tokens_of};
 ghost use Rattle.st_read.specs.PartsOf.{view_parts};
 ghost use Rattle.st_read.specs.Reading as reading;
 ghost use Rattle.st_read.specs.Refusals.{RefusalDue};
@@ -13,9 +13,11 @@ ghost use Rattle.st_read.specs.Told.{Tells};
 ghost use Rattle.st_read.specs.declared.error.StErr.TheVariants.{Memory as no_memory};
 
 use crate::error::{StErr, Stop};
-use crate::lexing::token_count;
+use crate::lexing::token_marks;
+use crate::marks::Mark;
 use crate::program::{Parts, derived};
 use crate::tokens::Tokens;
+use cif_base::Items;
 use st_ast::Program;
 use std::alloc::Global;
 
@@ -27,12 +29,13 @@ fn place(text: &[u8], left: usize) -> u32
     text.len().saturating_sub(left) as u32
 }
 
-/// The parts of the program that so many tokens of a text derive.
-fn parsed(alloc: Global, text: &[u8], count: u32) -> Result<Parts, StErr>
-    requires { length text.now ≤ 16777216 }
-    ensures { Tells (length text.now) (λ p. view_parts p) result (reading.program_of (tokens_in count text.now)) }
+/// The parts of the program that the tokens at these places of a text derive.
+fn parsed(alloc: Global, text: &[u8], marks: &Items<Mark>) -> Result<Parts, StErr>
+    requires short { length text.now ≤ 16777216 }
+    requires marks { All (IsMark text.now) marks.now }
+    ensures { Tells (length text.now) (λ p. view_parts p) result (reading.program_of (tokens_of text.now marks.now)) }
 {
-    match derived(alloc, Tokens::of(text, count)) {
+    match derived(alloc, Tokens::of(text, marks.as_slice())) {
         Ok(parts) => Ok(parts),
         Err(Stop::NoMemory) => Err(StErr::Memory),
         Err(Stop::NotTaken(left)) => Err(StErr::StNotRead {
@@ -60,7 +63,7 @@ pub fn read(alloc: Global, text: &[u8]) -> Result<Program, StErr>
     ensures complete { (p : tree.Program) → Derives text.now p
         → MatchResult result (λ q. view q ≡ p) (λ e. e ≡ no_memory) }
 {
-    let count = token_count(text)?;
-    let parts = parsed(alloc, text, count)?;
+    let marks = token_marks(alloc, text)?;
+    let parts = parsed(alloc, text, &marks)?;
     Ok(built(parts))
 }

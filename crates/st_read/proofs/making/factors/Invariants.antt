@@ -4,4 +4,4 @@ use Rattle.st_read.specs.Operands.{factor_of}
 use Rattle.st_read.proofs.making.factors.Given as goal
 
 abbrev pub invariant-loop-other : goal.invariant-loop-other
-invariant-loop-other l = map view_factor l.all ≡ map factor_of l.yielded
+invariant-loop-other l = map view_factor l.all.items ≡ map factor_of l.yielded

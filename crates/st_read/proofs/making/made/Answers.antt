@@ -18,4 +18,4 @@ returns-in_ok-joined-in-5 c = made_odd c.odd_of.result c.args.level (view_expr c
 pub returns-in_ok-joined-in_default : goal.returns-in_ok-joined-in_default
 returns-in_ok-joined-in_default c =
     let go = made_any c.any_of.result c.args.level (view_expr c.args.first) c.args.others _ c.in_ok-joined-in_default.ensures in
-    go (search rules) (search rules) (search rules) (search rules) (search rules) (search rules) c.any_of.ensures
+    go (search rules) (search rules) (search rules) (search rules) (search rules) c.any_of.ensures

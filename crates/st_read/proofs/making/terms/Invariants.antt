@@ -4,4 +4,4 @@ use Rattle.st_read.specs.Operands.{term_of}
 use Rattle.st_read.proofs.making.terms.Given as goal
 
 abbrev pub invariant-loop-other : goal.invariant-loop-other
-invariant-loop-other l = map view_term l.all ≡ map term_of l.yielded
+invariant-loop-other l = map view_term l.all.items ≡ map term_of l.yielded

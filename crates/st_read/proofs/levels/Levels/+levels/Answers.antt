@@ -1,23 +1,17 @@
-use Rattle.std.proofs.Common.{rules, ◌≡◌, ◌-◌, ℕ, false, nat_eq, sym, subst}
-use Rattle.grammar.specs.Reader.{Read, starts}
+use Rattle.std.proofs.Common.{rules, ◌≡◌, false}
+use Rattle.grammar.specs.Reader.{starts}
 use Rattle.st_ast.specs.Grammar.{sort}
-use Rattle.st_ast.specs.Tokens.{Token}
-use Rattle.st_ast.specs.Tree.{Expr}
 use Rattle.st_ast.specs.View.{view_expr}
-use Rattle.st_read.specs.Gives.{Gives}
 use Rattle.st_read.specs.Reading.{codes_of, operators, unary_at}
-use Rattle.st_read.proofs.Others.{alone, goes_on}
+use Rattle.st_read.proofs.Others.{level_alone, level_joined}
 use Rattle.st_read.proofs.levels.Levels.+levels.Goals as goal
+use Rattle.st_read.proofs.levels.Levels.+levels.Goals.{at-then-starts+in_ok-joined, at-else-starts}
 
-pub at-returns-then-not-starts : goal.at-returns-then-not-starts
-at-returns-then-not-starts g t c =
-    let more : nat_eq c.args.levels 0 ≡ false = search rules in
-    let none : starts sort (codes_of (operators (c.args.levels - 1))) c.in_ok-operand.rest ≡ false = search rules in
-    alone c.args.levels (unary_at c.args.self.now.fuel) c.args.tokens c.in_ok-operand.rest (view_expr c.in_ok-operand.operand.0, c.in_ok-operand.operand.1)
-    more c.in_ok-operand.ensures none
-
-pub at-returns : goal.at-returns
-at-returns g t c =
-    let more : nat_eq c.args.levels 0 ≡ false = search rules in
-    let on = goes_on c.args.levels (unary_at c.args.self.now.fuel) c.args.tokens c.in_ok-operand.rest (view_expr c.in_ok-operand.operand.0, c.in_ok-operand.operand.1) more c.in_ok-operand.ensures in
-    subst (λ (o : Read Token (Expr × ℕ)). Gives (λ x. ((view_expr x.0.0, x.0.1), x.1)) c.after.result o) (sym on) c.after.ensures
+pub at-loop-level-preserved : goal.at-loop-level-preserved
+at-loop-level-preserved g t c = elim c.if-starts.branch [
+  | at-then-starts+in_ok-joined w ↦ rw (w.operand-is, w.rest-is) (level_joined (unary_at c.args.self.now.fuel) c.args.tokens c.loop-level.level c.loop-level.rest w.in_ok-joined.left
+      (view_expr c.loop-level.operand.0, c.loop-level.operand.1) (view_expr w.in_ok-joined.joined.0, w.in_ok-joined.joined.1) c.loop-level.invariant w.in_ok-joined.ensures)
+  | at-else-starts w ↦
+      let none : starts sort (codes_of (operators c.loop-level.level)) c.loop-level.rest ≡ false = search rules in
+      rw (w.operand-is, w.rest-is) (level_alone (unary_at c.args.self.now.fuel) c.args.tokens c.loop-level.level c.loop-level.rest (view_expr c.loop-level.operand.0, c.loop-level.operand.1) c.loop-level.invariant none)
+]
