@@ -5,7 +5,6 @@ ghost use Rattle.st_check.specs.Keys as keys;
 
 use cif_base::Memory;
 use indexmap::IndexSet;
-use smallvec::SmallVec;
 use std::alloc::Global;
 use std::marker::Model;
 
@@ -16,14 +15,8 @@ fn key(alloc: Global, name: &[u8]) -> Result<Vec<u8>, Memory>
     Ok(name.to_ascii_lowercase(alloc)?)
 }
 
-/// The key of a name that is looked up, which takes no heap for a name of up to 32 bytes.
-fn look_up_key(alloc: Global, name: &[u8]) -> Result<SmallVec<u8, 32>, Memory>
-    ensures { IfOk result (λ k. k.items ≡ keys.key name.now) }
-{
-    let mut key = SmallVec::from_slice(alloc, name)?;
-    key.as_mut_slice().make_ascii_lowercase();
-    Ok(key)
-}
+/// The most bytes of a name that is looked up without taking heap.
+const SHORT: usize = 32;
 
 /// The keys of names, numbered from 0 in the order in which they were added.
 #[derive(Drop)]
@@ -58,11 +51,28 @@ impl Names {
         Ok(self.keys.insert(key(alloc, name)?)?)
     }
 
+    /// The number of a key.
+    fn number_of(&self, key: &[u8]) -> Option<usize>
+        ensures { result ≡ keys.found_at self.now key.now }
+    {
+        self.keys.get_index_of(key)
+    }
+
     /// The number of a name.
     pub fn number(&self, alloc: Global, name: &[u8]) -> Result<Option<usize>, Memory>
         ensures { IfOk result (λ found. found ≡ keys.found_at self.now (keys.key name.now)) }
     {
-        let key = look_up_key(alloc, name)?;
-        Ok(self.keys.get_index_of(key.as_slice()))
+        let mut short = [0; SHORT];
+        match short.get_mut(..name.len()) {
+            Some(key) => {
+                key.copy_from_slice(name);
+                key.make_ascii_lowercase();
+                Ok(self.number_of(key))
+            }
+            None => {
+                let key = key(alloc, name)?;
+                Ok(self.number_of(key.as_slice()))
+            }
+        }
     }
 }

@@ -1,16 +1,17 @@
 -- The tokens of a text by the places where they begin.
-use Rattle.std.proofs.Common.{◌≡◌, ℕ, suc, ◌+◌, ◌-◌, ◌≤◌, ◌<◌, ◌==◌, Bool, true, false, if◌then◌else◌, List, [], ◌∷◌, ◌++◌, length, get_or, take, drop, All, Option, Some, None, Ok, Err, Result, refl, sym, ap, subst, ◌∙◌, append_assoc, nat_le, leb-true, arith}
-use Rattle.std.specs.Prelude.{IsTrue, ◌↔◌}
+use Rattle.std.proofs.Common.{◌≡◌, ℕ, suc, ◌+◌, ◌-◌, ◌≤◌, ◌<◌, ◌==◌, Bool, true, false, not, if◌then◌else◌, List, [], ◌∷◌, ◌++◌, length, get_or, take, drop, All, Option, Some, None, Ok, Err, Result, refl, sym, ap, subst, ◌∙◌, append_assoc, nat_le, leb-true, arith}
+use Rattle.std.specs.Prelude.{IsTrue, ◌↔◌, position, unwrap_or}
 use Rattle.std.proofs.Math.Seq.{drop-append_seam}
 use Rattle.std.proofs.Math.ListN.{drop_of_length-le}
 use Rattle.std.proofs.lemmas.Bool.Decides.{nat_tests}
 use Rattle.std.proofs.lemmas.Slice.{first_rest}
-use Rattle.std.proofs.lemmas.List.{length-append, length-map, map-append}
+use Rattle.std.proofs.lemmas.List.{length-append, length-map, length-take-le, length-drop, map-append}
 use Rattle.std.proofs.lemmas.List.Elements.{All-nil, All-push, All-head}
 use Rattle.grammar.specs.Bytes.{is_blank}
 use Rattle.grammar.specs.Lang.{has}
 use Rattle.grammar.specs.Pieces.{Text, Begun, run_of}
 use Rattle.grammar.specs.Reader.{starts, one_at}
+use Rattle.grammar.proofs.Runs.{run_is, first_within}
 use Rattle.st_ast.specs.Grammar.{code, sort}
 use Rattle.st_ast.specs.Tokens.{Token, Piece, piece, number_of, greatest}
 use Rattle.st_ast.specs.declared.kinds.TokenKind.{TokenKind}
@@ -19,6 +20,7 @@ use Rattle.st_read.specs.declared.found.Fault.{Fault}
 use Rattle.st_read.specs.declared.marks.Mark.{Mark}
 use Rattle.st_read.specs.Lexing.{Found, kind_found, letter, wordy, digit, worded, value_in, with_value, numbered, after_close, commented, sign_of, signed, opens, inside, front_of, Lexes}
 use Rattle.st_read.specs.Marks.{after_blanks, found_token, token_at, token_of, tokens_of, IsMark}
+use Rattle.st_read.specs.Reading.{next_kind}
 use Rattle.st_read.proofs.LexSteps.{Taken, taken_token, taken_skip, taken_none, taken_all, left_shorter}
 use Rattle.st_read.proofs.Numbers.{word_apart, sign_no_literal, sign_no_name}
 
@@ -90,6 +92,70 @@ found_at : (text rest left : Text) (tokens : List Token) (t : Token) → Taken t
 unfolding token_at
 found_at text rest left tokens t taken e = ap (λ (u : Text). found_token (front_of u)) (rest_at text rest tokens taken) ∙ ap found_token e
 
+-- ---- the letters of a name
+
+if_both : (P : Found → Type 0) (x : Bool) (a b : Found) → P a → P b → P (if x then a else b)
+if_both P true a b p q = p
+if_both P false a b p q = q
+
+abbrev rest_found : Found → Text
+rest_found (Err fault) = []
+rest_found (Ok w) = w.1
+
+abbrev IsSpelled : Text → Found → Type 0
+IsSpelled text found = (found_token found).kind ≡ kinds.Name → run_of wordy text ≡ ((found_token found).text, rest_found found)
+
+spelled_number : (text : Text) (w : Text × Text) (o : Option ℕ) → IsSpelled text (with_value w o)
+spelled_number text w None e = absurd cc
+spelled_number text w (Some n) e = absurd cc
+
+spelled_comment : (text : Text) (o : Option Text) → IsSpelled text (commented o)
+spelled_comment text None e = absurd cc
+spelled_comment text (Some rest) e = absurd cc
+
+spelled_sign : (text : Text) (o : Option (Text × Text)) → IsSpelled text (signed o)
+spelled_sign text None e = absurd cc
+spelled_sign text (Some w) e = absurd (sign_no_name w.0 e)
+
+spelled_front : (text : Text) → IsSpelled text (front_of text)
+unfolding front_of
+spelled_front [] = λ e. absurd cc
+spelled_front (b ∷ text) =
+    if_both (IsSpelled (b ∷ text)) (is_blank b) (Ok (None, text)) _ (λ e. absurd cc)
+    (if_both (IsSpelled (b ∷ text)) (letter b) (worded (run_of wordy (b ∷ text))) _ (λ e. refl)
+    (if_both (IsSpelled (b ∷ text)) (digit b) (numbered (run_of digit (b ∷ text))) _ (spelled_number (b ∷ text) (run_of digit (b ∷ text)) (value_in (run_of digit (b ∷ text)).0))
+    (if_both (IsSpelled (b ∷ text)) (opens (b ∷ text)) (commented (after_close (inside (b ∷ text)))) (signed (sign_of (b ∷ text)))
+    (spelled_comment (b ∷ text) (after_close (inside (b ∷ text)))) (spelled_sign (b ∷ text) (sign_of (b ∷ text))))))
+
+-- a run is so many bytes at the front
+run_parts : (g : ℕ → Bool) (text : Text) → (n : ℕ) × (n ≤ length text) × (run_of g text ≡ (take n text, drop n text))
+run_parts g text = (unwrap_or (position (λ b. not (g b)) text) (length text), first_within (λ b. not (g b)) text, run_is g text)
+
+module _ (g : ℕ → Bool) (text word left : Text) (run : run_of g text ≡ (word, left)) where
+  run_len : length word ≡ (run_parts g text).0
+  run_len = let p = run_parts g text in ap (λ (w : Text × Text). length w.0) (sym run ∙ p.2) ∙ length-take-le p.0 text p.1
+
+  run_takes : take (length word) text ≡ word
+  run_takes = let p = run_parts g text in ap (λ (n : ℕ). take n text) run_len ∙ ap (λ (w : Text × Text). w.0) (sym p.2 ∙ run)
+
+  run_leaves : length text - length left ≡ length word
+  run_leaves =
+      let p = run_parts g text in
+      let after : length left ≡ length text - p.0 = ap (λ (w : Text × Text). length w.1) (sym run ∙ p.2) ∙ length-drop p.0 text in
+      let len = run_len in
+      let within = p.1 in
+      omega (arith, after, len, within)
+
+pub name_taken : (text rest : Text) (at n : ℕ) → rest ≡ drop at text → n ≡ length (token_at text at).text → (token_at text at).kind ≡ kinds.Name → take n rest ≡ (token_at text at).text
+unfolding token_at
+name_taken text rest at n is len e =
+    ap (take n) is ∙ ap (λ (m : ℕ). take m (drop at text)) len ∙ run_takes wordy (drop at text) _ _ (spelled_front (drop at text) e)
+
+pub name_spelled : (text rest word left : Text) (at : ℕ) → rest ≡ drop at text → run_of wordy rest ≡ (word, left) → (token_at text at).kind ≡ kinds.Name → word ≡ (token_at text at).text
+unfolding token_at
+name_spelled text rest word left at is run e =
+    sym (ap (λ (w : Text × Text). w.0) run) ∙ ap (λ (u : Text). (run_of wordy u).0) is ∙ ap (λ (w : Text × Text). w.0) (spelled_front (drop at text) e)
+
 -- ---- the marks of the tokens so far
 
 pub record Marked (text rest : Text) (marks : List Mark) : Type 0 where
@@ -111,17 +177,21 @@ past_blanks text (b ∷ rest) marks m = go (is_blank b) refl (λ (d : Marked tex
 pub marked_none : (text : Text) → Marked text (after_blanks text) []
 marked_none text = past_blanks text text [] (record { taken = taken_none text; are = All-nil (IsMark text) })
 
-pub marked_token : (text rest left : Text) (marks : List Mark) (o : Option TokenKind) (kind : TokenKind) → Marked text rest marks → kind_found (front_of rest) ≡ Ok (o, left) → o ≡ Some kind
-    → Marked text (after_blanks left) (marks ++ record { at = length text - length rest; kind = kind } ∷ [])
-marked_token text rest left marks o kind m e is =
+pub marked_token : (text rest left : Text) (marks : List Mark) (o : Option TokenKind) (kind : TokenKind) (n : ℕ) → Marked text rest marks → kind_found (front_of rest) ≡ Ok (o, left) → o ≡ Some kind
+    → (n < 65535 → n ≡ length rest - length left) → Marked text (after_blanks left) (marks ++ record { at = length text - length rest; length = n; kind = kind } ∷ [])
+marked_token text rest left marks o kind n m e is long =
     let f = found_some (front_of rest) kind left (e ∙ ap (λ (q : Option TokenKind). Ok (q, left)) is) in
     let there : token_at text (length text - length rest) ≡ f.0 = found_at text rest left (tokens_of text marks) f.0 m.taken f.1 in
-    let mark : Mark = record { at = length text - length rest; kind = kind } in
+    let mark : Mark = record { at = length text - length rest; length = n; kind = kind } in
+    let spelled : IsSpelled rest (Ok (Some f.0, left)) = subst (λ (found : Found). IsSpelled rest found) f.1 (spelled_front rest) in
     let same : tokens_of text marks ++ f.0 ∷ [] ≡ tokens_of text (marks ++ mark ∷ []) =
     ap (λ (t : Token). tokens_of text marks ++ t ∷ []) (sym there) ∙ sym (map-append (token_of text) marks (mark ∷ [])) in
     past_blanks text left (marks ++ mark ∷ []) (record {
       taken = subst (λ (ts : List Token). Taken text left ts) same (taken_token text rest left (tokens_of text marks) (Some f.0) f.0 m.taken f.1 refl);
-      are = All-push (IsMark text) marks mark m.are (sym f.2 ∙ ap (λ (t : Token). t.kind) (sym there));
+      are = All-push (IsMark text) marks mark m.are (
+        sym f.2 ∙ ap (λ (t : Token). t.kind) (sym there),
+        λ name short. long short ∙ run_leaves wordy rest f.0.text left (spelled (f.2 ∙ name)) ∙ ap (λ (t : Token). length t.text) (sym there),
+      );
     })
 
 pub marked_skip : (text rest left : Text) (marks : List Mark) (o : Option TokenKind) → Marked text rest marks → kind_found (front_of rest) ≡ Ok (o, left) → o ≡ None
@@ -148,7 +218,10 @@ tokens_end text [] = (λ e. refl, λ e. refl)
 tokens_end text (m ∷ marks) = (λ e. absurd (some_left (length marks) e), λ e. absurd cc)
 
 pub marked_starts : (text : Text) (ks : List ℕ) (m : Mark) (marks : List Mark) → All (IsMark text) (m ∷ marks) → has ks (code m.kind) ≡ starts sort ks (tokens_of text (m ∷ marks))
-marked_starts text ks m marks all = ap (λ (kind : TokenKind). has ks (code kind)) (All-head (IsMark text) m marks all)
+marked_starts text ks m marks all = ap (λ (kind : TokenKind). has ks (code kind)) (All-head (IsMark text) m marks all).0
+
+pub marked_kind : (text : Text) (m : Mark) (marks : List Mark) → All (IsMark text) (m ∷ marks) → Some m.kind ≡ next_kind (tokens_of text (m ∷ marks))
+marked_kind text m marks all = ap (λ (kind : TokenKind). Some kind) (All-head (IsMark text) m marks all).0
 
 one_marked : (text : Text) (ks : List ℕ) (m : Mark) (marks : List Mark) → All (IsMark text) (m ∷ marks) → has ks (code m.kind) ≡ true
     → one_at sort ks (tokens_of text (m ∷ marks)) ≡ Some (token_of text m, tokens_of text marks)
@@ -182,42 +255,6 @@ none_at text ks (m ∷ marks) none = absurd (omega arith)
 
 pub none_taken_at : (text : Text) (ks : List ℕ) (marks : List Mark) (ts : List Token) → tokens_of text marks ≡ ts → length marks < 1 → one_at sort ks ts ≡ None
 none_taken_at text ks marks ts are none = ap (one_at sort ks) (sym are) ∙ none_at text ks marks none
-
--- ---- the letters of a name
-
-if_both : (P : Found → Type 0) (x : Bool) (a b : Found) → P a → P b → P (if x then a else b)
-if_both P true a b p q = p
-if_both P false a b p q = q
-
-abbrev IsSpelled : Text → Found → Type 0
-IsSpelled text found = (found_token found).kind ≡ kinds.Name → (run_of wordy text).0 ≡ (found_token found).text
-
-spelled_number : (text : Text) (w : Text × Text) (o : Option ℕ) → IsSpelled text (with_value w o)
-spelled_number text w None e = absurd cc
-spelled_number text w (Some n) e = absurd cc
-
-spelled_comment : (text : Text) (o : Option Text) → IsSpelled text (commented o)
-spelled_comment text None e = absurd cc
-spelled_comment text (Some rest) e = absurd cc
-
-spelled_sign : (text : Text) (o : Option (Text × Text)) → IsSpelled text (signed o)
-spelled_sign text None e = absurd cc
-spelled_sign text (Some w) e = absurd (sign_no_name w.0 e)
-
-spelled_front : (text : Text) → IsSpelled text (front_of text)
-unfolding front_of
-spelled_front [] = λ e. absurd cc
-spelled_front (b ∷ text) =
-    if_both (IsSpelled (b ∷ text)) (is_blank b) (Ok (None, text)) _ (λ e. absurd cc)
-    (if_both (IsSpelled (b ∷ text)) (letter b) (worded (run_of wordy (b ∷ text))) _ (λ e. refl)
-    (if_both (IsSpelled (b ∷ text)) (digit b) (numbered (run_of digit (b ∷ text))) _ (spelled_number (b ∷ text) (run_of digit (b ∷ text)) (value_in (run_of digit (b ∷ text)).0))
-    (if_both (IsSpelled (b ∷ text)) (opens (b ∷ text)) (commented (after_close (inside (b ∷ text)))) (signed (sign_of (b ∷ text)))
-    (spelled_comment (b ∷ text) (after_close (inside (b ∷ text)))) (spelled_sign (b ∷ text) (sign_of (b ∷ text))))))
-
-pub name_spelled : (text rest word left : Text) (at : ℕ) → rest ≡ drop at text → run_of wordy rest ≡ (word, left) → (token_at text at).kind ≡ kinds.Name → word ≡ (token_at text at).text
-unfolding token_at
-name_spelled text rest word left at is run e =
-    sym (ap (λ (w : Text × Text). w.0) run) ∙ ap (λ (u : Text). (run_of wordy u).0) is ∙ spelled_front (drop at text) e
 
 -- ---- the number of a literal
 

@@ -1,5 +1,5 @@
--- Helper of the code: a token as the place where it begins in its text, with its kind.
-use Rattle.std.specs.Prelude.{◌≡◌, ℕ, List, [], ◌∷◌, map, drop, Option, Some, None, Ok, Err, if◌then◌else◌}
+-- Helper of the code: a token as the place where it begins in its text, with its kind and for a name its length.
+use Rattle.std.specs.Prelude.{◌≡◌, ◌<◌, ℕ, length, List, [], ◌∷◌, map, drop, Option, Some, None, Ok, Err, if◌then◌else◌}
 use Rattle.grammar.specs.Bytes.{is_blank}
 use Rattle.grammar.specs.Pieces.{Text}
 use Rattle.st_ast.specs.Tokens.{Token}
@@ -31,6 +31,6 @@ token_of text m = token_at text m.at
 abbrev pub tokens_of : Text → List Mark → List Token
 tokens_of text = map (token_of text)
 
--- the kind of a mark is that of its token
+-- the kind of a mark is that of its token, and so is the length of one for a name, unless there is no room for it
 abbrev pub IsMark : Text → Mark → Type 0
-IsMark text m = m.kind ≡ (token_at text m.at).kind
+IsMark text m = (m.kind ≡ (token_at text m.at).kind) × (m.kind ≡ kinds.Name → m.length < 65535 → m.length ≡ length (token_at text m.at).text)

@@ -1,5 +1,6 @@
 -- Helper of the code: reading Structured Text with one token of sight: a reader for each production of the grammar.
 use Rattle.std.specs.Prelude.{ℕ, zero, suc, ◌+◌, nat_eq, ℤ, pos, neg_ℤ, Bool, true, false, ◌||◌, List, [], ◌∷◌, length, map, Option, Some, None, if◌then◌else◌}
+use Rattle.grammar.specs.Lang.{has}
 use Rattle.grammar.specs.Pieces.{Text}
 use Rattle.grammar.specs.Reader.{Read, Reader, Deep, and_then, one_at, none_at, both_at, map_at, either_at, optional_at, many_at, list_at, flat_at, deep_both, deep_map, deep_from, inside, chained}
 use Rattle.st_ast.specs.Tokens.{Token, number_of}
@@ -159,6 +160,23 @@ level_at (suc l) unary = joined_at l (level_at l unary)
 
 abbrev pub levels : ℕ
 levels = 7
+
+-- of so many levels from one on, the lowest that has operators of the kind with this number, or the one after them
+abbrev pub lowest_of : ℕ → ℕ → ℕ → ℕ
+lowest_of zero l c = l
+lowest_of (suc n) l c = if has (codes_of (operators l)) c then l else lowest_of n (suc l) c
+
+abbrev pub next_kind : List Token → Option TokenKind
+next_kind [] = None
+next_kind (t ∷ ts) = Some t.kind
+
+-- the lowest level of which an operator comes next, or the number of levels
+abbrev pub level_of_kind : Option TokenKind → ℕ
+level_of_kind None = levels
+level_of_kind (Some kind) = lowest_of levels 0 (code kind)
+
+abbrev pub next_level : List Token → ℕ
+next_level ts = level_of_kind (next_kind ts)
 
 -- The number bounds how deep the calls go.
 unfoldable pub unary_at : ℕ → Deep Token Expr

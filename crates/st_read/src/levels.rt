@@ -59,6 +59,40 @@ fn operators(level: u8) -> &'static [TokenKind]
     }
 }
 
+/// The level of the operators of a kind, or the number of levels where there is none.
+fn level_of(kind: TokenKind) -> u8
+    ensures { result ≡ reading.lowest_of reading.levels 0 (grammar.code kind) }
+{
+    match kind {
+        TokenKind::Times | TokenKind::Slash | TokenKind::Mod => 0,
+        TokenKind::Plus | TokenKind::Dash => 1,
+        TokenKind::Less | TokenKind::Greater | TokenKind::AtMost | TokenKind::AtLeast => 2,
+        TokenKind::Equals | TokenKind::Differs => 3,
+        TokenKind::And => 4,
+        TokenKind::Xor => 5,
+        TokenKind::Or => 6,
+        _ => LEVELS,
+    }
+}
+
+/// The level of the operator that comes next, or the number of levels where none comes.
+fn next_level(tokens: &Tokens<'_>) -> u8
+    ensures { result ≡ reading.next_level tokens.now }
+{
+    match tokens.kind() {
+        Some(kind) => level_of(kind),
+        None => LEVELS,
+    }
+}
+
+/// Whether an operator of a level comes next.
+#[tactic(auto, using(crate::proofs::Others::below_next))]
+fn comes(tokens: &Tokens<'_>, level: u8) -> bool
+    ensures { result ≡ reader.starts grammar.sort (reading.codes_of (reading.operators level)) tokens.now }
+{
+    next_level(tokens) <= level && starts(tokens, operators(level))
+}
+
 /// Whether a level has one operand after the first at the most.
 fn has_pairs(level: u8) -> bool
     ensures { result ≡ reading.has_pairs level }
@@ -197,7 +231,10 @@ impl<F: Fn(Global, Tokens<'_>, u16) -> Result<(Deep, Tokens<'_>), Stop>> Levels<
     {
         let (mut operand, mut rest) = self.operand(tokens)?;
         for level in 0..levels {
-            if starts(&rest, operators(level)) {
+            if levels <= next_level(&rest) {
+                return Ok((operand, rest));
+            }
+            if comes(&rest, level) {
                 let (joined, left) = self.after(level, operand, rest)?;
                 operand = joined;
                 rest = left;

@@ -1,6 +1,6 @@
 //! A text as its tokens.
 
-ghost use Rattle.std.specs.Prelude.{◌≡◌, ◌≤◌, map, length, option_map, All, IfOk, IfErr};
+ghost use Rattle.std.specs.Prelude.{◌≡◌, ◌<◌, ◌≤◌, map, length, option_map, All, IfOk, IfErr};
 ghost use Rattle.std.specs.Option.{option_copied};
 ghost use Rattle.grammar.specs.Pieces.{run_of, strip};
 ghost use Rattle.st_ast.specs.Tokens as k;
@@ -238,6 +238,17 @@ fn without_blanks(text: &[u8]) -> &[u8]
     }
 }
 
+/// How long a mark says that a token is.
+fn marked_length(length: usize) -> u16
+    ensures { result < 65535 → result ≡ length }
+{
+    if length < usize::from(u16::MAX) {
+        length as u16
+    } else {
+        u16::MAX
+    }
+}
+
 /// The places of the tokens of a text in which no number is too big, with their kinds.
 #[tactic(auto, using(crate::proofs::Marked::marked_none, crate::proofs::Marked::marked_token, crate::proofs::Marked::marked_skip, crate::proofs::Marked::blanks_shorter, crate::proofs::Marked::later_shorter))]
 pub fn token_marks(alloc: Global, text: &[u8]) -> Result<Items<Mark>, StErr>
@@ -255,7 +266,8 @@ pub fn token_marks(alloc: Global, text: &[u8]) -> Result<Items<Mark>, StErr>
             Err(fault) => return Err(refusal(fault, at)),
         };
         if let Some(kind) = token {
-            marks.push(Mark { at, kind })?;
+            let length = marked_length(rest.len().saturating_sub(left.len()));
+            marks.push(Mark { at, length, kind })?;
         }
         rest = without_blanks(left);
     }

@@ -9,10 +9,11 @@ use crate::words::value_of;
 use st_ast::TokenKind;
 use std::marker::Model;
 
-/// Where a token begins, counted in bytes, and its kind.
+/// Where a token begins, counted in bytes, its kind, and for a name how many bytes it has, or `u16::MAX` for a name of so many or more.
 #[derive(Clone, Copy)]
 pub struct Mark {
     pub at: u32,
+    pub length: u16,
     pub kind: TokenKind,
 }
 
@@ -66,8 +67,13 @@ impl<'a> Token<'a> {
     pub fn name(&self) -> &'a [u8]
         ensures { self.now.kind ≡ TokenKind.Name → result.now ≡ self.now.text }
     {
-        let (name, _rest) = split_word(rest_from(self.text, self.mark.at));
-        name
+        let rest = rest_from(self.text, self.mark.at);
+        let length = usize::from(self.mark.length);
+        if self.mark.length < u16::MAX && length <= rest.len() {
+            rest.split_at(length).0
+        } else {
+            split_word(rest).0
+        }
     }
 
     /// The number that a literal stands for.

@@ -59,6 +59,17 @@ impl<'a> Tokens<'a> {
         self.marks.is_empty()
     }
 
+    /// The kind of the next token.
+    #[tactic(auto, using(crate::proofs::Marked::marked_kind))]
+    pub fn kind(&self) -> Option<TokenKind>
+        ensures { result ≡ reading.next_kind self.now }
+    {
+        match self.marks {
+            [] => None,
+            [next, _rest @ ..] => Some(next.kind),
+        }
+    }
+
     /// How many bytes there are from the next token on.
     pub fn left(&self) -> usize {
         match self.marks {

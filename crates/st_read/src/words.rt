@@ -1,6 +1,6 @@
 //! Bytes, and the kinds of words, signs and numbers.
 
-ghost use Rattle.std.specs.Prelude.{◌≡◌, ◌≤◌, map, Some, None, nat_le, if◌then◌else◌, option_map};
+ghost use Rattle.std.specs.Prelude.{◌≡◌, ◌≤◌, map, Some, None, nat_le, if◌then◌else◌, option_map, unwrap_or};
 ghost use Rattle.grammar.specs.Bytes as bytes;
 ghost use Rattle.st_ast.specs.Names as names;
 ghost use Rattle.st_ast.specs.Tokens as tokens;
@@ -139,16 +139,17 @@ fn is_identifier(word: &[u8]) -> bool
     }
 }
 
-/// The kind that a table has for a word, or another one.
-fn in_table(table: &[Entry], word: &[u8], other: TokenKind) -> TokenKind
-    ensures { result ≡ tokens.in_table (map (λ p. (p.0.now, p.1)) table.now) word.now other }
+/// The kind that a table has for a word.
+fn in_table(table: &[Entry], word: &[u8]) -> Option<TokenKind>
+    ensures { unwrap_or result (lexing.name_kind word.now)
+        ≡ tokens.in_table (map (λ p. (p.0.now, p.1)) table.now) word.now (lexing.name_kind word.now) }
 {
     for (name, kind) in table {
         if same_name(name, word) {
-            return *kind;
+            return Some(*kind);
         }
     }
-    other
+    None
 }
 
 /// The kind of a word that is not reserved.
@@ -162,18 +163,27 @@ fn kind_of_name(word: &[u8]) -> TokenKind
     }
 }
 
+/// The kind of a reserved word.
 #[tactic(auto, using(crate::proofs::WordLaws::words_of_two, crate::proofs::WordLaws::words_of_three, crate::proofs::WordLaws::words_of_four, crate::proofs::WordLaws::words_of_five, crate::proofs::WordLaws::words_of_six, crate::proofs::WordLaws::longer_words))]
+fn kind_of_reserved(word: &[u8]) -> Option<TokenKind>
+    ensures { unwrap_or result (lexing.name_kind word.now) ≡ lexing.word_kind word.now }
+{
+    match word.len() {
+        2 => in_table(&OF_TWO, word),
+        3 => in_table(&OF_THREE, word),
+        4 => in_table(&OF_FOUR, word),
+        5 => in_table(&OF_FIVE, word),
+        6 => in_table(&OF_SIX, word),
+        _ => in_table(&LONGER, word),
+    }
+}
+
 pub fn kind_of_word(word: &[u8]) -> TokenKind
     ensures { result ≡ lexing.word_kind word.now }
 {
-    let other = kind_of_name(word);
-    match word.len() {
-        2 => in_table(&OF_TWO, word, other),
-        3 => in_table(&OF_THREE, word, other),
-        4 => in_table(&OF_FOUR, word, other),
-        5 => in_table(&OF_FIVE, word, other),
-        6 => in_table(&OF_SIX, word, other),
-        _ => in_table(&LONGER, word, other),
+    match kind_of_reserved(word) {
+        Some(kind) => kind,
+        None => kind_of_name(word),
     }
 }
 

@@ -27,7 +27,7 @@ loop-rest-preserved c =
     elim c.match-token.branch [
       | in-Some+in_ok-push w ↦ record {
         found = marked_as c.args.text.now (after_blanks c.in-Ok.found.1.now) c.without_blanks-rest-in-loop-rest.result.now _ c.match-token.marks blanks (w.marks-is ∙ w.in_ok-push.ensures.ok)
-            (marked_token c.args.text.now c.loop-rest.rest.now c.in-Ok.found.1.now c.loop-rest.marks c.in-Ok.found.0 w.in-Some.kind so_far c.in-Ok.ensures w.in-Some.is);
+            (marked_token c.args.text.now c.loop-rest.rest.now c.in-Ok.found.1.now c.loop-rest.marks c.in-Ok.found.0 w.in-Some.kind _ so_far c.in-Ok.ensures w.in-Some.is (λ short. w.marked_length-length.ensures short ∙ w.saturating_sub.ensures));
         shorter = shorter;
       }
       | in_default w ↦ record {
