@@ -1,15 +1,17 @@
 -- What is found at the front of a text, said of the pieces that begin there.
-use Rattle.std.proofs.Common.{◌≡◌, ◌==◌, ℕ, ◌<◌, Bool, true, false, ◌&&◌, if◌then◌else◌, nat_le, List, [], ◌∷◌, ◌++◌, Option, Some, None, Ok, Err, refl, sym, ap, subst, ◌∙◌, inl, inr, arith, leb-true}
-use Rattle.std.proofs.lemmas.Bool.Decides.{nat_tests}
+use Rattle.std.proofs.Common.{◌≡◌, ◌==◌, ℕ, ◌<◌, Bool, true, false, if◌then◌else◌, [], ◌∷◌, ◌++◌, Option, Some, None, Ok, Err, refl, sym, ap, subst, ◌∙◌, inl, inr, leb-true}
+use Rattle.std.proofs.lemmas.Bool.{leb-false}
 use Rattle.grammar.specs.Pieces.{Text, Cut, IsLongest}
 use Rattle.grammar.proofs.Texts.{and_left, and_right, from_test}
 use Rattle.grammar.proofs.Cutting.{text_made}
 use Rattle.grammar.proofs.Closing.{unclosed}
+use Rattle.cutting.specs.Classes.{letter}
+use Rattle.cutting.proofs.Fronts.{so_where_ok, not_where_err}
 use Rattle.cif_lex.specs.declared.token.TokenKind.{TokenKind}
 use Rattle.cif_lex.specs.declared.found.Fault.{Fault}
 use Rattle.cif_lex.specs.declared.found.Fault.TheVariants as f
 use Rattle.cif_lex.specs.Tokens.{Piece, blank, comment, word, escaped, number, sign, signs, piece, kind_of, number_of, greatest_number, IsInRange}
-use Rattle.cif_lex.specs.Cutting.{Found, letter, is_small, after_close, closed_found, slash_found, found_of}
+use Rattle.cif_lex.specs.Cutting.{Found, is_small, after_close, closed_found, slash_found, found_of}
 use Rattle.cif_lex.proofs.SignLaws.{in_range, judge}
 use Rattle.cif_lex.proofs.CutLaws.{piece_cut, piece_cuts}
 use Rattle.cif_lex.proofs.FrontLaws.{opens, judged, front_is}
@@ -25,16 +27,13 @@ in_range_is (escaped t) e = tt
 in_range_is (number t) e = leb-true (number_of t) greatest_number e
 in_range_is (sign t) e = tt
 
-above : (n m : ℕ) → nat_le n m ≡ false → m < n
-above n m e = grind (arith, nat_tests)
-
 too_big_is : (p : Piece) → in_range p ≡ false → (digits : Text) × (p ≡ number digits) × (greatest_number < number_of digits)
 unfolding is_small
 too_big_is blank e = absurd cc
 too_big_is comment e = absurd cc
 too_big_is (word t) e = absurd cc
 too_big_is (escaped t) e = absurd cc
-too_big_is (number t) e = (t, refl, above (number_of t) greatest_number e)
+too_big_is (number t) e = (t, refl, leb-false (number_of t) greatest_number e)
 too_big_is (sign t) e = absurd cc
 
 -- a number is made with its text
@@ -61,18 +60,12 @@ pub record Takes (text rest : Text) (kind : Option TokenKind) : Type 0 where
   pub small : IsInRange taken
 
 judge_ok : (p : Piece) (rest more : Text) (k : Option TokenKind) → judge p rest ≡ Ok (k, more) → (in_range p ≡ true) × (kind_of p ≡ k) × (rest ≡ more)
-judge_ok p rest more k e = go (in_range p) refl e
-  where
-    go : (x : Bool) → in_range p ≡ x → (let r : Found = if x then Ok (kind_of p, rest) else Err f.NumberTooBig in r) ≡ Ok (k, more) → (in_range p ≡ true) × (kind_of p ≡ k) × (rest ≡ more)
-    go true is g = let pair : (kind_of p, rest) ≡ (k, more) = cc in (is, ap (λ (q : Option TokenKind × Text). q.0) pair, ap (λ (q : Option TokenKind × Text). q.1) pair)
-    go false is g = absurd cc
+judge_ok p rest more k e =
+    let m = so_where_ok (in_range p) (kind_of p, rest) (k, more) f.NumberTooBig e in
+    (m.0, ap (λ (q : Option TokenKind × Text). q.0) m.1, ap (λ (q : Option TokenKind × Text). q.1) m.1)
 
 judge_err : (p : Piece) (rest : Text) (e : Fault) → judge p rest ≡ Err e → (in_range p ≡ false) × (e ≡ f.NumberTooBig)
-judge_err p rest e h = go (in_range p) refl h
-  where
-    go : (x : Bool) → in_range p ≡ x → (let r : Found = if x then Ok (kind_of p, rest) else Err f.NumberTooBig in r) ≡ Err e → (in_range p ≡ false) × (e ≡ f.NumberTooBig)
-    go true is g = absurd cc
-    go false is g = (is, cc)
+judge_err p rest e h = not_where_err (in_range p) (kind_of p, rest) f.NumberTooBig e h
 
 found_takes : (b : ℕ) (text rest : Text) (k : Option TokenKind) → found_of (b ∷ text) ≡ Ok (k, rest) → Takes (b ∷ text) rest k
 found_takes b text rest k e = go (piece_cut (b ∷ text)) refl (sym (front_is b text) ∙ e)

@@ -1,13 +1,15 @@
 -- What is found at the front of a text is the piece that is cut off there, and where nothing is found none begins.
 use Rattle.std.proofs.Common.{◌≡◌, ◌==◌, ℕ, Bool, true, false, ◌&&◌, if◌then◌else◌, [], ◌∷◌, Option, Some, None, Err, refl, ap, subst, ◌∙◌, arith}
 use Rattle.std.proofs.lemmas.Bool.Decides.{nat_tests}
-use Rattle.grammar.specs.Pieces.{Text, Cut, run_of, text_cut, close_at, closed_of, with_byte}
+use Rattle.grammar.specs.Pieces.{Text, Cut, text_cut, close_at, closed_of, with_byte}
 use Rattle.grammar.proofs.Texts.{from_test}
 use Rattle.grammar.proofs.Closing.{rest_of, close_is}
 use Rattle.cif_lex.specs.declared.found.Fault.TheVariants as f
-use Rattle.grammar.specs.Bytes.{is_blank, begins_word, is_digit, none_of}
+use Rattle.grammar.specs.Bytes.{is_blank, begins_word, is_digit}
+use Rattle.cutting.specs.Classes.{letter, digit, wordy}
+use Rattle.cutting.proofs.Fronts.{none_run}
 use Rattle.cif_lex.specs.Tokens.{Piece, comment, sign, signs, is_zero, is_leading, kind_of, number_of}
-use Rattle.cif_lex.specs.Cutting.{Found, letter, wordy, reserved_word, escaped_found, is_small, closed_found, slash_found, found_of}
+use Rattle.cif_lex.specs.Cutting.{Found, reserved_word, escaped_found, is_small, closed_found, slash_found, found_of}
 use Rattle.cif_lex.proofs.SignLaws.{judge, by_byte, sign_judged, sign_front}
 use Rattle.cif_lex.proofs.CutLaws.{piece_cut}
 
@@ -24,10 +26,6 @@ judged text (Some c) = judge c.piece c.rest
 
 abbrev pub Claim : ℕ → Text → Type 0
 Claim b text = found_of (b ∷ text) ≡ judged (b ∷ text) (piece_cut (b ∷ text))
-
-none_run : (text : Text) → run_of none_of text ≡ ([], text)
-none_run [] = refl
-none_run (b ∷ text) = refl
 
 leading_digit : (b : ℕ) → is_leading b ≡ true → is_digit b ≡ true
 leading_digit b e = grind (arith, nat_tests)
@@ -72,7 +70,7 @@ other b (c ∷ text) e g h i j k = rw (e, g, h, i, j, k) (sign_front b (c ∷ te
     last (Some v) = refl
 
 no_word : (b : ℕ) (text : Text) → is_blank b ≡ false → begins_word b ≡ false → (x y : Bool) → is_zero b ≡ x → is_leading b ≡ y → Claim b text
-unfolding found_of piece_cut letter kind_of is_small
+unfolding found_of piece_cut letter digit kind_of is_small
 no_word b text e g true y h i = subst (λ n. Claim n text) (from_test b 48 h) (zero_digit text)
 no_word b text e g false true h i =
     by_byte (λ n. is_blank n ≡ false → begins_word n ≡ false → is_zero n ≡ false → is_leading n ≡ true → Claim n text) 36 b (λ e g h i. dollar text)

@@ -1,8 +1,8 @@
 -- Reserved words are found among those of their length.
-use Rattle.std.proofs.Common.{◌≡◌, ◌≢◌, ◌==◌, ℕ, Bool, not, true, false, ◌||◌, if◌then◌else◌, List, [], ◌∷◌, length, refl, ap, ◌∙◌, eq-eqb, arith}
-use Rattle.std.proofs.lemmas.Bool.Decides.{nat_tests}
+use Rattle.std.proofs.Common.{◌≡◌, ◌≢◌, ◌==◌, ℕ, Bool, true, if◌then◌else◌, List, [], ◌∷◌, length, Option, Some, None, refl, sym, ap, ◌∙◌, eq-eqb}
 use Rattle.grammar.specs.Pieces.{Text, same}
 use Rattle.grammar.proofs.Texts.{same_equal}
+use Rattle.cutting.proofs.Tables.{look, having, found_having, is_other, other_length}
 use Rattle.cif_lex.specs.declared.token.Word.{Word}
 use Rattle.cif_lex.specs.Tokens.{find_text, reserved}
 use Rattle.cif_lex.specs.Cutting.{reserved_word}
@@ -10,21 +10,18 @@ use Rattle.cif_lex.specs.Cutting.{reserved_word}
 abbrev Table : Type 0
 Table = List (Text × Word)
 
--- the entries whose number of bytes passes a test
-abbrev having : (ℕ → Bool) → Table → Table
-having p [] = []
-having p (e ∷ es) = if p (length e.0) then e ∷ having p es else having p es
+same_length : (a b : Text) → same a b ≡ true → length a ≡ length b
+same_length a b e = ap (λ (u : Text). length u) (same_equal a b e)
 
-find_step : (p : ℕ → Bool) (e : Text × Word) (es : Table) (t : Text) (x y : Bool) → p (length e.0) ≡ x → same e.0 t ≡ y → p (length t) ≡ true
-    → find_text (having p es) t ≡ find_text es t → find_text (having p (e ∷ es)) t ≡ find_text (e ∷ es) t
-find_step p e es t true true is was h ih = rw (is, was) refl
-find_step p e es t true false is was h ih = rw (is, was) ih
-find_step p e es t false true is was h ih = absurd (let len : p (length e.0) ≡ true = ap (λ (u : Text). p (length u)) (same_equal e.0 t was) ∙ h in cc)
-find_step p e es t false false is was h ih = rw (is, was) ih
+abbrev some_word : Word → Option Word
+some_word w = Some w
+
+find_is : (table : Table) (t : Text) → find_text table t ≡ look same some_word table t None
+find_is [] t = refl
+find_is (e ∷ es) t = ap (λ (o : Option Word). if same e.0 t then Some e.1 else o) (find_is es t)
 
 find_having : (p : ℕ → Bool) (table : Table) (t : Text) → p (length t) ≡ true → find_text (having p table) t ≡ find_text table t
-find_having p [] t h = refl
-find_having p (e ∷ es) t h = find_step p e es t (p (length e.0)) (same e.0 t) refl refl h (find_having p es t h)
+find_having p table t h = find_is (having p table) t ∙ found_having same same_length some_word p table t None h ∙ sym (find_is table t)
 
 pub words_of_two : (t : Text) → length t ≡ 2 → find_text (having (λ n. n == 2) reserved) t ≡ reserved_word t
 unfolding reserved_word
@@ -45,12 +42,6 @@ words_of_five t e = find_having (λ n. n == 5) reserved t (search (eq-eqb, e))
 pub words_of_six : (t : Text) → length t ≡ 6 → find_text (having (λ n. n == 6) reserved) t ≡ reserved_word t
 unfolding reserved_word
 words_of_six t e = find_having (λ n. n == 6) reserved t (search (eq-eqb, e))
-
-abbrev is_other : ℕ → Bool
-is_other n = not (n == 2 || n == 3 || n == 4 || n == 5 || n == 6)
-
-other_length : (n : ℕ) → n ≢ 2 → n ≢ 3 → n ≢ 4 → n ≢ 5 → n ≢ 6 → is_other n ≡ true
-other_length n a b c d e = grind (arith, nat_tests)
 
 pub longer_words : (t : Text) → length t ≢ 2 → length t ≢ 3 → length t ≢ 4 → length t ≢ 5 → length t ≢ 6 → find_text (having is_other reserved) t ≡ reserved_word t
 unfolding reserved_word

@@ -3,6 +3,7 @@ use Rattle.std.specs.Prelude.{◌≡◌, ℕ, Bool, ◌&&◌, ◌==◌, nat_le, 
 use Rattle.std.specs.Option.{option_or}
 use Rattle.std.specs.Borrow.{Bor}
 use Rattle.grammar.specs.Pieces.{Text, run_of, rest_after}
+use Rattle.cutting.specs.Classes.{letter, digit, wordy}
 use Rattle.cif_lex.specs.declared.token.TokenKind.{TokenKind}
 use Rattle.cif_lex.specs.declared.token.TokenKind.TheVariants.{Id, Number, Sign}
 use Rattle.cif_lex.specs.declared.token.Word.{Word}
@@ -12,7 +13,7 @@ use Rattle.cif_lex.specs.declared.found.Fault.{Fault}
 use Rattle.cif_lex.specs.declared.found.Fault.TheVariants as f
 use Rattle.cif_lex.specs.declared.error.LexErr.{LexErr}
 use Rattle.cif_lex.specs.declared.error.LexErr.TheVariants as err
-use Rattle.grammar.specs.Bytes.{is_blank, begins_word, is_digit, is_wordy}
+use Rattle.grammar.specs.Bytes.{is_blank}
 use Rattle.cif_lex.specs.Tokens.{is_zero, is_leading, is_in_line, find_text, reserved, kind_of_word, number_of, greatest_number}
 
 -- the kind of a token, or none for a blank or a comment, and the text after it
@@ -31,13 +32,6 @@ refusal_of f.NumberTooBig at = err.NumberTooBig at
 refusal_of f.OpenComment at = err.OpenComment at
 
 -- ---- words and numbers
-
--- each test as one
-unfoldable pub letter : ℕ → Bool
-letter b = begins_word b
-
-unfoldable pub wordy : ℕ → Bool
-wordy b = is_wordy b
 
 unfoldable pub reserved_word : Text → Option Word
 reserved_word t = find_text reserved t
@@ -121,6 +115,6 @@ found_of (b ∷ text) =
     else (if letter b then word_found (run_of wordy (b ∷ text))
     else (if b == 36 then escaped_found text
     else (if is_zero b then Ok (Some Number, text)
-    else (if is_leading b then number_found (run_of is_digit (b ∷ text))
+    else (if is_leading b then number_found (run_of digit (b ∷ text))
     else (if b == 47 then slash_found text
     else sign_found (sign_of b text))))))

@@ -1,22 +1,21 @@
 //! The piece at the front of a text.
 
-ghost use Rattle.std.specs.Prelude.{◌≡◌};
-ghost use Rattle.grammar.specs.Bytes as bytes;
 ghost use Rattle.grammar.specs.Pieces.{run_of};
-ghost use Rattle.cif_lex.specs.Cutting as cutting;
+ghost use Rattle.cutting.specs.Classes.{digit, wordy};
+ghost use Rattle.cif_lex.specs.Cutting as found;
 ghost use Rattle.cif_lex.specs.Cutting.{Finds};
 
 use crate::comments::comment_at;
 use crate::found::{Fault, Found};
 use crate::numbers::is_small;
-use crate::runs::{begins_word, is_blank, split_number, split_word};
 use crate::signs::sign_at;
 use crate::token::TokenKind;
 use crate::words::reserved_word;
+use cutting::{begins_word, is_blank, split_number, split_word};
 
 /// The word at the front.
 fn word_at(text: &[u8]) -> Found<'_>
-    ensures { Finds result (cutting.word_found (run_of cutting.wordy text.now)) }
+    ensures { Finds result (found.word_found (run_of wordy text.now)) }
 {
     let (word, rest) = split_word(text);
     let kind = match reserved_word(word) {
@@ -29,7 +28,7 @@ fn word_at(text: &[u8]) -> Found<'_>
 /// The word after a `$`.
 #[tactic(auto, unfolding(crate::specs::Cutting::escaped_found))]
 fn escaped_at(text: &[u8]) -> Found<'_>
-    ensures { Finds result (cutting.escaped_found text.now) }
+    ensures { Finds result (found.escaped_found text.now) }
 {
     match text {
         [byte, ..] if begins_word(*byte) => Ok((Some(TokenKind::Id), split_word(text).1)),
@@ -39,7 +38,7 @@ fn escaped_at(text: &[u8]) -> Found<'_>
 
 /// The number of one digit or more at the front, where that isn't 0.
 fn number_at(text: &[u8]) -> Found<'_>
-    ensures { Finds result (cutting.number_found (run_of bytes.is_digit text.now)) }
+    ensures { Finds result (found.number_found (run_of digit text.now)) }
 {
     let (digits, rest) = split_number(text);
     if is_small(digits) {
@@ -51,7 +50,7 @@ fn number_at(text: &[u8]) -> Found<'_>
 
 /// The sign that begins with a byte, of which `rest` has all but that.
 fn sign_found(byte: u8, rest: &[u8]) -> Found<'_>
-    ensures { Finds result (cutting.sign_found (cutting.sign_of byte rest.now)) }
+    ensures { Finds result (found.sign_found (found.sign_of byte rest.now)) }
 {
     match sign_at(byte, rest) {
         Some((mark, rest)) => Ok((Some(TokenKind::Sign(mark)), rest)),
@@ -62,7 +61,7 @@ fn sign_found(byte: u8, rest: &[u8]) -> Found<'_>
 /// The piece at the front.
 #[tactic(auto, unfolding(crate::specs::Cutting::found_of))]
 pub fn front(text: &[u8]) -> Found<'_>
-    ensures { Finds result (cutting.found_of text.now) }
+    ensures { Finds result (found.found_of text.now) }
 {
     let [byte, rest @ ..] = text else {
         return Err(Fault::BadByte);

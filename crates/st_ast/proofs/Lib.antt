@@ -1,3 +1,4 @@
+pub mod NameLaws
 pub mod Rows
 pub mod Runs
 mod SpelledRows

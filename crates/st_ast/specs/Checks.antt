@@ -4,6 +4,7 @@ use Rattle.std.specs.Prelude.{ℕ, suc, ◌+◌, int_le, Bool, true, false, not,
 use Rattle.std.specs.List.{list_any}
 use Rattle.st_ast.specs.Names.{same_name, declared}
 use Rattle.st_ast.specs.Tree.{Expr, Exprs, Factors, Terms, truth, number, named, paren, negation, complement, product, sum, order, equal, all_of, odd_of, any_of, absolute, least, greatest, selection, no_exprs, exprs, no_factors, factors, no_terms, terms, Stm, Stms, Branches, Other, assign, choice, loop, no_stms, stms, no_branches, branches, no_other, other, Program}
+use Rattle.st_ast.specs.Values.{is_between}
 use Rattle.st_ast.specs.declared.tree.StVar.{StVar}
 use Rattle.st_ast.specs.declared.tree.StTy.{StTy}
 use Rattle.st_ast.specs.declared.tree.StTy.TheVariants as ty
@@ -37,7 +38,7 @@ is_type (ty.Range lo hi) = int_le lo hi
 abbrev pub has_type : StTy → StLit → Bool
 has_type ty.Bool (lit.Bool b) = true
 has_type ty.Lint (lit.Int z) = true
-has_type (ty.Range lo hi) (lit.Int z) = int_le lo z && int_le z hi
+has_type (ty.Range lo hi) (lit.Int z) = is_between lo hi z
 has_type ty.Bool (lit.Int z) = false
 has_type ty.Lint (lit.Bool b) = false
 has_type (ty.Range lo hi) (lit.Bool b) = false

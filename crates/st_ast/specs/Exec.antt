@@ -1,9 +1,9 @@
 -- What statements do (IEC 61131-3, "Statements"): they end with a memory and the turns that are left, with a fault, or out
 -- of turns. Each execution of the body of a WHILE takes one of the turns.
-use Rattle.std.specs.Prelude.{ℕ, zero, suc, ℤ, int_le, Bool, true, ◌&&◌, List, Result, Option, Some, None, slice_get, slice_set, if◌then◌else◌}
+use Rattle.std.specs.Prelude.{ℕ, zero, suc, ℤ, Bool, true, List, Result, Option, Some, None, slice_get, slice_set, if◌then◌else◌}
 use Rattle.st_ast.specs.Names.{place_of}
 use Rattle.st_ast.specs.Tree.{Stm, Stms, Branches, Other, assign, choice, loop, no_stms, stms, no_branches, branches, no_other, other}
-use Rattle.st_ast.specs.Values.{Fault, subrange_left, Memory, is_true, with_value, value_of}
+use Rattle.st_ast.specs.Values.{Fault, subrange_left, Memory, is_true, is_between, with_value, value_of}
 use Rattle.st_ast.specs.declared.tree.StVar.{StVar}
 use Rattle.st_ast.specs.declared.tree.StTy.{StTy}
 use Rattle.st_ast.specs.declared.tree.StTy.TheVariants as ty
@@ -25,7 +25,7 @@ and_then OutOfTurns next = OutOfTurns
 abbrev pub is_within : StTy → ℤ → Bool
 is_within ty.Bool v = true
 is_within ty.Lint v = true
-is_within (ty.Range lo hi) v = int_le lo v && int_le v hi
+is_within (ty.Range lo hi) v = is_between lo hi v
 
 abbrev pub type_of : Option StVar → StTy
 type_of None = ty.Lint

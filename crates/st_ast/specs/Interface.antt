@@ -1,8 +1,8 @@
 -- What a program takes and what it shows: its inputs and outputs, in the order of declaration, and the numbers that a
 -- variable of a type holds.
-use Rattle.std.specs.Prelude.{ℕ, suc, ◌-◌, ◌^◌, ℤ, pos, negsuc, int_le, Bool, IsTrue, true, false, ◌&&◌, List, [], ◌∷◌, filter, if◌then◌else◌}
+use Rattle.std.specs.Prelude.{ℕ, suc, ◌-◌, ◌^◌, ℤ, pos, negsuc, Bool, IsTrue, true, false, List, [], ◌∷◌, filter, if◌then◌else◌}
 use Rattle.std.specs.List.{AllZip}
-use Rattle.st_ast.specs.Values.{Memory}
+use Rattle.st_ast.specs.Values.{Memory, is_between}
 use Rattle.st_ast.specs.declared.tree.StVar.{StVar}
 use Rattle.st_ast.specs.declared.tree.StTy.{StTy}
 use Rattle.st_ast.specs.declared.tree.StTy.TheVariants as ty
@@ -53,7 +53,7 @@ highest (ty.Range lo hi) = hi
 
 -- whether a number is one of a type
 abbrev pub is_of_type : StTy → ℤ → Bool
-is_of_type t z = int_le (lowest t) z && int_le z (highest t)
+is_of_type t z = is_between (lowest t) (highest t) z
 
 -- each variable has a number of its type
 abbrev pub AreOfTypes : List StVar → List ℤ → Type 0

@@ -1,6 +1,6 @@
 -- A scan of a program: the inputs take over a row, and the statements are executed once with 1,000,000 loop turns
 -- (IEC 61131-3, "Programs" and "Variables"). And scans one after another, from the memory of the declarations on.
-use Rattle.std.specs.Prelude.{ℕ, ℤ, pos, Bool, List, [], ◌∷◌, map, Option, Some, None, if◌then◌else◌}
+use Rattle.std.specs.Prelude.{ℕ, ℤ, pos, List, [], ◌∷◌, map, Option, Some, None, if◌then◌else◌}
 use Rattle.st_ast.specs.Tree.{Program}
 use Rattle.st_ast.specs.Values.{Memory, of_bool}
 use Rattle.st_ast.specs.Exec.{Outcome, Ended, Faulted, OutOfTurns, exec}

@@ -44,6 +44,10 @@ checked width z = if fits width z then Ok z else Err overflow
 abbrev pub number_value : ℕ → ℤ → Result ℤ Fault
 number_value width z = if nat_le 64 width then Ok z else checked width z
 
+-- whether a number is one from the first limit to the second
+abbrev pub is_between : ℤ → ℤ → ℤ → Bool
+is_between lo hi z = int_le lo z && int_le z hi
+
 abbrev pub same_number : ℤ → ℤ → Bool
 same_number (pos a) (pos b) = nat_eq a b
 same_number (pos a) (negsuc b) = false

@@ -1,6 +1,7 @@
 //! The trees of Structured Text programs (IEC 61131-3), and in `specs/` their grammar, their checks and what they mean.
 #![tactic(auto)]
 
+mod copying;
 mod kinds;
 mod tree;
 

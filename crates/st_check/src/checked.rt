@@ -5,6 +5,8 @@ ghost use Rattle.st_ast.specs.Checks.{check_faults, stms_count};
 ghost use Rattle.st_ast.specs.Interface.{is_output, numbers_of, is_input};
 ghost use Rattle.st_ast.specs.View.{view, view_stmts};
 ghost use Rattle.st_check.specs.Told.{IsFirst, IsPlace};
+ghost use Rattle.st_place.specs.PlacedView.{stmts_view};
+ghost use Rattle.st_place.specs.Placing.{placed_stms};
 
 use crate::error::StCheckErr;
 use crate::names::Names;
@@ -12,15 +14,19 @@ use crate::rows::{Row, numbers};
 use crate::scope::Scope;
 use crate::statements::check_body;
 use crate::variables::check_variables;
-use cif_base::Memory;
+use cif_base::{Items, Memory};
 use st_ast::Program;
+use st_place::PlacedStmt;
 use std::alloc::Global;
 use std::marker::Model;
 
-/// A program that breaks no check, with the numbers of its inputs and outputs, and its variables by their names.
+/// A program that breaks no check, with its statements placed, the numbers of its inputs and outputs, and its variables by
+/// their names.
 #[derive(Drop)]
 pub struct Checked {
     program: Program,
+    // the statements of the program with its names resolved
+    body: Items<PlacedStmt>,
     inputs: Vec<u32>,
     outputs: Vec<u32>,
     names: Names,
@@ -35,6 +41,8 @@ impl Model for Checked {
     ghost use Rattle.st_ast.specs.declared.tree.Program.{Program};
     ghost use Rattle.st_ast.specs.contracts.tree.Stmt as statement;
     ghost use Rattle.st_check.specs.Keys.{keys_of};
+    ghost use Rattle.st_place.specs.PlacedView.{stmts_view};
+    ghost use Rattle.st_place.specs.Placing.{placed_stms};
 
     ghost Value = { Program };
 
@@ -44,6 +52,7 @@ impl Model for Checked {
 
     ghost invariant = { λ c. (length c.program.vars < 2 ^ 32)
         × (check_faults (tree.view c.program) ≡ [])
+        × (stmts_view c.body ≡ placed_stms c.program.vars (tree.view_stmts c.program.body))
         × (c.inputs.items ≡ numbers_of is_input 0 c.program.vars)
         × (c.outputs.items ≡ numbers_of is_output 0 c.program.vars)
         × (c.names ≡ keys_of c.program.vars) };
@@ -57,6 +66,13 @@ impl Checked {
         ensures checked { check_faults (view self.now) ≡ [] }
     {
         &self.program
+    }
+
+    /// The statements of the program with its names resolved.
+    pub fn placed_body(&self) -> &[PlacedStmt]
+        ensures { stmts_view result.now ≡ placed_stms self.now.vars (view_stmts self.now.body) }
+    {
+        self.body.as_slice()
     }
 
     /// The numbers of the inputs, in the order of declaration.
@@ -81,11 +97,7 @@ impl Checked {
     pub fn find(&self, alloc: Global, name: &[u8]) -> Result<Option<u32>, Memory>
         ensures { IfOk result (λ found. IsPlace self.now.vars name.now found) }
     {
-        let scope = Scope::new(self.program.vars.as_slice(), &self.names);
-        match scope.place(alloc, name)? {
-            Some(place) => Ok(Some(place as u32)),
-            None => Ok(None),
-        }
+        Scope::new(self.program.vars.as_slice(), &self.names).find(alloc, name)
     }
 }
 
@@ -99,11 +111,14 @@ pub fn check_program(alloc: Global, program: Program) -> Result<Checked, StCheck
 {
     let vars = program.vars.as_slice();
     let names = check_variables(alloc, vars)?;
-    check_body(alloc, &Scope::new(vars, &names), program.body.as_slice(), 0)?;
+    let mut body = Vec::with_capacity(alloc, program.body.len())?;
+    let scope = Scope::new(vars, &names);
+    check_body(alloc, &scope, program.body.as_slice(), 0, &mut body)?;
     let inputs = numbers(alloc, Row::Inputs, vars)?;
     let outputs = numbers(alloc, Row::Outputs, vars)?;
     Ok(Checked {
         program,
+        body: Items::from_vec(body),
         inputs,
         outputs,
         names,

@@ -4,7 +4,7 @@ ghost use Rattle.std.specs.Prelude.{◌≡◌};
 ghost use Rattle.st_check.specs.declared.error.StCheckErr.TheVariants.{Memory as no_memory};
 
 use cif_base::Memory;
-use std::alloc::AllocFailed;
+use std::alloc::{AllocError, AllocFailed};
 
 /// The first check that a program breaks, with the number of a statement, in the order of first words, or of a variable, in
 /// the order of declaration, each from 0; or memory ran out.
@@ -27,6 +27,14 @@ impl From<Memory> for StCheckErr {
     ghost from_gives = { λ _ e. e ≡ no_memory };
 
     fn from(_error: Memory) -> StCheckErr {
+        StCheckErr::Memory
+    }
+}
+
+impl From<AllocError> for StCheckErr {
+    ghost from_gives = { λ _ e. e ≡ no_memory };
+
+    fn from(_error: AllocError) -> StCheckErr {
         StCheckErr::Memory
     }
 }

@@ -5,6 +5,7 @@
 mod checked;
 mod error;
 mod names;
+mod placing;
 mod rows;
 mod scope;
 mod sorts;

@@ -1,14 +1,16 @@
-//! The names and the sorts of expressions.
+//! The sorts of expressions, and whether their names are declared.
 
-ghost use Rattle.std.specs.Prelude.{◌≡◌, ◌&&◌, IfOk, if◌then◌else◌};
+ghost use Rattle.std.specs.Prelude.{◌≡◌, ◌&&◌, IfOk, if◌then◌else◌, option_map, slice_get};
 ghost use Rattle.st_ast.specs.Checks as checks;
-ghost use Rattle.st_ast.specs.Tree.{named};
 ghost use Rattle.st_ast.specs.View.{view_expr, view_exprs, view_factors, view_terms};
+ghost use Rattle.st_ast.specs.declared.tree.StVar.{StVar};
+ghost use Rattle.st_check.specs.Operations.{single_sort, pair_sort};
 ghost use Rattle.st_check.specs.Sorts.{sort_told, told};
 
 use crate::scope::Scope;
 use cif_base::Memory;
 use st_ast::{StExpr, StFactor, StTerm, StTy};
+use st_place::{Pairing, Single};
 use std::alloc::Global;
 
 /// What an expression is.
@@ -35,7 +37,7 @@ pub fn is_boolean(sort: Option<Sort>) -> bool
     matches!(sort, Some(Sort::Boolean))
 }
 
-fn is_integer(sort: Option<Sort>) -> bool
+pub fn is_integer(sort: Option<Sort>) -> bool
     ensures { result ≡ checks.is_integer (sort_told sort) }
 {
     matches!(sort, Some(Sort::Integer))
@@ -51,35 +53,73 @@ pub fn is_same(left: Option<Sort>, right: Option<Sort>) -> bool
     }
 }
 
-fn given(holds: bool, sort: Sort) -> Option<Sort>
+pub fn given(holds: bool, sort: Sort) -> Option<Sort>
     ensures { sort_told result ≡ checks.given holds (told sort) }
 {
     if holds { Some(sort) } else { None }
 }
 
-/// The sort of an operation on an integer that gives one.
-fn as_integer(operand: Option<Sort>) -> Option<Sort>
-    ensures { sort_told result ≡ checks.given (checks.is_integer (sort_told operand)) checks.integer }
+/// Whether the operands so far and one more are as asked.
+pub fn both(so_far: bool, next: bool) -> bool
+    ensures { result ≡ (so_far && next) }
 {
-    given(is_integer(operand), Sort::Integer)
+    so_far & next
 }
 
-/// The sort of an operation on a BOOL that gives one.
-fn as_boolean(operand: Option<Sort>) -> Option<Sort>
-    ensures { sort_told result ≡ checks.given (checks.is_boolean (sort_told operand)) checks.boolean }
+/// The sort of an operation on one operand.
+pub fn sort_of_single(op: Single, operand: Option<Sort>) -> Option<Sort>
+    ensures { sort_told result ≡ single_sort op (sort_told operand) }
 {
-    given(is_boolean(operand), Sort::Boolean)
+    match op {
+        Single::Minus => given(is_integer(operand), Sort::Integer),
+        Single::Not => given(is_boolean(operand), Sort::Boolean),
+        Single::Absolute => given(is_integer(operand), Sort::Integer),
+    }
+}
+
+/// The sort of a sum or a product, of whose operands after the first it is told whether they are integers.
+pub fn sort_of_integers(first: Option<Sort>, rest: bool) -> Option<Sort>
+    ensures { sort_told result ≡ checks.given (checks.is_integer (sort_told first) && rest) checks.integer }
+{
+    given(both(is_integer(first), rest), Sort::Integer)
+}
+
+/// The sort of two operands with what stands between them.
+pub fn sort_of_pair(pairing: Pairing, first: Option<Sort>, second: Option<Sort>) -> Option<Sort>
+    ensures { sort_told result ≡ pair_sort pairing (sort_told first) (sort_told second) }
+{
+    let integers = both(is_integer(first), is_integer(second));
+    match pairing {
+        Pairing::Order(_) => given(integers, Sort::Boolean),
+        Pairing::Equality(_) => given(is_same(first, second), Sort::Boolean),
+        Pairing::Smaller => given(integers, Sort::Integer),
+        Pairing::Larger => given(integers, Sort::Integer),
+    }
 }
 
 /// The sort of SEL.
-fn selected(condition: Option<Sort>, otherwise: Option<Sort>, chosen: Option<Sort>) -> Option<Sort>
+pub fn sort_of_selection(
+    condition: Option<Sort>,
+    otherwise: Option<Sort>,
+    chosen: Option<Sort>,
+) -> Option<Sort>
     ensures { sort_told result ≡ (if checks.is_boolean (sort_told condition) && checks.is_same_sort (sort_told otherwise) (sort_told chosen)
         then sort_told otherwise else None) }
 {
-    if is_boolean(condition) && is_same(otherwise, chosen) {
+    if both(is_boolean(condition), is_same(otherwise, chosen)) {
         otherwise
     } else {
         None
+    }
+}
+
+/// The sort of the variable at a place.
+pub fn sort_at(scope: &Scope, place: u32) -> Option<Sort>
+    ensures { sort_told result ≡ option_map (λ (v : StVar). checks.sort_of_type v.ty) (slice_get scope.now place) }
+{
+    match scope.at(place) {
+        Some(var) => Some(sort_of_type(var.ty)),
+        None => None,
     }
 }
 
@@ -91,7 +131,7 @@ pub fn knows(alloc: Global, scope: &Scope, expr: &StExpr) -> Result<bool, Memory
     match expr {
         StExpr::Bool(_) => Ok(true),
         StExpr::Int(_) => Ok(true),
-        StExpr::Named(name) => Ok(scope.declared(alloc, name.as_slice())?.is_some()),
+        StExpr::Named(name) => scope.declares(alloc, name.as_slice()),
         StExpr::Paren(operand)
         | StExpr::Neg(operand)
         | StExpr::Not(operand)
@@ -152,107 +192,6 @@ fn knows_all(alloc: Global, scope: &Scope, operands: &[StExpr]) -> Result<bool, 
 {
     for operand in operands {
         if !knows(alloc, scope, operand)? {
-            return Ok(false);
-        }
-    }
-    Ok(true)
-}
-
-/// The sort of the variable with a name.
-fn sort_of_name(alloc: Global, scope: &Scope, name: &[u8]) -> Result<Option<Sort>, Memory>
-    ensures { IfOk result (λ sort. sort_told sort ≡ checks.sort_of scope.now (named name.now)) }
-{
-    match scope.declared(alloc, name)? {
-        Some(var) => Ok(Some(sort_of_type(var.ty))),
-        None => Ok(None),
-    }
-}
-
-/// The sort of an expression, where each of its operands is as asked.
-#[cycle(sorted)]
-pub fn sort_of(alloc: Global, scope: &Scope, expr: &StExpr) -> Result<Option<Sort>, Memory>
-    ensures { IfOk result (λ sort. sort_told sort ≡ checks.sort_of scope.now (view_expr expr.now)) }
-{
-    match expr {
-        StExpr::Bool(_) => Ok(Some(Sort::Boolean)),
-        StExpr::Int(_) => Ok(Some(Sort::Integer)),
-        StExpr::Named(name) => sort_of_name(alloc, scope, name.as_slice()),
-        StExpr::Paren(inner) => sort_of(alloc, scope, inner.get()),
-        StExpr::Neg(operand) | StExpr::Abs(operand) => {
-            Ok(as_integer(sort_of(alloc, scope, operand.get())?))
-        }
-        StExpr::Not(operand) => Ok(as_boolean(sort_of(alloc, scope, operand.get())?)),
-        StExpr::Product { first, rest } => {
-            let sort = sort_of(alloc, scope, first.get())?;
-            let integers = is_integer(sort) && are_integer_factors(alloc, scope, rest.as_slice())?;
-            Ok(given(integers, Sort::Integer))
-        }
-        StExpr::Sum { first, rest } => {
-            let sort = sort_of(alloc, scope, first.get())?;
-            let integers = is_integer(sort) && are_integers(alloc, scope, rest.as_slice())?;
-            Ok(given(integers, Sort::Integer))
-        }
-        StExpr::Order { left, right, .. } => {
-            let left = sort_of(alloc, scope, left.get())?;
-            let right = sort_of(alloc, scope, right.get())?;
-            Ok(given(is_integer(left) && is_integer(right), Sort::Boolean))
-        }
-        StExpr::Equal { left, right, .. } => {
-            let left = sort_of(alloc, scope, left.get())?;
-            let right = sort_of(alloc, scope, right.get())?;
-            Ok(given(is_same(left, right), Sort::Boolean))
-        }
-        StExpr::And(operands) | StExpr::Xor(operands) | StExpr::Or(operands) => {
-            let booleans = are_booleans(alloc, scope, operands.as_slice())?;
-            Ok(given(booleans, Sort::Boolean))
-        }
-        StExpr::Min(left, right) | StExpr::Max(left, right) => {
-            let left = sort_of(alloc, scope, left.get())?;
-            let right = sort_of(alloc, scope, right.get())?;
-            Ok(given(is_integer(left) && is_integer(right), Sort::Integer))
-        }
-        StExpr::Sel(condition, otherwise, chosen) => {
-            let condition = sort_of(alloc, scope, condition.get())?;
-            let otherwise = sort_of(alloc, scope, otherwise.get())?;
-            let chosen = sort_of(alloc, scope, chosen.get())?;
-            Ok(selected(condition, otherwise, chosen))
-        }
-    }
-}
-
-/// Whether each factor is an integer.
-#[cycle(sorted)]
-fn are_integer_factors(alloc: Global, scope: &Scope, factors: &[StFactor]) -> Result<bool, Memory>
-    ensures { IfOk result (λ all. all ≡ checks.all_integer_factors scope.now (view_factors factors.now)) }
-{
-    for factor in factors {
-        if !is_integer(sort_of(alloc, scope, &factor.value)?) {
-            return Ok(false);
-        }
-    }
-    Ok(true)
-}
-
-/// Whether each term is an integer.
-#[cycle(sorted)]
-fn are_integers(alloc: Global, scope: &Scope, terms: &[StTerm]) -> Result<bool, Memory>
-    ensures { IfOk result (λ all. all ≡ checks.all_integers scope.now (view_terms terms.now)) }
-{
-    for term in terms {
-        if !is_integer(sort_of(alloc, scope, &term.value)?) {
-            return Ok(false);
-        }
-    }
-    Ok(true)
-}
-
-/// Whether each operand is a BOOL.
-#[cycle(sorted)]
-fn are_booleans(alloc: Global, scope: &Scope, operands: &[StExpr]) -> Result<bool, Memory>
-    ensures { IfOk result (λ all. all ≡ checks.all_booleans scope.now (view_exprs operands.now)) }
-{
-    for operand in operands {
-        if !is_boolean(sort_of(alloc, scope, operand)?) {
             return Ok(false);
         }
     }

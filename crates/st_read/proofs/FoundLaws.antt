@@ -1,14 +1,16 @@
 -- What is found at the front of a text, said of the pieces that begin there.
-use Rattle.std.proofs.Common.{◌≡◌, ℕ, ◌<◌, Bool, true, false, nat_le, ◌∷◌, ◌++◌, Option, Some, None, Ok, Err, refl, sym, ap, subst, ◌∙◌, inl, inr, arith, leb-true, if◌then◌else◌}
-use Rattle.std.proofs.lemmas.Bool.Decides.{nat_tests}
+use Rattle.std.proofs.Common.{◌≡◌, ◌<◌, Bool, true, false, ◌∷◌, ◌++◌, Option, Some, None, Ok, Err, refl, sym, ap, subst, ◌∙◌, inl, inr, leb-true, if◌then◌else◌}
+use Rattle.std.proofs.lemmas.Bool.{leb-false}
 use Rattle.grammar.specs.Pieces.{Text, Cut, IsLongest}
 use Rattle.grammar.proofs.Cutting.{text_made}
+use Rattle.cutting.specs.Classes.{letter, digit}
+use Rattle.cutting.proofs.Fronts.{so_where_ok, not_where_err}
 use Rattle.st_ast.specs.Tokens.{Token, Piece, blank, comment, word, number, sign, signs, piece, token_of, number_of, greatest}
 use Rattle.st_lex.specs.Cutting.{piece_cut}
 use Rattle.st_lex.proofs.CuttingLaws.{piece_cuts}
 use Rattle.st_read.specs.declared.found.Fault.{Fault}
 use Rattle.st_read.specs.declared.found.Fault.TheVariants as f
-use Rattle.st_read.specs.Lexing.{Found, IsInRange, letter, digit, after_close, commented, opens, inside, front_of}
+use Rattle.st_read.specs.Lexing.{Found, IsInRange, after_close, commented, opens, inside, front_of}
 use Rattle.st_read.proofs.Fronts.{in_range, judge, judged, front_is, strict_cut, strict_cuts, cuts_strict, strict_comment, opened}
 
 -- ---- numbers in range
@@ -21,14 +23,11 @@ in_range_is (word t) e = tt
 in_range_is (number t) e = leb-true (number_of t) greatest e
 in_range_is (sign t) e = tt
 
-above : (n m : ℕ) → nat_le n m ≡ false → m < n
-above n m e = grind (arith, nat_tests)
-
 too_big_is : (p : Piece) → in_range p ≡ false → (digits : Text) × (p ≡ number digits) × (greatest < number_of digits)
 too_big_is blank e = absurd cc
 too_big_is comment e = absurd cc
 too_big_is (word t) e = absurd cc
-too_big_is (number t) e = (t, refl, above (number_of t) greatest e)
+too_big_is (number t) e = (t, refl, leb-false (number_of t) greatest e)
 too_big_is (sign t) e = absurd cc
 
 -- a number is made with its text
@@ -54,18 +53,12 @@ pub record Takes (text rest : Text) (o : Option Token) : Type 0 where
   pub no_sign : (more : Text) → text ≡ 40 ∷ 42 ∷ more → taken ≡ comment
 
 judge_ok : (p : Piece) (rest more : Text) (o : Option Token) → judge p rest ≡ Ok (o, more) → (in_range p ≡ true) × (token_of p ≡ o) × (rest ≡ more)
-judge_ok p rest more o e = go (in_range p) refl e
-  where
-    go : (x : Bool) → in_range p ≡ x → (let r : Found = if x then Ok (token_of p, rest) else Err f.NumberTooBig in r) ≡ Ok (o, more) → (in_range p ≡ true) × (token_of p ≡ o) × (rest ≡ more)
-    go true is g = let pair : (token_of p, rest) ≡ (o, more) = cc in (is, ap (λ (q : Option Token × Text). q.0) pair, ap (λ (q : Option Token × Text). q.1) pair)
-    go false is g = absurd cc
+judge_ok p rest more o e =
+    let m = so_where_ok (in_range p) (token_of p, rest) (o, more) f.NumberTooBig e in
+    (m.0, ap (λ (q : Option Token × Text). q.0) m.1, ap (λ (q : Option Token × Text). q.1) m.1)
 
 judge_err : (p : Piece) (rest : Text) (e : Fault) → judge p rest ≡ Err e → (in_range p ≡ false) × (e ≡ f.NumberTooBig)
-judge_err p rest e h = go (in_range p) refl h
-  where
-    go : (x : Bool) → in_range p ≡ x → (let r : Found = if x then Ok (token_of p, rest) else Err f.NumberTooBig in r) ≡ Err e → (in_range p ≡ false) × (e ≡ f.NumberTooBig)
-    go true is g = absurd cc
-    go false is g = (is, cc)
+judge_err p rest e h = not_where_err (in_range p) (token_of p, rest) f.NumberTooBig e h
 
 pub takes : (text rest : Text) (o : Option Token) → front_of text ≡ Ok (o, rest) → Takes text rest o
 takes text rest o e = go (strict_cut text) refl (sym (front_is text) ∙ e)

@@ -7,10 +7,12 @@ use Rattle.grammar.proofs.Texts.{same_equal}
 use Rattle.grammar.proofs.Cutting.{text_made}
 use Rattle.grammar.proofs.Closing.{rest_of, close_is}
 use Rattle.grammar.specs.Bytes.{is_blank, begins_word, is_digit, is_wordy, none_of}
+use Rattle.cutting.specs.Classes.{letter, digit, wordy}
+use Rattle.cutting.proofs.Fronts.{none_run}
 use Rattle.st_ast.specs.Tokens.{Piece, blank, comment, word, number, sign, signs, token_of, piece, is_sign, number_of, greatest}
 use Rattle.st_lex.specs.Cutting.{first_cut, piece_cut}
 use Rattle.st_read.specs.declared.found.Fault.TheVariants as f
-use Rattle.st_read.specs.Lexing.{Found, letter, wordy, digit, is_reserved, other_kind, word_kind, sign_kind, value_in, numbered, after_close, commented, with_sign, sign_in, sign_of, signed, opens, inside, front_of}
+use Rattle.st_read.specs.Lexing.{Found, is_reserved, other_kind, word_kind, sign_kind, value_in, numbered, after_close, commented, with_sign, sign_in, sign_of, signed, opens, inside, front_of}
 
 -- ---- cutting that stops at a comment that isn't closed
 
@@ -68,10 +70,6 @@ judge p rest = if in_range p then Ok (token_of p, rest) else Err f.NumberTooBig
 abbrev pub judged : Bool → Option (Cut Piece) → Found
 judged comes None = if comes then Err f.OpenComment else Err f.BadByte
 judged comes (Some k) = judge k.piece k.rest
-
-none_run : (text : Text) → run_of none_of text ≡ ([], text)
-none_run [] = refl
-none_run (b ∷ text) = refl
 
 comment_of : (o : Option (Text × Text)) → Option (Cut Piece)
 comment_of None = None

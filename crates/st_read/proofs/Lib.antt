@@ -3,6 +3,7 @@ pub mod Agrees
 pub mod Whole
 pub mod Literals
 pub mod SeenLoops
+pub mod Conditionals
 pub mod Others
 pub mod Fronts
 pub mod FoundLaws
@@ -14,6 +15,7 @@ pub mod Numbers
 pub mod Signs
 pub mod Made
 pub mod WordLaws
+pub mod Identifiers
 pub mod Told
 pub mod ProperTokens
 pub mod Spellings

@@ -1,5 +1,5 @@
 -- The tokens of a text by the places where they begin.
-use Rattle.std.proofs.Common.{◌≡◌, ℕ, suc, ◌+◌, ◌-◌, ◌≤◌, ◌<◌, ◌==◌, Bool, true, false, not, if◌then◌else◌, List, [], ◌∷◌, ◌++◌, length, get_or, take, drop, All, Option, Some, None, Ok, Err, Result, refl, sym, ap, subst, ◌∙◌, append_assoc, nat_le, leb-true, arith}
+use Rattle.std.proofs.Common.{◌≡◌, ℕ, suc, ◌+◌, ◌-◌, ◌≤◌, ◌<◌, ◌==◌, min, Bool, true, false, not, if◌then◌else◌, List, [], ◌∷◌, ◌++◌, length, get_or, take, drop, All, Option, Some, None, Ok, Err, Result, refl, sym, ap, subst, ◌∙◌, append_assoc, nat_le, leb-true, arith}
 use Rattle.std.specs.Prelude.{IsTrue, ◌↔◌, position, unwrap_or}
 use Rattle.std.proofs.Math.Seq.{drop-append_seam}
 use Rattle.std.proofs.Math.ListN.{drop_of_length-le}
@@ -12,13 +12,14 @@ use Rattle.grammar.specs.Lang.{has}
 use Rattle.grammar.specs.Pieces.{Text, Begun, run_of}
 use Rattle.grammar.specs.Reader.{starts, one_at}
 use Rattle.grammar.proofs.Runs.{run_is, first_within}
+use Rattle.cutting.specs.Classes.{letter, digit, wordy}
 use Rattle.st_ast.specs.Grammar.{code, sort}
 use Rattle.st_ast.specs.Tokens.{Token, Piece, piece, number_of, greatest}
 use Rattle.st_ast.specs.declared.kinds.TokenKind.{TokenKind}
 use Rattle.st_ast.specs.declared.kinds.TokenKind.TheVariants as kinds
 use Rattle.st_read.specs.declared.found.Fault.{Fault}
 use Rattle.st_read.specs.declared.marks.Mark.{Mark}
-use Rattle.st_read.specs.Lexing.{Found, kind_found, letter, wordy, digit, worded, value_in, with_value, numbered, after_close, commented, sign_of, signed, opens, inside, front_of, Lexes}
+use Rattle.st_read.specs.Lexing.{Found, kind_found, worded, value_in, with_value, numbered, after_close, commented, sign_of, signed, opens, inside, front_of, Lexes}
 use Rattle.st_read.specs.Marks.{after_blanks, found_token, token_at, token_of, tokens_of, IsMark}
 use Rattle.st_read.specs.Reading.{next_kind}
 use Rattle.st_read.proofs.LexSteps.{Taken, taken_token, taken_skip, taken_none, taken_all, left_shorter}
@@ -155,6 +156,10 @@ pub name_spelled : (text rest word left : Text) (at : ℕ) → rest ≡ drop at 
 unfolding token_at
 name_spelled text rest word left at is run e =
     sym (ap (λ (w : Text × Text). w.0) run) ∙ ap (λ (u : Text). (run_of wordy u).0) is ∙ ap (λ (w : Text × Text). w.0) (spelled_front (drop at text) e)
+
+-- what a mark says is the length, unless it is the most that a mark can say
+pub marked_short : (n m : ℕ) → m ≡ min n 65535 → m < 65535 → m ≡ n
+marked_short n m is short = omega (arith, is)
 
 -- ---- the marks of the tokens so far
 

@@ -1,5 +1,6 @@
 -- What a reader of the code ensures: what reading the list gives, unless memory runs out.
-use Rattle.std.specs.Prelude.{◌≡◌, Option, Some, None, Result, MatchResult}
+use Rattle.std.specs.Prelude.{◌≡◌, List, [], ◌∷◌, ◌++◌, Option, Some, None, Result, MatchResult}
+use Rattle.grammar.specs.Reader.{Read}
 use Rattle.st_read.specs.declared.error.Stop.{Stop}
 use Rattle.st_read.specs.declared.error.Stop.TheVariants.{NoMemory, NotTaken}
 
@@ -9,3 +10,8 @@ Fails (NotTaken left) read = read ≡ None
 
 abbrev pub Gives : {X Y : Type 0} → (X → Y) → Result X Stop → Option Y → Type 0
 Gives view result read = MatchResult result (λ x. read ≡ Some (view x)) (λ e. Fails e read)
+
+-- what is read goes behind a list
+abbrev pub onto : {T A : Type 0} → List A → Read T A → Read T (List A)
+onto front None = None
+onto front (Some p) = Some (front ++ p.0 ∷ [], p.1)

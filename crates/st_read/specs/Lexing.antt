@@ -3,7 +3,8 @@ use Rattle.std.specs.Prelude.{◌≡◌, ℕ, ◌≤◌, ◌==◌, ◌&&◌, Boo
 use Rattle.std.specs.List.{list_any}
 use Rattle.grammar.specs.Pieces.{Text, run_of, strip, rest_after}
 use Rattle.st_ast.specs.Names.{same_name}
-use Rattle.grammar.specs.Bytes.{is_blank, begins_word, is_digit, is_wordy}
+use Rattle.grammar.specs.Bytes.{is_blank}
+use Rattle.cutting.specs.Classes.{letter, digit, wordy}
 use Rattle.st_ast.specs.Tokens.{Token, Piece, blank, comment, word, number, sign, Tokens, signs, keywords, reserved, in_table, is_identifier, number_of, greatest, kind_of_sign}
 use Rattle.st_ast.specs.declared.kinds.TokenKind.{TokenKind}
 use Rattle.st_ast.specs.declared.kinds.TokenKind.TheVariants as kinds
@@ -37,16 +38,6 @@ abbrev pub refusal_of : Fault → ℕ → StErr
 refusal_of f.BadByte at = err.StBadByte at
 refusal_of f.NumberTooBig at = err.StNumberTooBig at
 refusal_of f.OpenComment at = err.StOpenComment at
-
--- the tests of bytes, each as one word
-unfoldable pub letter : ℕ → Bool
-letter b = begins_word b
-
-unfoldable pub wordy : ℕ → Bool
-wordy b = is_wordy b
-
-unfoldable pub digit : ℕ → Bool
-digit b = is_digit b
 
 unfoldable pub is_reserved : Text → Bool
 is_reserved w = list_any (λ r. same_name r w) reserved

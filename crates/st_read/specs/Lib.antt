@@ -2,7 +2,7 @@ pub mod Reading
 pub mod Operands
 pub mod Gives
 pub mod ReadsUnary
-pub mod ReadsStatement
+pub mod ReadsStatements
 pub mod Lexing
 pub mod Told
 pub mod Marks

@@ -1,8 +1,9 @@
 //! A text as its tokens.
 
-ghost use Rattle.std.specs.Prelude.{◌≡◌, ◌<◌, ◌≤◌, map, length, option_map, All, IfOk, IfErr};
+ghost use Rattle.std.specs.Prelude.{◌≡◌, ◌≤◌, min, map, length, option_map, All, IfOk, IfErr};
 ghost use Rattle.std.specs.Option.{option_copied};
 ghost use Rattle.grammar.specs.Pieces.{run_of, strip};
+ghost use Rattle.cutting.specs.Classes.{digit, wordy};
 ghost use Rattle.st_ast.specs.Tokens as k;
 ghost use Rattle.st_read.specs.Lexing as lexing;
 ghost use Rattle.st_read.specs.Lexing.{Finds, Lexes, refusal_of};
@@ -12,9 +13,9 @@ ghost use Rattle.st_read.specs.Refusals.{RefusalDue};
 use crate::error::StErr;
 use crate::found::{Fault, Found};
 use crate::marks::Mark;
-use crate::runs::{split_number, split_word};
-use crate::words::{begins_word, is_blank, is_digit, kind_of_word, value_of};
+use crate::words::{kind_of_word, value_of};
 use cif_base::Items;
+use cutting::{after_pair, begins_word, is_blank, is_digit, split_number, split_word};
 use st_ast::TokenKind;
 use std::alloc::Global;
 
@@ -77,7 +78,7 @@ static SIGNS: [Sign; 18] = [
 
 /// The word at the front.
 fn word(text: &[u8]) -> Found<'_>
-    ensures { Finds (λ x. (x.0, x.1.now)) result (lexing.worded (run_of lexing.wordy text.now)) }
+    ensures { Finds (λ x. (x.0, x.1.now)) result (lexing.worded (run_of wordy text.now)) }
 {
     let (word, rest) = split_word(text);
     Ok((Some(kind_of_word(word)), rest))
@@ -86,34 +87,12 @@ fn word(text: &[u8]) -> Found<'_>
 /// The digits at the front.
 #[tactic(auto, unfolding(crate::specs::Lexing::value_in))]
 fn number(text: &[u8]) -> Found<'_>
-    ensures { Finds (λ x. (x.0, x.1.now)) result (lexing.numbered (run_of lexing.digit text.now)) }
+    ensures { Finds (λ x. (x.0, x.1.now)) result (lexing.numbered (run_of digit text.now)) }
 {
     let (digits, rest) = split_number(text);
     match value_of(digits) {
         Some(_value) => Ok((Some(TokenKind::Literal), rest)),
         None => Err(Fault::NumberTooBig),
-    }
-}
-
-/// What follows the first `*)`.
-#[tactic(auto, unfolding(grammar::specs::Pieces::rest_after))]
-fn after_close(text: &[u8]) -> Option<&[u8]>
-    ensures { option_copied result ≡ lexing.after_close text.now }
-{
-    let mut rest = text;
-    loop {
-        match rest {
-            [] => return None,
-            [one, left @ ..] => match left {
-                [] => return None,
-                [two, more @ ..] => {
-                    if *one == b'*' && *two == b')' {
-                        return Some(more);
-                    }
-                    rest = left;
-                }
-            },
-        }
     }
 }
 
@@ -192,7 +171,7 @@ fn sign(text: &[u8]) -> Found<'_>
 fn comment(text: &[u8]) -> Found<'_>
     ensures { Finds (λ x. (x.0, x.1.now)) result (lexing.commented (lexing.after_close text.now)) }
 {
-    match after_close(text) {
+    match after_pair(text, b'*', b')') {
         Some(rest) => Ok((None, rest)),
         None => Err(Fault::OpenComment),
     }
@@ -238,9 +217,9 @@ fn without_blanks(text: &[u8]) -> &[u8]
     }
 }
 
-/// How long a mark says that a token is.
+/// How long a mark says that a token is: `u16::MAX` for one of so many bytes or more.
 fn marked_length(length: usize) -> u16
-    ensures { result < 65535 → result ≡ length }
+    ensures { result ≡ min length 65535 }
 {
     if length < usize::from(u16::MAX) {
         length as u16

@@ -12,7 +12,6 @@ mod marks;
 mod names;
 mod operands;
 mod program;
-mod runs;
 mod statements;
 mod texts;
 mod tokens;

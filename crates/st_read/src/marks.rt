@@ -4,8 +4,8 @@ ghost use Rattle.std.specs.Prelude.{◌≡◌, ◌≤◌, drop};
 ghost use Rattle.st_ast.specs.Tokens.{number_of, greatest};
 ghost use Rattle.st_read.specs.Marks.{IsMark, token_of};
 
-use crate::runs::{split_number, split_word};
 use crate::words::value_of;
+use cutting::{split_number, split_word};
 use st_ast::TokenKind;
 use std::marker::Model;
 

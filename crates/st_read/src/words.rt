@@ -1,7 +1,6 @@
-//! Bytes, and the kinds of words, signs and numbers.
+//! The kinds of words, and the numbers that digits stand for.
 
-ghost use Rattle.std.specs.Prelude.{◌≡◌, ◌≤◌, map, Some, None, nat_le, if◌then◌else◌, option_map, unwrap_or};
-ghost use Rattle.grammar.specs.Bytes as bytes;
+ghost use Rattle.std.specs.Prelude.{◌≡◌, ◌≤◌, ◌==◌, map, position, unwrap_or, length};
 ghost use Rattle.st_ast.specs.Names as names;
 ghost use Rattle.st_ast.specs.Tokens as tokens;
 ghost use Rattle.st_read.specs.Lexing as lexing;
@@ -85,33 +84,6 @@ static LONGER: [Entry; 12] = [
 /// The greatest number of a program.
 const GREATEST: u128 = 9_223_372_036_854_775_807;
 
-pub fn is_blank(byte: u8) -> bool
-    ensures { result ≡ bytes.is_blank byte }
-{
-    byte == b' ' || byte == b'\t' || byte == b'\n' || byte == b'\r'
-}
-
-#[tactic(auto, unfolding(crate::specs::Lexing::letter))]
-pub fn begins_word(byte: u8) -> bool
-    ensures { result ≡ lexing.letter byte }
-{
-    byte.is_ascii_uppercase() || byte.is_ascii_lowercase() || byte == b'_'
-}
-
-#[tactic(auto, unfolding(crate::specs::Lexing::digit))]
-pub fn is_digit(byte: u8) -> bool
-    ensures { result ≡ lexing.digit byte }
-{
-    byte.is_ascii_digit()
-}
-
-#[tactic(auto, unfolding(crate::specs::Lexing::wordy, crate::specs::Lexing::letter, crate::specs::Lexing::digit))]
-pub fn is_wordy(byte: u8) -> bool
-    ensures { result ≡ lexing.wordy byte }
-{
-    begins_word(byte) || is_digit(byte)
-}
-
 /// Whether two words are the same, ignoring the case of letters.
 #[tactic(auto, using(crate::proofs::WordLaws::same_where_folded))]
 fn same_name(one: &[u8], other: &[u8]) -> bool
@@ -120,13 +92,38 @@ fn same_name(one: &[u8], other: &[u8]) -> bool
     one.eq_ignore_ascii_case(other)
 }
 
+/// The place of the first `_`.
+fn first_underscore(word: &[u8]) -> Option<usize>
+    ensures { result ≡ position (λ b. b == 95) word.now }
+{
+    word.iter().position(|byte| *byte == b'_')
+}
+
+/// How many bytes stand before the first `_`.
+#[tactic(auto, using(grammar::proofs::Runs::first_within))]
+fn plain_len(word: &[u8]) -> usize
+    ensures count { result ≡ unwrap_or (position (λ b. b == 95) word.now) (length word.now) }
+    ensures within { result ≤ length word.now }
+{
+    first_underscore(word).unwrap_or(word.len())
+}
+
+/// What stands from the first `_` on.
+#[tactic(auto, using(crate::proofs::Identifiers::identifier_from))]
+fn from_underscore(word: &[u8]) -> &[u8]
+    ensures same { tokens.is_identifier word.now ≡ tokens.is_identifier result.now }
+    ensures shorter { length result.now ≤ length word.now }
+{
+    word.split_at(plain_len(word)).1
+}
+
 /// Whether no two underscores adjoin, and the last byte is none.
 fn is_identifier(word: &[u8]) -> bool
     ensures { result ≡ tokens.is_identifier word.now }
 {
     let mut rest = word;
     loop {
-        match rest {
+        match from_underscore(rest) {
             [] => return true,
             [last] => return *last != b'_',
             [one, left @ ..] => {

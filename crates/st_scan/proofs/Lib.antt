@@ -1,6 +1,5 @@
 pub mod Agreement
 pub mod Checked
-pub mod Listed
 pub mod Loop
 pub mod Outputs
 pub mod Rows

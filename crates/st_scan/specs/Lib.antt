@@ -1,10 +1,7 @@
 pub mod Told
 pub mod Endings
 pub mod Standing
-pub mod PlacedTree
 pub mod Stored
-pub mod PlacedTests
-pub mod PlacedView
-pub mod Placing
 pub mod PlacedValues
 pub mod PlacedExec
+pub mod PlacedTruths

@@ -4,11 +4,8 @@
 mod conditions;
 mod error;
 mod machine;
-mod placed;
-mod resolving;
 mod statements;
 mod storing;
-mod testing;
 mod values;
 
 pub use error::ScanErr;

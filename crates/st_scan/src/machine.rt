@@ -4,18 +4,14 @@ ghost use Rattle.std.specs.Prelude.{◌≡◌, ◌<◌, ◌^◌, ℕ, length, sl
 ghost use Rattle.st_ast.specs.Exec.{Ended};
 ghost use Rattle.st_ast.specs.Interface.{is_output, numbers_of, output_values};
 ghost use Rattle.st_ast.specs.Scan.{value_of_literal, first_of, start_memory, scan_of};
-ghost use Rattle.st_ast.specs.View.{view, view_stmts};
+ghost use Rattle.st_ast.specs.View.{view};
 ghost use Rattle.st_scan.specs.Standing.{Standing};
 ghost use Rattle.st_scan.specs.Endings.{stopped, outcome_of};
-ghost use Rattle.st_scan.specs.PlacedView.{stmts_view};
-ghost use Rattle.st_scan.specs.Placing.{placed_stms};
 
 use crate::error::ScanErr;
-use crate::placed::PlacedStmt;
-use crate::resolving::resolve_stmts;
 use crate::statements::run;
 use crate::storing::store;
-use cif_base::{Items, Memory};
+use cif_base::Memory;
 use st_ast::{StLit, StTy, StVar};
 use st_check::Checked;
 use std::alloc::Global;
@@ -28,8 +24,6 @@ const TURNS: u32 = 1_000_000;
 #[derive(Drop)]
 pub struct Machine<'a> {
     program: &'a Checked,
-    // the statements of the program with its names resolved
-    body: Items<PlacedStmt>,
     memory: Vec<i64>,
     // what a scan works on, so that one that ends early leaves the memory as it was
     work: Vec<i64>,
@@ -38,10 +32,7 @@ pub struct Machine<'a> {
 impl<'a> Model for Machine<'a> {
     ghost use Rattle.std.specs.Prelude.{◌≡◌, ◌<◌, ◌^◌, length};
     ghost use Rattle.std.specs.Coded.{codes};
-    ghost use Rattle.st_ast.specs.View.{view_stmts};
     ghost use Rattle.st_ast.specs.contracts.tree.Stmt as statement;
-    ghost use Rattle.st_scan.specs.PlacedView.{stmts_view};
-    ghost use Rattle.st_scan.specs.Placing.{placed_stms};
     ghost use Rattle.st_scan.specs.Standing.{Standing};
 
     ghost Value = { Standing };
@@ -52,8 +43,7 @@ impl<'a> Model for Machine<'a> {
 
     ghost invariant = { λ m.
         (length m.memory.items ≡ length m.program.now.vars)
-        × (length m.work.items ≡ length m.program.now.vars)
-        × (stmts_view m.body ≡ placed_stms m.program.now.vars (view_stmts m.program.now.body)) };
+        × (length m.work.items ≡ length m.program.now.vars) };
 }
 
 impl<'a> Machine<'a> {
@@ -65,10 +55,8 @@ impl<'a> Machine<'a> {
         let tree = program.program();
         let memory = first_values(alloc, tree.vars.as_slice())?;
         let work = first_values(alloc, tree.vars.as_slice())?;
-        let body = resolve_stmts(alloc, program, tree.body.as_slice())?;
         Ok(Machine {
             program,
-            body,
             memory,
             work,
         })
@@ -87,7 +75,6 @@ impl<'a> Machine<'a> {
         let mut why = ScanErr::Budget;
         match execute(
             self.program,
-            self.body.as_slice(),
             row,
             self.memory.as_slice(),
             self.work.as_mut_slice(),
@@ -169,20 +156,18 @@ fn first_values(alloc: Global, vars: &[StVar]) -> Result<Vec<i64>, Memory>
     Ok(memory)
 }
 
-/// Executes a program once, whose statements with their names resolved are `body`. The memory after it is left in `work`.
+/// Executes a program once. The memory after it is left in `work`.
 fn execute(
     program: &Checked,
-    body: &[PlacedStmt],
     row: &[i64],
     memory: &[i64],
     work: &mut [i64],
     why: &mut ScanErr,
 ) -> Option<u32>
-    requires resolved { stmts_view body.now ≡ placed_stms program.now.vars (view_stmts program.now.body) }
     requires memory { length memory.now ≡ length program.now.vars }
     requires work { length work.old ≡ length program.now.vars }
     ensures { scan_of (view program.now) memory.now row.now ≡ outcome_of result why.new work.new }
 {
     store(program.inputs(), row, memory, work);
-    run(body, work, TURNS, why)
+    run(program.placed_body(), work, TURNS, why)
 }

@@ -1,7 +1,7 @@
 use Rattle.std.proofs.Common.{◌≡◌, ◌==◌, ◌≤◌, true, false, length, rules, ap, ◌∙◌, arith}
 use Rattle.grammar.specs.Pieces.{Text}
 use Rattle.st_read.specs.Marks.{after_blanks, tokens_of}
-use Rattle.st_read.proofs.Marked.{marked_all, marked_as, marked_token, marked_skip, later_shorter}
+use Rattle.st_read.proofs.Marked.{marked_all, marked_as, marked_token, marked_skip, marked_short, later_shorter}
 use Rattle.st_read.proofs.LexSteps.{refused}
 use Rattle.st_read.proofs.lexing.token_marks.Goals as goal
 use Rattle.st_read.proofs.lexing.token_marks.Goals.{in-Some+in_ok-push, in_default}
@@ -27,7 +27,7 @@ loop-rest-preserved c =
     elim c.match-token.branch [
       | in-Some+in_ok-push w ↦ record {
         found = marked_as c.args.text.now (after_blanks c.in-Ok.found.1.now) c.without_blanks-rest-in-loop-rest.result.now _ c.match-token.marks blanks (w.marks-is ∙ w.in_ok-push.ensures.ok)
-            (marked_token c.args.text.now c.loop-rest.rest.now c.in-Ok.found.1.now c.loop-rest.marks c.in-Ok.found.0 w.in-Some.kind _ so_far c.in-Ok.ensures w.in-Some.is (λ short. w.marked_length-length.ensures short ∙ w.saturating_sub.ensures));
+            (marked_token c.args.text.now c.loop-rest.rest.now c.in-Ok.found.1.now c.loop-rest.marks c.in-Ok.found.0 w.in-Some.kind _ so_far c.in-Ok.ensures w.in-Some.is (λ short. marked_short _ _ w.marked_length-length.ensures short ∙ w.saturating_sub.ensures));
         shorter = shorter;
       }
       | in_default w ↦ record {

@@ -1,4 +1,4 @@
-use Rattle.std.proofs.Common.{rules, ◌≡◌, ◌+◌, ◌∙◌, ap, sym, ℤ, pos, drop, get_or, slice_set, w64, FitsSigned, arith}
+use Rattle.std.proofs.Common.{rules, ◌≡◌, ◌+◌, ◌∙◌, ap, sym, pos, drop, get_or, slice_set, w64, FitsSigned, arith}
 use Rattle.std.proofs.lemmas.Int.{to_z-of_z}
 use Rattle.st_scan.specs.Stored.{stored}
 use Rattle.st_scan.proofs.Rows.{stores-one, stores-none}

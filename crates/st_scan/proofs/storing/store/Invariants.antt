@@ -1,4 +1,4 @@
-use Rattle.std.proofs.Common.{◌≡◌, drop, length}
+use Rattle.std.proofs.Common.{◌≡◌, drop}
 use Rattle.st_scan.specs.Stored.{stored}
 use Rattle.st_scan.proofs.storing.store.Given as goal
 

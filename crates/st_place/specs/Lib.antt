@@ -1,0 +1,4 @@
+pub mod PlacedTree
+pub mod PlacedTests
+pub mod PlacedView
+pub mod Placing
