@@ -1,4 +1,4 @@
--- How a command ends whose source is not loaded, by the cause.
+-- Helper of the code: how a command ends whose source is not loaded, by the cause.
 use Rattle.cif_lex.specs.declared.error.LexErr.{LexErr}
 use Rattle.cif_lex.specs.declared.error.LexErr.TheVariants as lex
 use Rattle.cif_parse.specs.declared.error.ParseErr.{ParseErr}

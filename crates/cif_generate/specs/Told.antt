@@ -1,4 +1,4 @@
--- How the command ends over a net with an event that has no class.
+-- Helper of the code: how the command ends over a net with an event that has no class.
 use Rattle.std.specs.Prelude.{◌≡◌, ℕ, [], Some, None, slice_get}
 use Rattle.grammar.specs.Pieces.{Text}
 use Rattle.cif_model.specs.Net.{Net}

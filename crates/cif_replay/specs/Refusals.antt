@@ -1,4 +1,4 @@
--- Which status an error of a program or of rows leads to.
+-- Helper of the code: which status an error of a program or of rows leads to.
 use Rattle.st_read.specs.declared.error.StErr.{StErr}
 use Rattle.st_read.specs.declared.error.StErr.TheVariants as st
 use Rattle.st_check.specs.declared.error.StCheckErr.{StCheckErr}

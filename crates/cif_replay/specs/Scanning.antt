@@ -1,4 +1,4 @@
--- Why the scans over rows stopped.
+-- Helper of the code: why the scans over rows stopped.
 use Rattle.std.specs.Prelude.{ℤ, List}
 use Rattle.st_ast.specs.Tree.{Program}
 use Rattle.st_ast.specs.Scan.{start_memory}

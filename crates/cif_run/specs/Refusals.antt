@@ -1,4 +1,4 @@
--- Which status a file that is not read leads to.
+-- Helper of the code: which status a file that is not read leads to.
 use Rattle.std.specs.Prelude.{ℕ}
 use Rattle.cif_io.specs.declared.files.FileErr.{FileErr}
 use Rattle.cif_io.specs.declared.files.FileErr.TheVariants as file

@@ -1,4 +1,4 @@
--- The names before and after a choice, as a generator has them.
+-- Helper of the code: the names before and after a choice, as a generator has them.
 use Rattle.std.specs.Prelude.{◌≡◌, ℕ, List, Option, Some, None, option_map, slice_get}
 use Rattle.cif_model.specs.Listing.{NetMove, NetChoice}
 use Rattle.cif_model.specs.Net.{NetEdge, Net}

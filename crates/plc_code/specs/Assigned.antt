@@ -1,4 +1,4 @@
--- The variables that updates assign, put together from the parts of the updates.
+-- Helper of the code: the variables that updates assign, put together from the parts of the updates.
 use Rattle.std.specs.Prelude.{ℕ, List, [], ◌∷◌, ◌++◌}
 use Rattle.cif_term.specs.Tree.{NetUpdate, net_set, net_choose, NetUpdates, no_net_updates, net_updates, NetUpdateBranches, no_net_update_branches, net_update_branches}
 

@@ -1,4 +1,4 @@
--- What a choice may change, as marks, and which state invariants are asked by these.
+-- Helper of the code: what a choice may change, as marks, and which state invariants are asked by these.
 use Rattle.std.specs.Prelude.{◌≡◌, ℕ, Bool, false, List, map, Option, Some, None, option_map, slice_get}
 use Rattle.std.specs.List.{list_any}
 use Rattle.cif_term.specs.Tree.{NetExpr}

@@ -1,4 +1,4 @@
--- What is set where a choice is made, and the statements of a choice.
+-- Helper of the code: what is set where a choice is made, and the statements of a choice.
 use Rattle.std.specs.Prelude.{Bool, true, List, [], ◌∷◌, if◌then◌else◌}
 use Rattle.grammar.specs.Pieces.{Text}
 use Rattle.st_ast.specs.Tree.{Stms, truth, named, assign, append, no_stms, stms, no_branches, branches}

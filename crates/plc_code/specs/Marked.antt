@@ -1,4 +1,4 @@
--- Which variables are marked: those that were marked in this round last.
+-- Helper of the code: which variables are marked: those that were marked in this round last.
 use Rattle.std.specs.Prelude.{ℕ, Bool, false, nat_eq, List, Option, Some, None, slice_get}
 
 abbrev pub is_now : ℕ → Option ℕ → Bool

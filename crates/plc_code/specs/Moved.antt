@@ -1,4 +1,4 @@
--- The edges that automata take in moves.
+-- Helper of the code: the edges that automata take in moves.
 use Rattle.std.specs.Prelude.{ℕ, Bool, List, Option, is_some, option_and_then, slice_get}
 use Rattle.cif_model.specs.Listing.{NetMove, edge_at, edge_in}
 use Rattle.cif_model.specs.Net.{NetEdge, NetAuto, Net}

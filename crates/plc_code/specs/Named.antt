@@ -1,4 +1,4 @@
--- The names of a net as a generator has them, and what is named.
+-- Helper of the code: the names of a net as a generator has them, and what is named.
 use Rattle.std.specs.Prelude.{◌≡◌, ◌<◌, ℕ, true, List, length, map, Option, None, option_to_list, codes}
 use Rattle.std.specs.List.{AllByRecursion, enumerate_from}
 use Rattle.grammar.specs.Pieces.{Text}

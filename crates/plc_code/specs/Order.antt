@@ -1,4 +1,4 @@
--- Choices in the order of their events.
+-- Helper of the code: choices in the order of their events.
 use Rattle.std.specs.Prelude.{ℕ, suc, ◌≤◌, nat_eq, List, [], ◌∷◌, if◌then◌else◌}
 use Rattle.cif_model.specs.Listing.{NetChoice}
 

@@ -1,4 +1,4 @@
--- The own variables of an event, and the names of its new values.
+-- Helper of the code: the own variables of an event, and the names of its new values.
 use Rattle.std.specs.Prelude.{◌≡◌, ℕ, ◌+◌, Bool, true, List, [], ◌∷◌, ◌++◌, length, map, flat_map, nat_eq, Some, None, slice_get, if◌then◌else◌}
 use Rattle.std.specs.List.{enumerate_from}
 use Rattle.grammar.specs.Pieces.{Text}

@@ -1,4 +1,4 @@
--- What updates are written with, and how the conditions and the statements of branches come together.
+-- Helper of the code: what updates are written with, and how the conditions and the statements of branches come together.
 use Rattle.std.specs.Prelude.{ℕ, ◌+◌, List, [], ◌∷◌}
 use Rattle.cif_term.specs.Tree.{NetUpdateBranches, no_net_update_branches, net_update_branches}
 use Rattle.cif_model.specs.Net.{Net}

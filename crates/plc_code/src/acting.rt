@@ -28,7 +28,7 @@ use st_ast::{StExpr, Stmt};
 use std::alloc::Global;
 
 /// The variables that updates assign, each once, and those of them whose new value may be the old one.
-#[derive(Debug, Drop)]
+#[derive(Drop)]
 pub struct Assigned {
     pub all: Items<u32>,
     pub may_stay: Items<u32>,

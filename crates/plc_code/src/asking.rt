@@ -23,7 +23,7 @@ use st_ast::StTy;
 use std::alloc::Global;
 
 /// Marks on what a choice may change: on the variables that it assigns, and on the automata of which it takes an edge.
-#[derive(Debug, Drop)]
+#[derive(Drop)]
 pub struct Changes {
     pub variables: Marks,
     pub places: Marks,

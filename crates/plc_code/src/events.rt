@@ -31,7 +31,7 @@ use st_ast::{StBranch, StExpr, Stmt};
 use std::alloc::Global;
 
 /// What is written for a choice: what stands before its test, the test, what it does, and the number of the next own variable.
-#[derive(Debug, Drop)]
+#[derive(Drop)]
 pub struct Pieces {
     pub before: Items<Stmt>,
     pub test: Boxed<StExpr>,
@@ -40,14 +40,14 @@ pub struct Pieces {
 }
 
 /// The statements of a choice, and the number of the next own variable.
-#[derive(Debug, Drop)]
+#[derive(Drop)]
 struct Tried {
     statements: Items<Stmt>,
     next: u32,
 }
 
 /// The marks of an event: whether it has one of its own, that one, and what a choice sets without it and with it.
-#[derive(Debug, Drop)]
+#[derive(Drop)]
 pub struct EventMarks {
     pub is_used: bool,
     pub done: Text,

@@ -26,7 +26,7 @@ use std::alloc::Global;
 
 /// What decides which own variables an event has: whether it has a mark that a choice was made, and one that new values are in
 /// their ranges, the variables that its choices assign, the type of what is sent, and the types of the `if`s in its expressions.
-#[derive(Debug, Drop)]
+#[derive(Drop)]
 pub struct Outline {
     pub has_mark: bool,
     pub tests_range: bool,
@@ -101,7 +101,7 @@ fn literal(ty: StTy, first: i64) -> StLit
 }
 
 /// The path, the type and the first value of a new value.
-#[derive(Debug, Drop)]
+#[derive(Drop)]
 pub struct NewFace {
     pub path: Text,
     pub ty: StTy,
@@ -129,7 +129,7 @@ fn new_face_of(alloc: Global, net: &Net, var: u32) -> Result<NewFace, Memory>
 }
 
 /// The declarations of own variables, and the number of the next one.
-#[derive(Debug, Drop)]
+#[derive(Drop)]
 pub struct OwnVariables {
     pub variables: Items<StVar>,
     pub next: u32,

@@ -27,7 +27,7 @@ use std::alloc::Global;
 
 /// What is used again for each choice: marks on what it may change, and names, which are those after the choice while its
 /// invariants are written, and else those before.
-#[derive(Debug, Drop)]
+#[derive(Drop)]
 pub struct Scratch {
     pub changes: Changes,
     pub after: Names,

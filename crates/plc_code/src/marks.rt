@@ -9,7 +9,7 @@ use cif_base::{Items, Memory};
 use std::alloc::Global;
 
 /// For each variable the last round in which it was marked. Those marked in this round are marked.
-#[derive(Debug, Drop)]
+#[derive(Drop)]
 pub struct Marks {
     pub last: Items<u32>,
     pub round: u32,

@@ -34,7 +34,7 @@ use st_ast::{StVar, Stmt};
 use std::alloc::Global;
 
 /// What is used again for each event: the names of new values, and what is used again for each choice.
-#[derive(Debug, Drop)]
+#[derive(Drop)]
 pub struct Tables {
     pub new: NewTexts,
     pub scratch: Scratch,
@@ -77,7 +77,7 @@ fn event_marks(alloc: Global, first: u32, is_used: bool) -> Result<EventMarks, M
 }
 
 /// The declarations of an event's own variables, and the number of the first one of an expression.
-#[derive(Debug, Drop)]
+#[derive(Drop)]
 struct EventOwn {
     variables: Items<StVar>,
     ifs: u32,
@@ -188,7 +188,7 @@ pub fn data_part_of(
 }
 
 /// The parts of events, and the number of the next own variable.
-#[derive(Debug, Drop)]
+#[derive(Drop)]
 pub struct Parts {
     pub parts: Items<Part>,
     pub next: u32,

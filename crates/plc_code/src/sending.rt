@@ -28,7 +28,7 @@ use plc_walk::written;
 use st_ast::{StExpr, Stmt};
 
 /// What stands before a sent value, its text, and the number of the next own variable.
-#[derive(Debug, Drop)]
+#[derive(Drop)]
 struct SentText {
     before: Items<Stmt>,
     value: StExpr,

@@ -28,7 +28,7 @@ use st_ast::{StTy, Stmt};
 use std::alloc::Global;
 
 /// The types of the own variables of definitions, and the statements that show the algebraic variables.
-#[derive(Debug, Drop)]
+#[derive(Drop)]
 struct ShownText {
     types: Items<StTy>,
     statements: Items<Stmt>,

@@ -21,7 +21,7 @@ use st_ast::{StBranch, StExpr, Stmt};
 use std::alloc::Global;
 
 /// The names of the mark that new values are in their ranges, and of the new values of variables, by number.
-#[derive(Debug, Drop)]
+#[derive(Drop)]
 pub struct NewTexts {
     pub in_range: Text,
     pub next: Items<Text>,
@@ -52,7 +52,7 @@ impl NewTexts {
 }
 
 /// Branches, and the number of the next own variable.
-#[derive(Debug, Drop)]
+#[derive(Drop)]
 struct Bodies {
     branches: Items<StBranch>,
     next: u32,

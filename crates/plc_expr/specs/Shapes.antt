@@ -1,4 +1,4 @@
--- What matters of an expression where it becomes an operand.
+-- Helper of the code: what matters of an expression where it becomes an operand.
 use Rattle.std.specs.Prelude.{Bool, Option, Some, None}
 use Rattle.st_ast.specs.Tree.{Expr, truth, number, named, paren, negation, complement, product, sum, order, equal, all_of, odd_of, any_of, absolute, least, greatest, selection}
 use Rattle.plc_expr.specs.declared.shapes.Shape.{Shape}

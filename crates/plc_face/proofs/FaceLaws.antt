@@ -89,10 +89,6 @@ one-state face sys p m s t a b =
 
 -- ---- names
 
-pub same_name-self : (w : Text) → same_name w w ≡ true
-same_name-self [] = refl
-same_name-self (b ∷ w) = let e : (to_ascii_lowercase b == to_ascii_lowercase b) ≡ true = search (eq-eqb) in rw e (same_name-self w)
-
 and-true : (a b : Bool) → a ≡ true → b ≡ true → (a && b) ≡ true
 and-true a b x y = rw x y
 

@@ -21,13 +21,14 @@ use Rattle.st_ast.specs.declared.tree.StClass.TheVariants as class
 use Rattle.st_ast.specs.declared.tree.StTy.{StTy}
 use Rattle.st_ast.specs.declared.tree.StTy.TheVariants as ty
 use Rattle.st_ast.proofs.Runs.{cons_runs, assign_runs}
+use Rattle.st_ast.proofs.NameLaws.{same_name_self}
 use Rattle.plc_face.specs.declared.letter.Letter.{Letter}
 use Rattle.plc_face.specs.declared.letter.Letter.TheVariants as letter
 use Rattle.plc_face.specs.Names.{name_for}
 use Rattle.plc_face.specs.Face.{Face, VariableFace, declaration, IsDeclared, HasInterface, HoldsAt, StateOf, AreInTypes, range_of, stored_of, IsFaceOf}
 use Rattle.plc_face.specs.Frame.{latch, latches_of}
 use Rattle.plc_face.proofs.NameLaws.{letters-differ, names-differ}
-use Rattle.plc_face.proofs.FaceLaws.{slice_get-set_same, slice_get-set_other, below, pairwise-length, places-differ, same_name-self, declared-of, declared-type, hold-kept, Kept, Typed, typed-written}
+use Rattle.plc_face.proofs.FaceLaws.{slice_get-set_same, slice_get-set_other, below, pairwise-length, places-differ, declared-of, declared-type, hold-kept, Kept, Typed, typed-written}
 
 -- ---- lists
 
@@ -158,7 +159,7 @@ reads-later u vars x m (v ∷ vs) (z ∷ zs) apart h = (
 )
 
 reads-first : (u : StVar) (vars : List StVar) (z : ℤ) (m : Memory) → get_or (z ∷ m) (place_of (u ∷ vars) u.name) (pos 0) ≡ z
-reads-first u vars z m = ap (λ b. get_or (z ∷ m) (cond b 0 (suc (place_of vars u.name))) (pos 0)) (same_name-self u.name)
+reads-first u vars z m = ap (λ b. get_or (z ∷ m) (cond b 0 (suc (place_of vars u.name))) (pos 0)) (same_name_self u.name)
 
 store-reads : (vars : List StVar) (row : List ℤ) (m : Memory) → Differ vars → Typed vars m → Typed (inputs_of vars) row → Reads vars (store_row vars row m) (inputs_of vars) row
 store-reads [] [] m d h g = tt

@@ -25,11 +25,12 @@ use Rattle.st_ast.specs.declared.tree.StClass.{StClass}
 use Rattle.st_ast.specs.declared.tree.StClass.TheVariants as class
 use Rattle.st_ast.specs.declared.tree.StTy.{StTy}
 use Rattle.st_ast.specs.declared.tree.StTy.TheVariants as ty
+use Rattle.st_ast.proofs.NameLaws.{same_name_self}
 use Rattle.plc_face.specs.declared.letter.Letter.{Letter}
 use Rattle.plc_face.specs.Names.{name_for}
 use Rattle.plc_face.specs.Face.{VariableFace, HoldsAt, head_of, declaration, declarations, literal_of, range_of}
 use Rattle.plc_face.proofs.NameLaws.{letters-differ, names-differ}
-use Rattle.plc_face.proofs.FaceLaws.{same_name-self, Typed}
+use Rattle.plc_face.proofs.FaceLaws.{Typed}
 use Rattle.plc_gen.specs.Variables.{Block, variables_of}
 use Rattle.plc_gen.specs.Given.{Section, all_variables}
 use Rattle.plc_gen.proofs.Choosing.{filter-append}
@@ -157,7 +158,7 @@ block-hit l c j (y ∷ ys) rest zero x few at =
     let number : j ≡ j + 0 = omega arith in
     subst (λ i. declared (map (declaration l c) (enumerate_from j (y ∷ ys)) ++ rest) (name_for l i x.path) ≡ Some (declaration l c (i, x))) number
     (subst (λ (u : VariableFace). declared (map (declaration l c) (enumerate_from j (y ∷ ys)) ++ rest) (name_for l j u.path) ≡ Some (declaration l c (j, u))) same
-    (declared-hit (declaration l c (j, y)) (map (declaration l c) (enumerate_from (j + 1) ys) ++ rest) (name_for l j y.path) (same_name-self (name_for l j y.path))))
+    (declared-hit (declaration l c (j, y)) (map (declaration l c) (enumerate_from (j + 1) ys) ++ rest) (name_for l j y.path) (same_name_self (name_for l j y.path))))
 block-hit l c j (y ∷ ys) rest (suc k) x few at =
     let number : (j + 1) + k ≡ j + suc k = omega arith in
     let inside : k < length ys = below-length ys k x at in

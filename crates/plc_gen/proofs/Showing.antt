@@ -15,11 +15,12 @@ use Rattle.st_ast.specs.declared.tree.StClass.{StClass}
 use Rattle.st_ast.specs.declared.tree.StTy.{StTy}
 use Rattle.st_ast.specs.declared.tree.StTy.TheVariants as ty
 use Rattle.st_ast.proofs.Runs.{cons_runs, assign_runs}
+use Rattle.st_ast.proofs.NameLaws.{same_name_self}
 use Rattle.plc_face.specs.declared.letter.Letter.{Letter}
 use Rattle.plc_face.specs.Names.{name_for}
 use Rattle.plc_face.specs.Face.{VariableFace, HoldsAt, declaration, range_of}
 use Rattle.plc_face.proofs.NameLaws.{letters-differ, names-differ}
-use Rattle.plc_face.proofs.FaceLaws.{slice_get-set_same, slice_get-set_other, below, get_or-of, pairwise-length, places-differ, same_name-self, Typed, typed-set}
+use Rattle.plc_face.proofs.FaceLaws.{slice_get-set_same, slice_get-set_other, below, get_or-of, pairwise-length, places-differ, Typed, typed-set}
 use Rattle.plc_face.proofs.Latches.{Differ}
 use Rattle.plc_gen.specs.Variables.{shown_by}
 use Rattle.plc_gen.proofs.Writing.{name_of}
@@ -125,7 +126,7 @@ output_values-read (u ∷ vars) (z ∷ m) d long =
     go (is_output u.class) (output_values-read vars m d.1 (omega (arith, long)) ∙ sym (read-later u vars z m (filter (λ (v : StVar). is_output v.class) vars) (all-filter (λ (w : StVar). same_name u.name w.name ≡ false) (λ (v : StVar). is_output v.class) vars d.0)))
   where
     first : read (u ∷ vars) (z ∷ m) u ≡ z
-    first = ap (λ b. get_or (z ∷ m) (if b then 0 else suc (place_of vars u.name)) (pos 0)) (same_name-self u.name)
+    first = ap (λ b. get_or (z ∷ m) (if b then 0 else suc (place_of vars u.name)) (pos 0)) (same_name_self u.name)
 
     go : (b : Bool) → output_values vars m ≡ map (read (u ∷ vars) (z ∷ m)) (filter (λ (v : StVar). is_output v.class) vars)
         → cond b (z ∷ output_values vars m) (output_values vars m) ≡ map (read (u ∷ vars) (z ∷ m)) (cond b (u ∷ filter (λ (v : StVar). is_output v.class) vars) (filter (λ (v : StVar). is_output v.class) vars))

@@ -1,4 +1,4 @@
--- What the variables of a program are, as the code has them.
+-- Helper of the code: what the variables of a program are, as the code has them.
 use Rattle.std.specs.Prelude.{◌≡◌, ◌<◌, ◌^◌, List, ◌++◌, map, length}
 use Rattle.cif_model.specs.Net.{Net}
 use Rattle.st_ast.specs.declared.tree.StVar.{StVar}

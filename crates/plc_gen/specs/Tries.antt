@@ -1,4 +1,4 @@
--- The statements of a scan as code puts them together: those of the events of each class, one event after the other.
+-- Helper of the code: the statements of a scan as code puts them together: those of the events of each class, one event after the other.
 use Rattle.std.specs.Prelude.{ℕ, List, [], ◌∷◌, if◌then◌else◌}
 use Rattle.cif_system.specs.System.{Class, con, unc}
 use Rattle.cif_system.specs.Step.{same_class}

@@ -15,7 +15,7 @@ use st_ast::StTy;
 use std::alloc::Global;
 
 /// A variable of the program: the path of what it stands for, its type, and its first value, where a BOOL is 0 or 1.
-#[derive(Debug, Drop)]
+#[derive(Drop)]
 pub struct Shown {
     pub path: Text,
     pub ty: StTy,
@@ -23,7 +23,7 @@ pub struct Shown {
 }
 
 /// What the program shows of a net: the places of automata, the discrete variables, the inputs, and the algebraic variables.
-#[derive(Debug, Drop)]
+#[derive(Drop)]
 pub struct Faces {
     pub places: Items<Shown>,
     pub variables: Items<Shown>,

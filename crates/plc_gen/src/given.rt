@@ -23,7 +23,7 @@ pub struct Part {
 }
 
 /// The variables of all parts, and the statements of each event.
-#[derive(Debug, Drop)]
+#[derive(Drop)]
 struct Split {
     own: Items<StVar>,
     bodies: Items<Items<Stmt>>,

@@ -12,7 +12,7 @@ use st_ast::Stmt;
 use std::alloc::Global;
 
 /// The tries of the uncontrollable events, and of the controllable ones.
-#[derive(Debug, Drop)]
+#[derive(Drop)]
 pub struct Tries {
     pub unc: Items<Stmt>,
     pub con: Items<Stmt>,

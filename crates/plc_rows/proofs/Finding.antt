@@ -1,9 +1,8 @@
 -- The column of a name, by the variable that has the name when the case of letters is ignored: the names of a checked
 -- program differ even so.
-use Rattle.std.proofs.Common.{◌≡◌, ◌==◌, ◌<◌, ℕ, suc, ◌+◌, Bool, true, false, not, ◌||◌, ◌&&◌, List, [], ◌∷◌, ◌++◌, length, get_or, Option, Some, None, refl, sym, ap, subst, ◌∙◌, arith, eq-eqb}
+use Rattle.std.proofs.Common.{◌≡◌, ◌<◌, ℕ, suc, ◌+◌, Bool, true, false, not, ◌||◌, ◌&&◌, List, [], ◌∷◌, ◌++◌, length, get_or, Option, Some, None, refl, sym, ap, subst, ◌∙◌, arith}
 use Rattle.std.specs.Prelude.{slice_get, codes, if◌then◌else◌}
 use Rattle.std.specs.List.{list_any}
-use Rattle.std.specs.Char.{to_ascii_lowercase}
 use Rattle.std.proofs.lemmas.Option.{slice_get_read, get_or_from_slice_get}
 use Rattle.std.proofs.lemmas.Bool.{false≢true}
 use Rattle.grammar.specs.Pieces.{Text, same}
@@ -12,18 +11,15 @@ use Rattle.st_ast.specs.Checks.{CheckFault, duplicate, init_range, unless, is_ty
 use Rattle.st_ast.specs.Names.{same_name, place_of}
 use Rattle.st_ast.specs.Interface.{is_input, inputs_of}
 use Rattle.st_ast.specs.declared.tree.StVar.{StVar}
+use Rattle.st_ast.proofs.NameLaws.{same_name_self}
 use Rattle.st_check.specs.Told.{IsPlace}
 use Rattle.plc_rows.specs.Columns.{columns_from, input_column, column_of}
 use Rattle.plc_rows.specs.declared.header.Column.TheVariants as column
 use Rattle.plc_rows.proofs.Checking.{was_false, no_front, no_back, any_more, either_left, either_right}
 use Rattle.plc_rows.proofs.Remaining.{one_some}
 
-name_itself : (w : Text) → same_name w w ≡ true
-name_itself [] = refl
-name_itself (b ∷ w) = let e : (to_ascii_lowercase b == to_ascii_lowercase b) ≡ true = search (eq-eqb) in rw e (name_itself w)
-
 one_name : (x y : Text) → same x y ≡ true → same_name x y ≡ true
-one_name x y e = subst (λ (w : Text). same_name x w ≡ true) (same_equal x y e) (name_itself x)
+one_name x y e = subst (λ (w : Text). same_name x w ≡ true) (same_equal x y e) (same_name_self x)
 
 nothing_told : (b : Bool) (f : CheckFault) → unless b f ≡ [] → b ≡ true
 nothing_told true f e = refl

@@ -8,10 +8,11 @@ use Rattle.cif_system.proofs.Lists.{none-some, some-same}
 use Rattle.st_ast.specs.Names.{declared, place_of, same_name}
 use Rattle.st_ast.specs.declared.tree.StVar.{StVar}
 use Rattle.st_ast.specs.declared.tree.StClass.{StClass}
+use Rattle.st_ast.proofs.NameLaws.{same_name_self}
 use Rattle.plc_face.specs.declared.letter.Letter.{Letter}
 use Rattle.plc_face.specs.Names.{name_for}
 use Rattle.plc_face.specs.Face.{VariableFace, declaration}
-use Rattle.plc_face.proofs.FaceLaws.{below, same_name-self}
+use Rattle.plc_face.proofs.FaceLaws.{below}
 use Rattle.plc_face.proofs.NameLaws.{letters-differ, names-differ}
 use Rattle.plc_gen.proofs.Declaring.{AllOf}
 
@@ -50,7 +51,7 @@ place-among l c j [] rest k x few at = absurd (none-some x at)
 place-among l c j (y ∷ ys) rest zero x few at =
     let name : name_for l j y.path ≡ name_for l (j + 0) x.path = (let number : j ≡ j + 0 = omega arith in ap (λ i. name_for l i y.path) number) ∙ ap (λ (u : VariableFace). name_for l (j + 0) u.path) (some-same y x at) in
     subst (λ q. place_of (map (declaration l c) (enumerate_from j (y ∷ ys)) ++ rest) q ≡ 0) name
-    (place-hit (declaration l c (j, y)) (map (declaration l c) (enumerate_from (j + 1) ys) ++ rest) (name_for l j y.path) (same_name-self (name_for l j y.path)))
+    (place-hit (declaration l c (j, y)) (map (declaration l c) (enumerate_from (j + 1) ys) ++ rest) (name_for l j y.path) (same_name_self (name_for l j y.path)))
 place-among l c j (y ∷ ys) rest (suc k) x few at =
     let number : (j + 1) + k ≡ j + suc k = omega arith in
     let inside : k < length ys = below ys k x at in

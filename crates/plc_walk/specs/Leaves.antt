@@ -1,4 +1,4 @@
--- What matters of an expression that is negated.
+-- Helper of the code: what matters of an expression that is negated.
 use Rattle.st_ast.specs.Tree.{Expr, truth, named}
 use Rattle.plc_walk.specs.declared.negating.Leaf.{Leaf}
 use Rattle.plc_walk.specs.declared.negating.Leaf.TheVariants as leaf
