@@ -1,6 +1,6 @@
 -- Worked examples of the layout of programs, by computation.
 use Rattle.std.proofs.Common.{◌≡◌, ℕ, pos, negsuc, true, false, List, [], ◌∷◌, ◌++◌, Some, None, refl}
-use Rattle.std.specs.Prelude.{codes, decimal, flat_map, Option}
+use Rattle.std.specs.Prelude.{codes, decimal, flat_map, map, Option}
 use Rattle.grammar.specs.Pieces.{Text}
 use Rattle.st_ast.specs.declared.tree.StVar.{StVar}
 use Rattle.st_ast.specs.declared.tree.StTy.{StTy}
@@ -11,7 +11,7 @@ use Rattle.st_ast.specs.declared.tree.StClass.{StClass}
 use Rattle.st_ast.specs.declared.tree.StClass.TheVariants as class
 use Rattle.st_ast.specs.declared.tree.StMul.TheVariants as mul
 use Rattle.st_ast.specs.declared.tree.StOrder.TheVariants as cmp
-use Rattle.st_ast.specs.Tree.{Expr, truth, number, named, paren, negation, complement, product, sum, order, equal, all_of, absolute, least, selection, exprs, no_exprs, factors, no_factors, terms, no_terms, Stm, assign, choice, loop, stms_of, branches, no_branches, no_other, other, Program}
+use Rattle.st_ast.specs.Tree.{Expr, truth, number, named, paren, negation, complement, product, sum, order, equal, all_of, odd_of, any_of, absolute, least, greatest, selection, exprs, no_exprs, factors, no_factors, terms, no_terms, Stm, assign, choice, loop, stms_of, branches, no_branches, no_other, other, Program}
 use Rattle.st_print.specs.Layout.{text_of, expr_marks, stm_marks, declaration_marks, printed}
 
 abbrev rows : List Text → Text
@@ -50,6 +50,15 @@ three_operands = refl
 words_stand_apart : shown (all_of (exprs (complement x) (exprs (equal x false y) no_exprs))) ≡ codes "NOT x AND x <> y"
 words_stand_apart = refl
 
+signs_stand_apart : map shown (equal x true y ∷ order x cmp.Gt y ∷ order x cmp.Ge y ∷ []) ≡ codes "x = y" ∷ codes "x > y" ∷ codes "x >= y" ∷ []
+signs_stand_apart = refl
+
+one_word_for_each_operand : shown (any_of (exprs x (exprs (odd_of (exprs x (exprs y (exprs x no_exprs)))) (exprs y no_exprs)))) ≡ codes "x OR x XOR y XOR x OR y"
+one_word_for_each_operand = refl
+
+two_operands : shown (greatest x (sum y (terms false x no_terms))) ≡ codes "MAX(x, y + x)"
+two_operands = refl
+
 -- ---- lines
 
 assignment : written (assign (codes "x") y) ≡ 10 ∷ codes "x := y;"
@@ -62,7 +71,7 @@ nested_statements :
     ∷ codes "  x := x;" ∷ []) ++ codes "END_IF;")
 nested_statements = refl
 
--- ---- declarations: y block for each longest run of variables of y class
+-- ---- declarations: a block for each longest run of variables of a class
 
 abbrev variable : Text → StClass → StTy → Option StLit → StVar
 variable n k t v = record { name = n; class = k; ty = t; init = v; at = None }
@@ -84,3 +93,13 @@ blocks :
     ∷ codes "  c: BOOL := FALSE;" ∷ codes "END_VAR" ∷ codes "VAR_INPUT" ∷ codes "  d: BOOL;" ∷ codes "END_VAR" ∷ codes "VAR"
     ∷ codes "  e: BOOL := TRUE;" ∷ codes "END_VAR" ∷ codes "VAR_OUTPUT" ∷ codes "  f: LINT;" ∷ codes "END_VAR" ∷ codes "END_PROGRAM" ∷ [])
 blocks = refl
+
+-- a name is spelled as it stands at its place, also where that is not as it is declared
+spellings :
+    printed (record {
+      name = codes "Press";
+      vars = variable (codes "Level") class.Plain ty.Lint None ∷ [];
+      body = stms_of (assign (codes "LEVEL") (sum (named (codes "level")) (terms true (named (codes "leveL")) no_terms)) ∷ []);
+    })
+    ≡ rows (codes "PROGRAM Press" ∷ codes "VAR" ∷ codes "  Level: LINT;" ∷ codes "END_VAR" ∷ codes "LEVEL := level - leveL;" ∷ codes "END_PROGRAM" ∷ [])
+spellings = refl

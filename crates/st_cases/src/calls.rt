@@ -1,5 +1,6 @@
 //! The calls that a case may make.
 
+use crate::copies::copy_case;
 use crate::graphs::order_case;
 use crate::naming::name_case;
 use crate::nets::net_copies_case;
@@ -17,6 +18,7 @@ impl Calls for StCalls {
         match call {
             "read" => read_case(fields, page),
             "print" => print_case(fields, page),
+            "copy" => copy_case(fields, page),
             "check" => check_case(fields, page),
             "scan" => scan_case(fields, page),
             "rows" => rows_case(fields, page),

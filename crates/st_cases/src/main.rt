@@ -6,6 +6,7 @@
 //!
 //! - `read`, `print`, `check PROGRAM | NAME ..`, `scan PROGRAM | VALUE .. | ..`: a program of Structured Text, and a machine before
 //!   and after each scan, `-` for a row without values;
+//! - `copy PROGRAM`: whether the copy of the value that its first statement assigns is printed as the value is;
 //! - `rows TEXT | PROGRAM`: a rows file;
 //! - `table PROGRAM | VALUE .. | ..`: the output table of a program whose outputs have these values after each scan, `-` for none;
 //! - `name LETTER NUMBER | TEXT`: the name of a variable that stands for what has that number and that path;
@@ -18,6 +19,7 @@
 #![tactic(auto)]
 
 mod calls;
+mod copies;
 mod counting;
 mod graphs;
 mod naming;

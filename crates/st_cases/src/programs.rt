@@ -53,7 +53,7 @@ fn text_program(alloc: Global, text: &[u8]) -> Result<Program, NoProgram> {
 }
 
 /// The program of a field.
-fn program_of(fields: &Fields<'_>, field: &str) -> Result<Program, NoProgram> {
+pub fn program_of(fields: &Fields<'_>, field: &str) -> Result<Program, NoProgram> {
     let text = fields.bytes_of(field)?;
     text_program(fields.alloc, text.as_slice())
 }
