@@ -1,4 +1,4 @@
--- The rules on the state invariants of a net that names no algebraic variable, from its initial state.
+-- Helper of the code: the rules on the state invariants of a net that names no algebraic variable, from its initial state.
 use Rattle.std.specs.Prelude.{◌≡◌, pos, true, false, List, [], ◌∷◌, Result, Ok, Err, if◌then◌else◌}
 use Rattle.std.specs.List.{list_any, AllByRecursion}
 use Rattle.cif_system.specs.Words.{Member}

@@ -1,4 +1,4 @@
--- Automata, exclusions and state invariants that may be counted in the place of others.
+-- Helper of the code: automata, exclusions and state invariants that may be counted in the place of others.
 use Rattle.std.specs.Prelude.{◌≡◌, ℕ, List, [], ◌∷◌, map}
 use Rattle.cif_system.specs.System.{Role}
 use Rattle.cif_model.specs.Net.{NetEdge, NetAuto, NetExclusion, NetInvariant, Net}

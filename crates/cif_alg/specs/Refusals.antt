@@ -1,4 +1,4 @@
--- How the refusals of algebraic variables without an order, and of expressions without intervals, are told.
+-- Helper of the code: how the refusals of algebraic variables without an order, and of expressions without intervals, are told.
 use Rattle.cif_measure.specs.declared.error.WidthErr.TheVariants as width
 use Rattle.cif_measure.specs.declared.error.IntervalErr.{IntervalErr}
 use Rattle.cif_measure.specs.declared.error.IntervalErr.TheVariants as interval

@@ -1,4 +1,4 @@
--- A table that is filled along an order of definitions: what `f` tells of each, given the table so far.
+-- Helper of the code: a table that is filled along an order of definitions: what `f` tells of each, given the table so far.
 use Rattle.std.specs.Prelude.{ℕ, List, [], ◌∷◌, length, replicate, Some, None, slice_get, slice_set}
 use Rattle.cif_model.specs.Unfolding.{at_or}
 

@@ -1,4 +1,4 @@
--- The measure of an algebraic variable, given those that its definitions name, where counts stop on the way.
+-- Helper of the code: the measure of an algebraic variable, given those that its definitions name, where counts stop on the way.
 use Rattle.std.specs.Prelude.{ℕ, List, [], ◌∷◌}
 use Rattle.cif_term.specs.Tree.{NetExpr}
 use Rattle.cif_model.specs.Net.{NetAlg}

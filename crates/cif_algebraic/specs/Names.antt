@@ -1,4 +1,4 @@
--- The algebraic variables that expressions name, put together from those of their parts, in the order of the text.
+-- Helper of the code: the algebraic variables that expressions name, put together from those of their parts, in the order of the text.
 use Rattle.std.specs.Prelude.{ℕ, List, [], ◌∷◌, ◌++◌, flat_map}
 use Rattle.cif_term.specs.Tree.{NetExpr, net_expr, NetForm, n_alg, n_minus, n_plus, n_not, n_abs, n_min, n_max, n_sum, n_product, n_compare, n_and, n_or, n_implies, n_iff, n_if, NetExprs, no_net_exprs, net_exprs, NetTerms, no_net_terms, net_terms, NetFactors, no_net_factors, net_factors, NetBranches, no_net_branches, net_branches}
 use Rattle.cif_model.specs.Net.{NetAlg}

@@ -1,4 +1,4 @@
--- The interval of an algebraic variable, given those that its definitions name, or why it has none.
+-- Helper of the code: the interval of an algebraic variable, given those that its definitions name, or why it has none.
 use Rattle.std.specs.Prelude.{◌≡◌, ℕ, pos, List, [], ◌∷◌, take, Option, Some, None, slice_get}
 use Rattle.cif_base.specs.Bounds.{Bounds, between, join_bounds}
 use Rattle.cif_system.specs.System.{Range}

@@ -1,4 +1,4 @@
--- The outer components by numbers, one after the other.
+-- Helper of the code: the outer components by numbers, one after the other.
 use Rattle.std.specs.Prelude.{ℕ, false, List, [], ◌∷◌, ◌++◌, map, flat_map, Option, Some, None, slice_get}
 use Rattle.std.specs.Borrow.{Bor}
 use Rattle.std.specs.Global.{Vec}

@@ -1,4 +1,4 @@
--- How many objects a body has, without those of the components in it, stopping past the limit.
+-- Helper of the code: how many objects a body has, without those of the components in it, stopping past the limit.
 use Rattle.std.specs.Prelude.{ℕ, ◌+◌, min, List, [], ◌∷◌, length}
 use Rattle.cif_source.specs.Source.{EdgeTree, LocationTree, DeclTree, SourceItem, decl_item, component_item, definition_item, instance_item, SourceBody, group_body, automaton_body, Source, no_source, source}
 use Rattle.cif_rules.specs.InstanceRules.{decl_objects}

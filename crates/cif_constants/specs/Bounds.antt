@@ -1,4 +1,4 @@
--- The first constant expression or bound of a type that breaks the rule on constants, by the values of expressions.
+-- Helper of the code: the first constant expression or bound of a type that breaks the rule on constants, by the values of expressions.
 use Rattle.std.specs.Prelude.{ℕ, ℤ, int_lt, Bool, true, false, List, [], ◌∷◌, Option, Some, None}
 use Rattle.std.specs.Option.{option_or}
 use Rattle.cif_ast.specs.Tree.{Tree}

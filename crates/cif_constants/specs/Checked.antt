@@ -1,4 +1,4 @@
--- Operators on numbers of 64 bits: a result outside 64 bits is none, and a divisor 0 has none.
+-- Helper of the code: operators on numbers of 64 bits: a result outside 64 bits is none, and a divisor 0 has none.
 use Rattle.std.specs.Prelude.{◌^◌, ℤ, pos, negsuc, int_div, int_rem, ◌*ℤ◌, nat_lt, Bool, Option, Some, None, if◌then◌else◌}
 use Rattle.std.specs.Ordering.{int_eq}
 use Rattle.cif_ast.specs.declared.expressions.MulOp.{MulOp}

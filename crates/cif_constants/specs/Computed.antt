@@ -1,5 +1,5 @@
--- The value of an expression as it is computed in 64 bits, every operand evaluated: none where a value leaves 64 bits or a
--- divisor is 0. Sums and products go from left to right (CIF 3 language reference, "Expressions").
+-- Helper of the code: the value of an expression as it is computed in 64 bits, every operand evaluated: none where a value leaves 64 bits
+-- or a divisor is 0. Sums and products go from left to right (CIF 3 language reference, "Expressions").
 use Rattle.std.specs.Prelude.{ℤ, pos, neg_ℤ, nat_abs, Bool, true, false, not, ◌&&◌, ◌||◌, Option, Some, None, if◌then◌else◌, unwrap_or}
 use Rattle.std.specs.Int.{int_min, int_max}
 use Rattle.std.specs.Ordering.{int_eq}

@@ -1,4 +1,4 @@
--- The constants of bodies as the nodes of a graph, what each needs, and their values in an order of the graph.
+-- Helper of the code: the constants of bodies as the nodes of a graph, what each needs, and their values in an order of the graph.
 use Rattle.std.specs.Prelude.{ℕ, ℤ, true, List, [], ◌∷◌, flat_map, slice_get, slice_set, Option, Some, None, Result, Ok, Err, option_map}
 use Rattle.std.specs.Option.{option_to_list}
 use Rattle.cif_ast.specs.Tree.{Tree}

@@ -1,4 +1,4 @@
--- How many declarations components have, by their bodies.
+-- Helper of the code: how many declarations components have, by their bodies.
 use Rattle.std.specs.Prelude.{ℕ, zero, suc, ◌+◌, List, length, Option, Some, None, slice_get}
 use Rattle.cif_source.specs.Objects.{decls_in}
 use Rattle.cif_scope.specs.Written.{WrittenBody}

@@ -1,4 +1,4 @@
--- The graph of bodies by numbers: a body needs the components in it and the definitions of its instances, and not the
+-- Helper of the code: the graph of bodies by numbers: a body needs the components in it and the definitions of its instances, and not the
 -- definitions in it.
 use Rattle.std.specs.Prelude.{ℕ, zero, suc, List, [], ◌∷◌, ◌++◌, length, slice_get, Option, None, Some}
 use Rattle.std.specs.Option.{option_to_list}

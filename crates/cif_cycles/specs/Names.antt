@@ -1,5 +1,5 @@
--- The graph of names by numbers: all names of all bodies, numbered through. A type or constant needs what the names in its type
--- and value denote, and other names need nothing.
+-- Helper of the code: the graph of names by numbers: all names of all bodies, numbered through. A type or constant needs what the names in
+-- its type and value denote, and other names need nothing.
 use Rattle.std.specs.Prelude.{ℕ, zero, suc, ◌+◌, true, List, [], ◌∷◌, ◌++◌, flat_map, length, replicate, slice_get, Option, None, Some, option_map}
 use Rattle.std.specs.Option.{option_to_list}
 use Rattle.cif_ast.specs.declared.names.Ident.{Ident}

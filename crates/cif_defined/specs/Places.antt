@@ -1,4 +1,4 @@
--- Values for the locations of an automaton, as branches.
+-- Helper of the code: values for the locations of an automaton, as branches.
 use Rattle.std.specs.Prelude.{ℕ, suc, List, [], ◌∷◌}
 use Rattle.cif_term.specs.Tree.{NetExpr, net_expr, n_loc}
 use Rattle.cif_model.specs.Exprs.{expr_at}

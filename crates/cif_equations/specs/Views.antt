@@ -1,4 +1,4 @@
--- What references into the tree stand for.
+-- Helper of the code: what references into the tree stand for.
 use Rattle.cif_ast.specs.declared.declarations.Decl.{Decl}
 use Rattle.cif_source.specs.Source.{DeclTree, decl_tree}
 use denote.Ref.{Bor}

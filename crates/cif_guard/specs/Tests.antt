@@ -1,4 +1,4 @@
--- The tests of an event, by the places of its exclusions, and tests behind those of a choice.
+-- Helper of the code: the tests of an event, by the places of its exclusions, and tests behind those of a choice.
 use Rattle.std.specs.Prelude.{ℕ, List, [], ◌∷◌, ◌++◌, map, flat_map, length, slice_get, slice_index_or, Some, None}
 use Rattle.std.specs.List.{range_with_len}
 use Rattle.cif_term.specs.Tree.{NetExpr, net_expr, NetForm, n_and, NetExprs, no_net_exprs, net_exprs}

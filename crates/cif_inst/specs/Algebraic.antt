@@ -1,4 +1,4 @@
--- The algebraic variables that components declare, with their types and definitions.
+-- Helper of the code: the algebraic variables that components declare, with their types and definitions.
 use Rattle.std.specs.Prelude.{◌≡◌, ℕ, ◌+◌, pos, List, [], ◌∷◌, ◌++◌, map, Option, Some, None}
 use Rattle.cif_ast.specs.Tree.{Tree}
 use Rattle.cif_system.specs.Words.{Member}

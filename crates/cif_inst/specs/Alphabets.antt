@@ -1,4 +1,5 @@
--- The alphabets of automata and what they monitor, by what names are looked up in, and the first event outside an alphabet.
+-- Helper of the code: the alphabets of automata and what they monitor, by what names are looked up in, and the first event outside an
+-- alphabet.
 use Rattle.std.specs.Prelude.{◌≡◌, ℕ, ◌+◌, Bool, not, List, [], ◌∷◌, ◌++◌, map, flat_map, Option, Some, None, slice_get, unwrap_or, if◌then◌else◌}
 use Rattle.std.specs.List.{position_or_len}
 use Rattle.cif_ast.specs.declared.names.Name.{Name}

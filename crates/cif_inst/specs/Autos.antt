@@ -1,4 +1,4 @@
--- The automata of a source, by what names are looked up in.
+-- Helper of the code: the automata of a source, by what names are looked up in.
 use Rattle.std.specs.Prelude.{ℕ, ◌+◌, ◌-◌, Bool, List, [], ◌∷◌, ◌++◌, map, length, take}
 use Rattle.std.specs.List.{position_or_len}
 use Rattle.cif_model.specs.Net.{NetAuto}

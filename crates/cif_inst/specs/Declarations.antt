@@ -1,4 +1,4 @@
--- The inputs, discrete variables and algebraic variables that components declare.
+-- Helper of the code: the inputs, discrete variables and algebraic variables that components declare.
 use Rattle.std.specs.Prelude.{ℕ, ◌+◌, List, [], ◌∷◌, ◌++◌, Option, None}
 use Rattle.cif_ast.specs.Tree.{Tree}
 use Rattle.cif_ast.specs.declared.names.Ident.{Ident}

@@ -1,4 +1,4 @@
--- The definitions of the algebraic variables that components declare, as they stand in the source.
+-- Helper of the code: the definitions of the algebraic variables that components declare, as they stand in the source.
 use Rattle.std.specs.Prelude.{ℕ, ◌+◌, List, [], ◌∷◌, ◌++◌, map, Option, Some, None}
 use Rattle.cif_ast.specs.Tree.{Tree}
 use Rattle.cif_source.specs.Source.{Text, SourceBody}

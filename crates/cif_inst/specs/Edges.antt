@@ -1,4 +1,4 @@
--- The edges of an automaton, by what names are looked up in.
+-- Helper of the code: the edges of an automaton, by what names are looked up in.
 use Rattle.std.specs.Prelude.{ℕ, ◌+◌, List, [], ◌∷◌, ◌++◌, map, flat_map, length, Option, Some, None, option_map}
 use Rattle.cif_ast.specs.declared.names.Ident.{Ident}
 use Rattle.cif_model.specs.Net.{NetEdge}

@@ -1,4 +1,4 @@
--- The equations of a body by the names that they define: the first value for each name.
+-- Helper of the code: the equations of a body by the names that they define: the first value for each name.
 use Rattle.std.specs.Prelude.{List, [], ◌∷◌, map, Option, Some, None, if◌then◌else◌}
 use Rattle.std.specs.Map.{lookup}
 use Rattle.cif_ast.specs.Tree.{Tree}

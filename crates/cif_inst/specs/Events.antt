@@ -1,4 +1,4 @@
--- The events of components, with their channels.
+-- Helper of the code: the events of components, with their channels.
 use Rattle.std.specs.Prelude.{◌≡◌, ℕ, ◌+◌, List, [], ◌∷◌, ◌++◌, map}
 use Rattle.cif_ast.specs.declared.names.Ident.{Ident}
 use Rattle.cif_ast.specs.declared.declarations.Class.{Class}

@@ -1,4 +1,4 @@
--- Marks of events: each has that of the last automaton in which it stood somewhere.
+-- Helper of the code: marks of events: each has that of the last automaton in which it stood somewhere.
 use Rattle.std.specs.Prelude.{◌≡◌, ℕ, Bool, true, not, nat_eq, nat_le, List, [], ◌∷◌, length, slice_get, slice_set, unwrap_or}
 use Rattle.std.specs.List.{list_all}
 

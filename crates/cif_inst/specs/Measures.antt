@@ -1,5 +1,5 @@
--- What exclusions, state invariants and the edges of automata weigh in the net, by what names are looked up in and where alg tells what
--- an algebraic variable weighs.
+-- Helper of the code: what exclusions, state invariants and the edges of automata weigh in the net, by what names are looked up in and
+-- where alg tells what an algebraic variable weighs.
 use Rattle.std.specs.Prelude.{ℕ, ◌+◌, List, [], ◌∷◌, ◌++◌, map, flat_map}
 use Rattle.cif_model.specs.Counts as counts
 use Rattle.cif_measure.specs.declared.measures.Measure.{Measure}

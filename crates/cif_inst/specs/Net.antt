@@ -1,4 +1,4 @@
--- What a net of a source says of its rules on instances, and why a source has none.
+-- Helper of the code: what a net of a source says of its rules on instances, and why a source has none.
 use Rattle.std.specs.Prelude.{ℕ}
 use Rattle.cif_source.specs.Source.{Source}
 use Rattle.cif_rules.specs.InstanceRules.{AlphabetLacksDue, RoleMixedDue, TooManyObjectsDue, ConstantRangeDue}

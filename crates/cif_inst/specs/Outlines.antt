@@ -1,5 +1,5 @@
--- Automata, exclusions and state invariants of a net with numbers of measures in the place of expressions, and what is told of sizes
--- by them.
+-- Helper of the code: automata, exclusions and state invariants of a net with numbers of measures in the place of expressions, and what is
+-- told of sizes by them.
 use Rattle.std.specs.Prelude.{◌≡◌, ℕ, suc, ◌+◌, ◌≤◌, max, nat_lt, true, ◌||◌, List, [], ◌∷◌, length, sum_by, None, if◌then◌else◌}
 use Rattle.cif_term.specs.Tree.{NetExpr, net_expr, n_alg, no_net_updates}
 use Rattle.cif_model.specs.Net.{NetEdge, NetAuto, NetEvent, NetExclusion, NetInvariant}

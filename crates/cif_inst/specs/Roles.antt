@@ -1,4 +1,4 @@
--- Automata in which an event has two roles, by their alphabets.
+-- Helper of the code: automata in which an event has two roles, by their alphabets.
 use Rattle.std.specs.Prelude.{◌≡◌, ℕ, ◌<◌, Bool, ◌||◌, List, [], ◌∷◌, ◌++◌, Option, Some, None, slice_get, if◌then◌else◌}
 use Rattle.std.specs.List.{list_any}
 use Rattle.cif_system.specs.Words.{Member}

@@ -1,4 +1,4 @@
--- The places to which edges lead, by the names of scopes.
+-- Helper of the code: the places to which edges lead, by the names of scopes.
 use Rattle.std.specs.Prelude.{ℕ, Option, Some, None}
 use Rattle.cif_ast.specs.declared.names.Ident.{Ident}
 use Rattle.cif_scope.specs.declared.scope.What.{What}

@@ -1,4 +1,4 @@
--- What the types of declarations are found in.
+-- Helper of the code: what the types of declarations are found in.
 use Rattle.std.specs.Prelude.{ℕ, ◌<◌, length}
 use Rattle.cif_system.specs.Words.{Member}
 use Rattle.cif_source.specs.Source.{Source}

@@ -1,4 +1,4 @@
--- The inputs and the discrete variables that components declare, with their types and first values.
+-- Helper of the code: the inputs and the discrete variables that components declare, with their types and first values.
 use Rattle.std.specs.Prelude.{◌≡◌, List, ◌++◌, map, Some}
 use Rattle.cif_ast.specs.Tree.{Tree}
 use Rattle.cif_system.specs.Words.{Member}

@@ -1,4 +1,4 @@
--- What the types of `src/` stand for.
+-- Helper of the code: what the types of `src/` stand for.
 use Rattle.cif_system.specs.System.{Role, syncing, sending, receiving}
 use Rattle.cif_source.specs.Source.{RoleTree, type_tree, channel_tree}
 use Rattle.cif_source.specs.Step.{role_of}

@@ -1,4 +1,4 @@
--- Who takes part in the choices for an event, and what each may do, as code lists it.
+-- Helper of the code: who takes part in the choices for an event, and what each may do, as code lists it.
 use Rattle.std.specs.Prelude.{ℕ, ◌+◌, nat_eq, nat_lt, Bool, true, false, ◌&&◌, List, [], ◌∷◌, ◌++◌, map, length, flat_map, Option, Some, None, slice_get, if◌then◌else◌}
 use Rattle.std.specs.List.{range_with_len}
 use Rattle.cif_system.specs.System.{Role, syncing, sending, receiving}

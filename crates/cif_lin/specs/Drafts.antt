@@ -1,4 +1,4 @@
--- A choice that is being put together.
+-- Helper of the code: a choice that is being put together.
 use Rattle.std.specs.Prelude.{ℕ, nat_eq, ◌/◌, ◌%◌, length, slice_get, if◌then◌else◌, List, [], ◌∷◌, ◌++◌, map, Option, Some, None, option_map}
 use Rattle.cif_term.specs.Tree.{NetExpr, NetUpdates, no_net_updates}
 use Rattle.cif_term.specs.View.{view, view_updates}

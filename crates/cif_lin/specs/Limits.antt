@@ -1,4 +1,4 @@
--- A list that grows up to a limit.
+-- Helper of the code: a list that grows up to a limit.
 use Rattle.std.specs.Prelude.{nat_lt, Bool, true, false, List, [], ◌∷◌, ◌++◌, length, Option, Some, None, if◌then◌else◌}
 use Rattle.cif_model.specs.Listing.{NetChoice}
 use Rattle.cif_model.specs.Counts.{most_choices}

@@ -1,4 +1,4 @@
--- One of the choices that a product of lists has, by its number.
+-- Helper of the code: one of the choices that a product of lists has, by its number.
 use Rattle.std.specs.Prelude.{ℕ, ◌/◌, ◌%◌, List, [], ◌∷◌, length, Some, None, slice_get}
 use Rattle.cif_system.specs.Choices.{product_by}
 

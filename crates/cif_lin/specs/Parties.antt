@@ -1,4 +1,4 @@
--- Those that take part, as plain data.
+-- Helper of the code: those that take part, as plain data.
 use Rattle.cif_lin.specs.declared.party.Party.{Party}
 use Rattle.cif_lin.specs.Pieces.{Cell}
 

@@ -1,4 +1,4 @@
--- What each automaton that takes part adds to a choice.
+-- Helper of the code: what each automaton that takes part adds to a choice.
 use Rattle.std.specs.Prelude.{ℕ, List, [], ◌∷◌, ◌++◌, Option, Some, None, slice_get}
 use Rattle.cif_term.specs.Tree.{NetExpr}
 use Rattle.cif_model.specs.Net.{NetEdge, NetAuto}

@@ -1,5 +1,5 @@
--- What holds while the nodes that a node reaches are met: at each node the start of the latest search that met it, and the
--- nodes whose needs are still to be met.
+-- Helper of the code: what holds while the nodes that a node reaches are met: at each node the start of the latest search that met it, and
+-- the nodes whose needs are still to be met.
 use Rattle.std.specs.Prelude.{◌≡◌, ℕ, ◌+◌, ◌*◌, ◌<◌, ◌≤◌, ◌⊎◌, List, [], ◌∷◌, length, Option, None, Some, slice_get, nat_eq, if◌then◌else◌}
 use Rattle.cif_system.specs.Words.{Member, Chain}
 use Rattle.cif_order.specs.Graph.{needs_of, Needs}

@@ -1,4 +1,4 @@
--- What the arguments of a source are read from.
+-- Helper of the code: what the arguments of a source are read from.
 use Rattle.std.specs.Prelude.{◌≡◌, ℕ, map}
 use Rattle.cif_source.specs.Source.{Source}
 use Rattle.cif_rules.specs.BodyRules.{MismatchDue}

@@ -1,4 +1,4 @@
--- Parentheses round an expression, and bare names.
+-- Helper of the code: parentheses round an expression, and bare names.
 use Rattle.std.specs.Prelude.{ℕ, Option, Some, None}
 use Rattle.cif_ast.specs.Tree.{Tree, node, Shape, truth, number, named, received, paren, negative, positive, negation, absolute, least, greatest, sum, product, comparison, all_of, any_of, implication, equivalence, choice}
 use Rattle.cif_ast.specs.declared.names.Name.{Name}

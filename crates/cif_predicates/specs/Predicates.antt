@@ -1,4 +1,4 @@
--- The exclusions and the state invariants of a net, by the numbers of the events that they name.
+-- Helper of the code: the exclusions and the state invariants of a net, by the numbers of the events that they name.
 use Rattle.std.specs.Prelude.{Bool, true, false, List, [], ◌∷◌, map}
 use Rattle.cif_ast.specs.Tree.{Tree}
 use Rattle.cif_ast.specs.declared.names.Name.{Name}

@@ -1,4 +1,4 @@
--- The invariants that components state, in the order of the source.
+-- Helper of the code: the invariants that components state, in the order of the source.
 use Rattle.std.specs.Prelude.{ℕ, ◌+◌, ◌<◌, length, List, [], ◌∷◌, ◌++◌, flat_map}
 use Rattle.cif_source.specs.Source.{InvariantTree, DeclTree, type_decl, enum_decl, event_decl, const_decl, alg_decl, input_decl, disc_decl, equation_decl, invariant_decl, marked_decl, SourceItem, decl_item, component_item, definition_item, instance_item, SourceBody, group_body, automaton_body, Source, no_source, source}
 use Rattle.cif_system.specs.Words.{Member}

@@ -1,4 +1,4 @@
--- What the types of `src/` stand for.
+-- Helper of the code: what the types of `src/` stand for.
 use Rattle.cif_source.specs.Source.{invariant_tree}
 use Rattle.cif_predicates.specs.Stated.{StatedTree}
 use Rattle.cif_predicates.specs.declared.stated.Stated.{Stated}

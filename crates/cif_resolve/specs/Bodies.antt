@@ -1,4 +1,4 @@
--- The names that a body writes and its instances, with the definitions of these by numbers.
+-- Helper of the code: the names that a body writes and its instances, with the definitions of these by numbers.
 use Rattle.std.specs.Prelude.{ℕ, ◌+◌, not, false, nat_eq, List, [], ◌∷◌, ◌++◌, flat_map, length, slice_get, Option, Some, None}
 use Rattle.cif_source.specs.Source.{ParamTree, InstanceTree, SourceItem, decl_item, component_item, definition_item, instance_item, SourceBody, group_body, automaton_body, Source, no_source, source}
 use Rattle.cif_source.specs.Components.{whole}

@@ -1,4 +1,4 @@
--- What references into the tree stand for.
+-- Helper of the code: what references into the tree stand for.
 use Rattle.std.specs.Prelude.{List}
 use denote.Ref.{Bor}
 use Rattle.cif_ast.specs.Tree.{UpdateTrees}

@@ -1,4 +1,4 @@
--- Where expressions and the values of an edge stand.
+-- Helper of the code: where expressions and the values of an edge stand.
 use Rattle.std.specs.Prelude.{ℕ, List, [], ◌∷◌, Some, None}
 use Rattle.cif_ast.specs.declared.names.Name.{Name}
 use Rattle.cif_source.specs.Source.{RoleTree, tree_at}

@@ -1,4 +1,4 @@
--- The rule on kinds, body by body.
+-- Helper of the code: the rule on kinds, body by body.
 use Rattle.std.specs.Prelude.{ℕ, ◌<◌}
 use Rattle.cif_source.specs.Source.{Source}
 use Rattle.cif_source.specs.Components.{Component}

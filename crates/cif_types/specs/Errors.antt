@@ -1,4 +1,4 @@
--- The errors of the checks that a source's kinds stand on, as those of its kinds.
+-- Helper of the code: the errors of the checks that a source's kinds stand on, as those of its kinds.
 use Rattle.cif_types.specs.declared.error.TypeErr.{TypeErr}
 use Rattle.cif_types.specs.declared.error.TypeErr.TheVariants as type
 use Rattle.cif_kinds.specs.declared.error.KindErr.{KindErr}

@@ -1,4 +1,4 @@
--- The first automaton with another number of initial locations than one, in text order.
+-- Helper of the code: the first automaton with another number of initial locations than one, in text order.
 use Rattle.std.specs.Prelude.{◌≡◌, ℕ, Bool, true, false, nat_eq, filter, length, Option, Some, None, Result, Ok, Err}
 use Rattle.cif_ast.specs.declared.names.Ident.{Ident}
 use Rattle.cif_source.specs.Source.{LocationTree, AutomatonTree, SourceItem, decl_item, component_item, definition_item, instance_item, SourceBody, group_body, automaton_body, Source, no_source, source}

@@ -1,5 +1,5 @@
--- What each body declares, as far as kinds go: for each name of its scope a slot, and the types that have names, numbered
--- through all bodies.
+-- Helper of the code: what each body declares, as far as kinds go: for each name of its scope a slot, and the types that have names,
+-- numbered through all bodies.
 use Rattle.std.specs.Prelude.{ℕ, ◌+◌, List, [], ◌∷◌, ◌++◌, map, flat_map, length, replicate, Some, None}
 use Rattle.cif_ast.specs.declared.names.Ident.{Ident}
 use Rattle.cif_source.specs.Source.{TypeTree, type_tree, ChannelTree, channel_tree, DeclTree, type_decl, enum_decl, event_decl, const_decl, alg_decl, input_decl, disc_decl, equation_decl, invariant_decl, marked_decl, ParamTree, event_param, alg_param, location_param, LocationTree, SourceItem, decl_item, component_item, definition_item, instance_item, SourceBody, group_body, automaton_body, Source, no_source, source}

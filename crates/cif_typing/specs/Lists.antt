@@ -1,4 +1,4 @@
--- Lists of literals, numbered in the order in which they first stand.
+-- Helper of the code: lists of literals, numbered in the order in which they first stand.
 use Rattle.std.specs.Prelude.{ℕ, suc, List, [], ◌∷◌, ◌++◌, map, length, Option, Some, None, option_map, unwrap_or, if◌then◌else◌}
 use Rattle.cif_ast.specs.declared.names.Ident.{Ident}
 use Rattle.cif_source.specs.Source.{Text}

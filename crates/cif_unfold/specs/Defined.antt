@@ -1,4 +1,4 @@
--- The expressions that replace the algebraic variables of a net, made one after another along an order of their needs.
+-- Helper of the code: the expressions that replace the algebraic variables of a net, made one after another along an order of their needs.
 use Rattle.std.specs.Prelude.{ℕ, List}
 use Rattle.cif_term.specs.Tree.{NetExpr}
 use Rattle.cif_model.specs.Net.{NetAlg}

@@ -1,4 +1,4 @@
--- Lists of what is needed while they grow.
+-- Helper of the code: lists of what is needed while they grow.
 use Rattle.std.specs.Prelude.{◌<◌, ℕ, List}
 use Rattle.cif_ast.specs.declared.names.Name.{Name}
 use Rattle.cif_system.specs.Words.{Member}

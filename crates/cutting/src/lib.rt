@@ -5,5 +5,5 @@
 mod bytes;
 mod runs;
 
-pub use bytes::{begins_word, is_blank, is_digit, is_wordy};
+pub use bytes::{begins_word, is_blank, is_digit};
 pub use runs::{after_pair, split_number, split_word};

@@ -8,7 +8,7 @@ use crate::bytes::{is_digit, is_wordy};
 
 /// The place of the first byte that is in no word.
 #[inline]
-fn first_unwordy(text: &[u8]) -> Option<usize>
+fn word_end(text: &[u8]) -> Option<usize>
     ensures { result ≡ position (λ b. not (wordy b)) text.now }
 {
     text.iter().position(|byte| !is_wordy(*byte))
@@ -16,7 +16,7 @@ fn first_unwordy(text: &[u8]) -> Option<usize>
 
 /// The place of the first byte that is no digit.
 #[inline]
-fn first_undigit(text: &[u8]) -> Option<usize>
+fn number_end(text: &[u8]) -> Option<usize>
     ensures { result ≡ position (λ b. not (digit b)) text.now }
 {
     text.iter().position(|byte| !is_digit(*byte))
@@ -29,7 +29,7 @@ fn wordy_len(text: &[u8]) -> usize
     ensures count { result ≡ unwrap_or (position (λ b. not (wordy b)) text.now) (length text.now) }
     ensures within { result ≤ length text.now }
 {
-    first_unwordy(text).unwrap_or(text.len())
+    word_end(text).unwrap_or(text.len())
 }
 
 /// How many digits stand at the front.
@@ -39,7 +39,7 @@ fn digits_len(text: &[u8]) -> usize
     ensures count { result ≡ unwrap_or (position (λ b. not (digit b)) text.now) (length text.now) }
     ensures within { result ≤ length text.now }
 {
-    first_undigit(text).unwrap_or(text.len())
+    number_end(text).unwrap_or(text.len())
 }
 
 /// The letters, `_` and digits at the front, and the bytes after them.

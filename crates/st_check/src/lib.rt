@@ -1,5 +1,5 @@
 //! Checking the names, the types and the first values of a Structured Text program (IEC 61131-3, "Variables" and "Data
-//! types").
+//! types"), and placing its statements.
 #![tactic(auto)]
 
 mod checked;

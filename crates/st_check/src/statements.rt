@@ -31,6 +31,7 @@ fn knows_conditions(alloc: Global, scope: &Scope, branches: &[StBranch]) -> Resu
     Ok(true)
 }
 
+/// Whether an expression is one of Booleans.
 fn is_condition(alloc: Global, scope: &Scope, cond: &StExpr) -> Result<bool, Memory>
     ensures { IfOk result (λ is. is ≡ checks.is_boolean (checks.sort_of scope.now (view_expr cond.now))) }
 {

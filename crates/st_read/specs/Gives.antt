@@ -1,4 +1,4 @@
--- What a reader of the code ensures: what reading the list gives, unless memory runs out.
+-- Helper of the code: what a reader of the code ensures: what reading the list gives, unless memory runs out.
 use Rattle.std.specs.Prelude.{◌≡◌, List, [], ◌∷◌, ◌++◌, Option, Some, None, Result, MatchResult}
 use Rattle.grammar.specs.Reader.{Read}
 use Rattle.st_read.specs.declared.error.Stop.{Stop}
