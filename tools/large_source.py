@@ -1,10 +1,11 @@
-"""Writes a source of 4 MiB.
+"""Writes a source of up to 4 MiB.
 
-    python3 tools/large_source.py [cells] > source.cif
+    python3 tools/large_source.py [cells [COPIES]] > source.cif
 
 Without a word it has automata with data, guards and updates, and invariants, and more objects than a source may have: it is read whole and
-then refused (17). With `cells` it has commented copies of examples/cell.cif, in groups of their own, and more comments up to the size: as
-many as the limit on choices allows, and without their state invariants, of which each choice of each copy would ask all.
+then refused (17). With `cells` it has commented copies of examples/cell.cif, in groups of their own, and more comments up to the size:
+1,000 copies, which the limit on choices allows, and without their state invariants, of which each choice of each copy would ask all. With
+fewer copies, from 1 on, it is so much smaller.
 """
 
 import os
@@ -41,18 +42,28 @@ def machines():
         number += 1
 
 
-def cells():
-    """Each cell in a share of the limit, behind a comment that fills it."""
+def cells(copies):
+    """Each cell in a thousandth of the limit, behind a comment that fills that."""
     with open(CELL, encoding="utf-8") as file:
         text = "".join(line for line in file if not line.startswith("requirement invariant"))
     share = LIMIT // CELLS
     parts = []
-    for number in range(CELLS):
+    for number in range(copies):
         cell = f"group cell{number}:\n{text}end\n"
         comment = f"// Cell {number}" + " of the line" * (share // 12)
         parts.append(comment[: share - len(cell) - 1] + "\n" + cell)
     return "".join(parts)
 
 
+def main(words):
+    copies = words[1] if len(words) == 2 else str(CELLS)
+    if not words:
+        print(machines(), end="")
+    elif words[0] == "cells" and len(words) <= 2 and copies.isdecimal() and 1 <= int(copies) <= CELLS:
+        print(cells(int(copies)), end="")
+    else:
+        sys.exit(__doc__)
+
+
 if __name__ == "__main__":
-    print(cells() if sys.argv[1:] == ["cells"] else machines(), end="")
+    main(sys.argv[1:])
