@@ -58,8 +58,8 @@ class Maker:
     def __init__(self, choose):
         self.choose = choose
         self.variables = []
-        # how often something wrong is made on purpose, an operand without a value, and a number near the end of 64 bits; where
-        # several operands and partial results have no value, the first of them is told
+        # how often something wrong is made on purpose, an operand without a value, and a number or a subrange near the end of
+        # 64 bits; where several operands and partial results have no value, the first of them is told
         self.wrong = choose.choice([0, 0, 0, 0.005])
         self.faulty = choose.choice([0, 0, 0, 0, 0, 0.2])
         self.near = 0.3 if self.faulty else choose.choice([0, 0, 0.1])
@@ -214,10 +214,18 @@ class Maker:
 
     # ---- declarations
 
+    def bounds(self):
+        """The bounds of a subrange: around 0, or now and then at one end of 64 bits or at both; the least number has no literal."""
+        low, size = self.choose.randint(-30, 2), self.choose.randint(0, 60)
+        high = low + size
+        if self.maybe(self.near):
+            least, greatest = self.choose.choice([0, 0, 30]) - GREATEST, GREATEST - self.choose.choice([0, 0, 30])
+            low, high = self.choose.choice([(least, least + size), (greatest - size, greatest), (least, greatest)])
+        return low, max(high - 70 * self.maybe(self.wrong * 4), -GREATEST)
+
     def variable(self, name):
         block, kind = self.choose.choice(BLOCKS), self.choose.choice(["BOOL", "LINT", "LINT", "RANGE"])
-        low = self.choose.randint(-30, 2)
-        high = low + self.choose.randint(0, 60) - 70 * self.maybe(self.wrong * 4)
+        low, high = self.bounds()
         first = None
         if self.maybe(0.6):
             first = self.maybe(0.5) if kind == "BOOL" else self.choose.randint(low, max(low, high))

@@ -31,14 +31,29 @@ def sources(depth):
     }
 
 
-def assignments(depth):
-    """Assignments of expressions so deep; an operator and the parentheses around its operand are two levels."""
+def in_levels(opens, closes, levels, depth):
+    """Conditions so deep, of a form that is so many levels deep itself; complements make up the rest."""
+    return nested(opens, "NOT " * (depth % levels) + "b", closes, depth // levels)
+
+
+def conditions(depth):
+    """BOOL expressions so deep; an operator, a function and the parentheses around an operand are a level each."""
     return {
-        "parentheses": f"b := {nested('(', 'b', ')', depth)};",
-        "complements": f"b := {'NOT ' * depth}b;",
-        "negations": f"x := {'- ' * depth}x;",
-        "selections": f"b := {nested('SEL(b, b, ', 'b', ')', depth)};",
-        "exclusive operators": f"b := {nested('b XOR (', 'b XOR b' if depth % 2 else 'b', ')', depth // 2)};",
+        "parentheses": nested("(", "b", ")", depth),
+        "complements": "NOT " * depth + "b",
+        "selections": nested("SEL(b, b, ", "b", ")", depth),
+        "exclusive operators": in_levels("b XOR (", ")", 2, depth),
+        "equalities": in_levels("b = (", ")", 2, depth),
+        "orders": in_levels("x < (SEL(", ", x, x))", 3, depth),
+        "complements of conjunctions": in_levels("NOT (b AND ", ")", 3, depth),
+    }
+
+
+def numbers(depth):
+    """Integer expressions so deep."""
+    return {
+        "negations": "- " * depth + "x",
+        "least and greatest": nested("MIN(x, MAX(x, ", "- " * (depth % 2) + "x", "))", depth // 2),
     }
 
 
@@ -47,12 +62,28 @@ def in_statements(inside, depth):
     return nested("IF b THEN ", inside, " END_IF;", depth)
 
 
+def statements(depth):
+    """Statements that nest so deep. What is innermost is executed."""
+    return {
+        "IF": in_statements("b := b;", depth),
+        "ELSIF": nested("IF NOT b THEN b := b; ELSIF b THEN ", "b := b;", " END_IF;", depth),
+        "ELSE": nested("IF NOT b THEN b := b; ELSE ", "b := b;", " END_IF;", depth),
+        "WHILE": nested("WHILE b DO ", "b := FALSE;", " END_WHILE;", depth),
+    }
+
+
 def programs(depth):
     """Programs with one form nested so deep, alone and in statements that nest as deep; the limit of both is 400."""
-    bodies = {"statements of a program": in_statements("b := b;", depth)}
-    for name, assignment in assignments(depth).items():
+    bodies = {f"{name} of a program": body for name, body in statements(depth).items()}
+    assigned = [(name, f"b := {text};") for name, text in conditions(depth).items()]
+    assigned += [(name, f"x := {text};") for name, text in numbers(depth).items()]
+    for name, assignment in assigned:
         bodies[f"{name} of a program"] = assignment
         bodies[f"{name} in statements"] = in_statements(assignment, depth)
+    for name, text in conditions(depth).items():
+        condition = f"IF {text} THEN b := b; END_IF;"
+        bodies[f"{name} as a condition"] = condition
+        bodies[f"{name} as the innermost condition"] = in_statements(condition, depth - 1)
     return {name: CELL % body for name, body in bodies.items()}
 
 
