@@ -1,8 +1,7 @@
 //! The calls that a case may make.
 
 use crate::commands::tool_case;
-use crate::laws::laws_case;
-use crate::nets::{emit_case, frame_case, load_case, widths_case};
+use crate::nets::{emit_case, frame_case, load_case, net_case};
 use crate::scopes::{find_case, scopes_case};
 use crate::sources::{copy_case, source_case};
 use crate::tokens::front_case;
@@ -16,11 +15,10 @@ impl Calls for CifCalls {
     fn answer(&self, call: &str, fields: &Fields<'_>, page: &mut String) -> Result<(), Fault> {
         match call {
             "tool" => tool_case(fields, page),
-            "laws" => laws_case(page),
             "load" => load_case(fields, page),
             "emit" => emit_case(fields, page),
             "frame" => frame_case(fields, page),
-            "widths" => widths_case(fields, page),
+            "inline" | "widths" => net_case(call, fields, page),
             "uses" => uses_case(fields, page),
             "scopes" | "resolve" => scopes_case(call, fields, page),
             "find" => find_case(fields, page),

@@ -5,13 +5,15 @@ use cif_io::{MemFile, MemFiles, MemSink};
 use cif_tool::{Status, code, tool};
 use std::alloc::Global;
 
-/// Files and sinks as a case asks for them: which reads fail, which writes of `out` fail, and how many bytes a write takes.
+/// Files and sinks as a case asks for them: which reads fail, which writes of `out` fail and how many bytes one takes, and which
+/// writes of standard error fail.
 #[derive(Drop)]
 struct Asked {
     files: Vec<MemFile>,
     reads: Vec<u32>,
     writes: Vec<u32>,
     takes: usize,
+    tells: Vec<u32>,
 }
 
 impl Asked {
@@ -21,6 +23,7 @@ impl Asked {
             reads: Vec::new(alloc),
             writes: Vec::new(alloc),
             takes: 16,
+            tells: Vec::new(alloc),
         }
     }
 
@@ -32,7 +35,8 @@ impl Asked {
             "reads" => self.reads = fields.numbers(rest)?,
             "writes" => self.writes = fields.numbers(rest)?,
             "takes" => self.takes = number(rest)? as usize,
-            _ => return Err(Fault::Form("no `file`, `reads`, `writes` or `takes`")),
+            "tells" => self.tells = fields.numbers(rest)?,
+            _ => return Err(Fault::Form("no `file`, `reads`, `writes`, `takes` or `tells`")),
         }
         Ok(())
     }
@@ -73,16 +77,16 @@ fn put_ended(page: &mut String, status: Status, out: &[u8], err: &[u8]) -> Put {
     put_lines(page, "err", err)
 }
 
-/// Makes the call over these files, with this output.
+/// Makes the call over these files, with this output and this standard error.
 fn put_run(
     alloc: Global,
     page: &mut String,
     words: &[String],
     files: &mut MemFiles,
     out: &mut MemSink,
+    err: &mut MemSink,
 ) -> Put {
-    let mut err = MemSink::new(alloc, 7, Vec::new(alloc));
-    let status = tool(alloc, words, files, out, &mut err);
+    let status = tool(alloc, words, files, out, err);
     put_ended(page, status, out.as_slice(), err.as_slice())
 }
 
@@ -93,13 +97,15 @@ fn put_tool(alloc: Global, page: &mut String, words: &[String], asked: Asked) ->
         reads,
         writes,
         takes,
+        tells,
     } = asked;
     let mut out = MemSink::new(alloc, takes.max(1), writes);
+    let mut err = MemSink::new(alloc, 7, tells);
     let mut files = MemFiles::new(alloc, files, reads)?;
-    Ok(put_run(alloc, page, words, &mut files, &mut out)?)
+    Ok(put_run(alloc, page, words, &mut files, &mut out, &mut err)?)
 }
 
-/// `tool WORD.. | file NAME TEXT | reads N.. | writes N.. | takes N`
+/// `tool WORD.. | file NAME TEXT | reads N.. | writes N.. | takes N | tells N..`
 pub fn tool_case(fields: &Fields<'_>, page: &mut String) -> Result<(), Fault> {
     let words = words(fields)?;
     let asked = all_asked(fields)?;

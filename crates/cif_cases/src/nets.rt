@@ -1,14 +1,22 @@
 //! Cases of nets: sources, their nets with the choices of all events, and their programs.
 
 ghost use Rattle.std.specs.Prelude.{◌≡◌, ◌≤◌, [], map, true, length, IfOk};
+ghost use Rattle.cif_ast.specs.Countable.{IsCountable};
+ghost use Rattle.cif_ast.specs.SmallNumbers.{HasSmallNumbers};
 ghost use Rattle.cif_net.specs.View.{net_tree};
 ghost use Rattle.cif_nesting.specs.Nesting.{is_shallow};
 
+use crate::sources::{put_no_tree, spec_of};
 use case_text::{Fault, Fields, Put, put_lines, put_text};
+use cif_alg::inline;
+use cif_ast::Spec;
 use cif_base::{Items, Memory, Text};
 use cif_front::{Refusal, load};
+use cif_inst::instantiate;
 use cif_measure::{check_intervals, depth_of};
 use cif_net::{Auto, Choice, Class, Event, Guarded, Move, Net, NetEdge, State};
+use cif_resolve::resolve;
+use cif_types::check_kinds;
 use plc_back::generate_text;
 use plc_code::emit;
 use plc_gen::{Bounds, Part, frame};
@@ -49,13 +57,57 @@ fn put_guarded(alloc: Global, page: &mut String, guarded: &Guarded) -> Result<()
     Ok(put_numbers(page, "  starts in", state.locs.as_slice())?)
 }
 
-/// `widths TEXT`: whether the expressions of the net of a source divide by no 0 and stay in 64 bits, and how deep they are.
-pub fn widths_case(fields: &Fields<'_>, page: &mut String) -> Result<(), Fault> {
+/// The net of a source in which algebraic variables stand as names, or why there is none.
+fn net_of(alloc: Global, spec: &Spec) -> Result<Net, Refusal>
+    requires countable { IsCountable spec.now }
+    requires small { HasSmallNumbers spec.now }
+{
+    let scopes = resolve(alloc, spec)?;
+    let kinds = check_kinds(alloc, spec, &scopes)?;
+    Ok(instantiate(alloc, spec, &scopes, &kinds)?)
+}
+
+/// `inline TEXT`: the guards of the net of a source where algebraic variables are replaced by their definitions, or why it is
+/// refused. `widths TEXT`: whether the expressions of the net divide by no 0 and stay in 64 bits, and how deep they are.
+pub fn net_case(call: &str, fields: &Fields<'_>, page: &mut String) -> Result<(), Fault> {
     let text = fields.text()?;
-    match loaded(fields.alloc, text.as_slice())? {
-        Err(refusal) => Ok(writeln!(page, "  {refusal:?}")?),
-        Ok(guarded) => put_widths(fields.alloc, page, &guarded.plain.net),
+    match spec_of(fields.alloc, text.as_slice()) {
+        Err(why) => put_no_tree(page, why),
+        Ok(spec) => match net_of(fields.alloc, &spec) {
+            Err(refusal) => Ok(writeln!(page, "  {refusal:?}")?),
+            Ok(net) => put_net(fields.alloc, page, call, net),
+        },
     }
+}
+
+fn put_net(alloc: Global, page: &mut String, call: &str, net: Net) -> Result<(), Fault> {
+    match call {
+        "inline" => Ok(put_inlined(alloc, page, net)?),
+        _ => put_widths(alloc, page, &net),
+    }
+}
+
+fn put_inlined(alloc: Global, page: &mut String, net: Net) -> Put {
+    match inline(alloc, net) {
+        Err(error) => writeln!(page, "  {error:?}"),
+        Ok(plain) => put_guards(page, plain.net.autos.as_slice()),
+    }
+}
+
+fn put_guards(page: &mut String, autos: &[Auto]) -> Put {
+    page.push_str("  Ok\n")?;
+    for auto in autos {
+        put_edge_guards(page, auto.edges.as_slice())?;
+    }
+    Ok(())
+}
+
+fn put_edge_guards(page: &mut String, edges: &[NetEdge]) -> Put {
+    for edge in edges {
+        let guard = &edge.guard;
+        writeln!(page, "  {guard:?}")?;
+    }
+    Ok(())
 }
 
 fn put_widths(alloc: Global, page: &mut String, net: &Net) -> Result<(), Fault> {

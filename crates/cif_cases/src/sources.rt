@@ -1,6 +1,8 @@
 //! Cases of whole CIF sources.
 
 ghost use Rattle.std.specs.Prelude.{IfOk};
+ghost use Rattle.cif_ast.specs.Countable.{IsCountable};
+ghost use Rattle.cif_ast.specs.SmallNumbers.{HasSmallNumbers};
 ghost use Rattle.cif_parse.specs.Grammar.{Reads};
 
 use crate::declarations::{decl_word, put_decls};
@@ -28,7 +30,9 @@ pub enum NoTree {
 
 /// The tree of a text.
 pub fn spec_of(alloc: Global, text: &[u8]) -> Result<Spec, NoTree>
-    ensures { IfOk result (Reads text.now) }
+    ensures reads { IfOk result (Reads text.now) }
+    ensures countable { IfOk result IsCountable }
+    ensures small { IfOk result HasSmallNumbers }
 {
     if text.len() > MOST_BYTES {
         return Err(NoTree::TooLong);
