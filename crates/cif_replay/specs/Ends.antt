@@ -1,4 +1,5 @@
--- Why a part of a replay gave nothing, by the status that it leads to.
+-- The name that a status tells (`IsNamedBy`). The rest helps the code: why a part of a replay gave nothing, by the status that it leads
+-- to.
 use Rattle.std.specs.Prelude.{◌≡◌, ℕ, ℤ, List, Some}
 use Rattle.grammar.specs.Pieces.{Text}
 use Rattle.st_ast.specs.Tree.{Program}

@@ -8,9 +8,11 @@ mod names;
 mod placing;
 mod rows;
 mod scope;
+mod sharing;
 mod sorts;
 mod statements;
 mod variables;
 
 pub use checked::{Checked, check_program};
 pub use error::StCheckErr;
+pub use sharing::checked_is_shared;

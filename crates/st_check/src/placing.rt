@@ -83,15 +83,9 @@ pub fn place_expr(
             place_second(alloc, scope, right.get(), first, Pairing::Order(*op), sort)
         }
         StExpr::Equal { left, equal, right } => {
+            let pairing = Pairing::Equality(*equal);
             let first = place_expr(alloc, scope, left.get(), sort)?;
-            place_second(
-                alloc,
-                scope,
-                right.get(),
-                first,
-                Pairing::Equality(*equal),
-                sort,
-            )
+            place_second(alloc, scope, right.get(), first, pairing, sort)
         }
         StExpr::Min(left, right) => {
             let first = place_expr(alloc, scope, left.get(), sort)?;

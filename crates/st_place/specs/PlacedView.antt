@@ -6,12 +6,12 @@ use Rattle.st_place.specs.PlacedTree as op
 use Rattle.st_place.specs.PlacedTree.{Operator, of_term, of_factor, of_join, of_extreme, joined_none, Expr, Steps, number, placed, single, pair, chain, selected, steps_of, same_steps, Stm, Stms, Branches, assign, choice, loop, stms_of, no_branches, branches}
 use Rattle.st_place.specs.declared.placed.Join.{Join}
 use Rattle.st_place.specs.declared.placed.PlacedExpr.{PlacedExpr}
-use Rattle.st_place.specs.declared.placed.PlacedExpr.TheOpen.{PlacedExpr-F, PlacedForm-F, PlacedTerm-F, PlacedFactor-F}
+use Rattle.st_place.specs.declared.placed.PlacedExpr.TheOpen.{PlacedExpr-F, PlacedSum-F, PlacedTerm-F, PlacedProduct-F, PlacedFactor-F, PlacedOperands-F, PlacedPair-F, PlacedSelection-F}
 use Rattle.st_place.specs.declared.placed.PlacedExpr.TheOpen as E
-use Rattle.st_place.specs.declared.placed.PlacedExpr.TheFolds.{fold-PlacedExpr, fold-PlacedForm, fold-PlacedTerm, fold-PlacedFactor}
-use Rattle.st_place.specs.declared.placed.PlacedForm.{PlacedForm}
+use Rattle.st_place.specs.declared.placed.PlacedExpr.TheFolds.{fold-PlacedExpr, fold-PlacedTerm, fold-PlacedFactor, fold-PlacedPair}
 use Rattle.st_place.specs.declared.placed.PlacedTerm.{PlacedTerm}
 use Rattle.st_place.specs.declared.placed.PlacedFactor.{PlacedFactor}
+use Rattle.st_place.specs.declared.placed.PlacedPair.{PlacedPair}
 use Rattle.st_place.specs.PlacedTests.{Test, Tests, compare, flag, contrary, all_of, any_of, no_tests, tests, expr_of}
 use Rattle.st_place.specs.declared.placed.PlacedTest.{PlacedTest}
 use Rattle.st_place.specs.declared.placed.PlacedTest.TheOpen.{PlacedTest-F}
@@ -25,37 +25,49 @@ use Rattle.st_place.specs.declared.placed.PlacedStmt.TheOpen as S
 use Rattle.st_place.specs.declared.placed.PlacedStmt.TheFolds.{fold-PlacedStmt, fold-PlacedBranch}
 use Rattle.st_place.specs.declared.placed.PlacedBranch.{PlacedBranch}
 
-abbrev pub expr_step : PlacedExpr-F Expr Expr (Operator × Expr) (Operator × Expr) → Expr
+abbrev pub expr_step : PlacedExpr-F Expr (Operator × Expr) (List Expr) (Expr × Expr) Expr Expr Expr (Operator × Expr) → Expr
 expr_step (E.Number z) = number z
 expr_step (E.Place k) = placed k
-expr_step (E.Form e) = e
+expr_step (E.Single f e) = single f e
+expr_step (E.Sum e) = e
+expr_step (E.Product e) = e
+expr_step (E.Joined j es) = chain (number (of_bool (joined_none j))) (same_steps (of_join j) es)
+expr_step (E.Related r holds es) = pair es.0 (op.is r holds) es.1
+expr_step (E.Extreme larger es) = pair es.0 (of_extreme larger) es.1
+expr_step (E.Select e) = e
 
-abbrev pub form_step : PlacedForm-F Expr Expr (Operator × Expr) (Operator × Expr) → Expr
-form_step (E.Single f e) = single f e
-form_step (E.Sum e rest) = chain e (steps_of rest)
-form_step (E.Product e rest) = chain e (steps_of rest)
-form_step (E.Joined j es) = chain (number (of_bool (joined_none j))) (same_steps (of_join j) es)
-form_step (E.Related r holds a b) = pair a (op.is r holds) b
-form_step (E.Extreme larger a b) = pair a (of_extreme larger) b
-form_step (E.Select c a b) = selected c a b
+abbrev pub sum_step : PlacedSum-F Expr (Operator × Expr) (List Expr) (Expr × Expr) Expr Expr Expr (Operator × Expr) → Expr
+sum_step s = chain s.first (steps_of s.rest)
 
-abbrev pub term_step : PlacedTerm-F Expr Expr (Operator × Expr) (Operator × Expr) → Operator × Expr
+abbrev pub term_step : PlacedTerm-F Expr (Operator × Expr) (List Expr) (Expr × Expr) Expr Expr Expr (Operator × Expr) → Operator × Expr
 term_step t = (of_term t.minus, t.value)
 
-abbrev pub factor_step : PlacedFactor-F Expr Expr (Operator × Expr) (Operator × Expr) → Operator × Expr
+abbrev pub product_step : PlacedProduct-F Expr (Operator × Expr) (List Expr) (Expr × Expr) Expr Expr Expr (Operator × Expr) → Expr
+product_step p = chain p.first (steps_of p.rest)
+
+abbrev pub factor_step : PlacedFactor-F Expr (Operator × Expr) (List Expr) (Expr × Expr) Expr Expr Expr (Operator × Expr) → Operator × Expr
 factor_step f = (of_factor f.op, f.value)
 
-abbrev pub expr_view : PlacedExpr → Expr
-expr_view = fold-PlacedExpr _ _ _ _ expr_step form_step factor_step term_step
+abbrev pub operands_step : PlacedOperands-F Expr (Operator × Expr) (List Expr) (Expr × Expr) Expr Expr Expr (Operator × Expr) → List Expr
+operands_step es = es.all
 
-abbrev pub form_view : PlacedForm → Expr
-form_view = fold-PlacedForm _ _ _ _ expr_step form_step factor_step term_step
+abbrev pub pair_step : PlacedPair-F Expr (Operator × Expr) (List Expr) (Expr × Expr) Expr Expr Expr (Operator × Expr) → Expr × Expr
+pair_step p = (p.first, p.second)
+
+abbrev pub selection_step : PlacedSelection-F Expr (Operator × Expr) (List Expr) (Expr × Expr) Expr Expr Expr (Operator × Expr) → Expr
+selection_step s = selected s.condition s.otherwise s.then
+
+abbrev pub expr_view : PlacedExpr → Expr
+expr_view = fold-PlacedExpr _ _ _ _ _ _ _ _ expr_step factor_step operands_step pair_step product_step selection_step sum_step term_step
+
+abbrev pub pair_view : PlacedPair → Expr × Expr
+pair_view = fold-PlacedPair _ _ _ _ _ _ _ _ expr_step factor_step operands_step pair_step product_step selection_step sum_step term_step
 
 abbrev pub term_view : PlacedTerm → Operator × Expr
-term_view = fold-PlacedTerm _ _ _ _ expr_step form_step factor_step term_step
+term_view = fold-PlacedTerm _ _ _ _ _ _ _ _ expr_step factor_step operands_step pair_step product_step selection_step sum_step term_step
 
 abbrev pub factor_view : PlacedFactor → Operator × Expr
-factor_view = fold-PlacedFactor _ _ _ _ expr_step form_step factor_step term_step
+factor_view = fold-PlacedFactor _ _ _ _ _ _ _ _ expr_step factor_step operands_step pair_step product_step selection_step sum_step term_step
 
 abbrev pub terms_view : List PlacedTerm → Steps
 terms_view ts = steps_of (map term_view ts)

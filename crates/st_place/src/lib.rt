@@ -9,7 +9,8 @@ mod testing;
 
 pub use making::{join_all, pair, product, select, single, sum, truth};
 pub use placed::{
-    Join, Pairing, PlacedBranch, PlacedCond, PlacedExpr, PlacedFactor, PlacedForm, PlacedStmt,
-    PlacedTerm, PlacedTest, Relation, Single,
+    Join, Pairing, PlacedBranch, PlacedCond, PlacedExpr, PlacedFactor, PlacedOperands, PlacedPair,
+    PlacedProduct, PlacedSelection, PlacedStmt, PlacedSum, PlacedTerm, PlacedTest, Relation,
+    Single,
 };
 pub use stating::{push_assignment, push_branch, push_choice, push_loop};

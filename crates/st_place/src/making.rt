@@ -3,11 +3,12 @@
 ghost use Rattle.std.specs.Prelude.{◌≡◌, IfOk};
 ghost use Rattle.st_ast.specs.Values.{of_bool};
 ghost use Rattle.st_place.specs.PlacedTree as to;
-ghost use Rattle.st_place.specs.PlacedView.{expr_view, form_view, terms_view, factors_view, operands_view};
+ghost use Rattle.st_place.specs.PlacedView.{expr_view, pair_view, terms_view, factors_view, operands_view};
 ghost use Rattle.st_place.specs.Placing as placing;
 
 use crate::placed::{
-    Join, Pairing, PlacedExpr, PlacedFactor, PlacedForm, PlacedTerm, Relation, Single,
+    Join, Pairing, PlacedExpr, PlacedFactor, PlacedOperands, PlacedPair, PlacedProduct,
+    PlacedSelection, PlacedSum, PlacedTerm, Relation, Single,
 };
 use cif_base::{Boxed, Items, Memory};
 use st_ast::StOrder;
@@ -25,11 +26,11 @@ fn of_order(op: StOrder) -> (Relation, bool)
     }
 }
 
-/// An operation with its operands, in a box.
-fn formed(alloc: Global, form: PlacedForm) -> Result<PlacedExpr, Memory>
-    ensures { IfOk result (λ e. expr_view e ≡ form_view form) }
+/// Two operands, in a box.
+fn boxed(alloc: Global, first: PlacedExpr, second: PlacedExpr) -> Result<Boxed<PlacedPair>, Memory>
+    ensures { IfOk result (λ p. pair_view p ≡ (expr_view first, expr_view second)) }
 {
-    Ok(PlacedExpr::Form(Boxed::new(alloc, form)?))
+    Boxed::new(alloc, PlacedPair { first, second })
 }
 
 fn relate(
@@ -41,13 +42,12 @@ fn relate(
 ) -> Result<PlacedExpr, Memory>
     ensures { IfOk result (λ e. expr_view e ≡ to.pair (expr_view first) (to.is is holds) (expr_view second)) }
 {
-    let form = PlacedForm::Related {
+    let operands = boxed(alloc, first, second)?;
+    Ok(PlacedExpr::Related {
         is,
         holds,
-        first,
-        second,
-    };
-    formed(alloc, form)
+        operands,
+    })
 }
 
 fn extreme(
@@ -58,12 +58,8 @@ fn extreme(
 ) -> Result<PlacedExpr, Memory>
     ensures { IfOk result (λ e. expr_view e ≡ to.pair (expr_view first) (to.of_extreme larger) (expr_view second)) }
 {
-    let form = PlacedForm::Extreme {
-        larger,
-        first,
-        second,
-    };
-    formed(alloc, form)
+    let operands = boxed(alloc, first, second)?;
+    Ok(PlacedExpr::Extreme { larger, operands })
 }
 
 /// A BOOL, as its number.
@@ -77,7 +73,8 @@ pub fn truth(is_true: bool) -> PlacedExpr
 pub fn single(alloc: Global, op: Single, operand: PlacedExpr) -> Result<PlacedExpr, Memory>
     ensures { IfOk result (λ e. expr_view e ≡ to.single op (expr_view operand)) }
 {
-    formed(alloc, PlacedForm::Single { op, operand })
+    let operand = Boxed::new(alloc, operand)?;
+    Ok(PlacedExpr::Single { op, operand })
 }
 
 /// Two operands with what stands between them.
@@ -108,14 +105,16 @@ pub fn product(
 ) -> Result<PlacedExpr, Memory>
     ensures { IfOk result (λ e. expr_view e ≡ to.chain (expr_view first) (factors_view rest)) }
 {
-    formed(alloc, PlacedForm::Product { first, rest })
+    let operands = Boxed::new(alloc, PlacedProduct { first, rest })?;
+    Ok(PlacedExpr::Product(operands))
 }
 
 /// A sum of its first operand and the further ones.
 pub fn sum(alloc: Global, first: PlacedExpr, rest: Items<PlacedTerm>) -> Result<PlacedExpr, Memory>
     ensures { IfOk result (λ e. expr_view e ≡ to.chain (expr_view first) (terms_view rest)) }
 {
-    formed(alloc, PlacedForm::Sum { first, rest })
+    let operands = Boxed::new(alloc, PlacedSum { first, rest })?;
+    Ok(PlacedExpr::Sum(operands))
 }
 
 /// The operands of one level, joined to a BOOL.
@@ -127,7 +126,8 @@ pub fn join_all(
     ensures { IfOk result (λ e. expr_view e
         ≡ to.chain (to.number (of_bool (to.joined_none join))) (operands_view join operands)) }
 {
-    formed(alloc, PlacedForm::Joined { join, operands })
+    let operands = Boxed::new(alloc, PlacedOperands { all: operands })?;
+    Ok(PlacedExpr::Joined { join, operands })
 }
 
 /// A condition, the value where it is FALSE, and the one where it is TRUE.
@@ -140,10 +140,10 @@ pub fn select(
     ensures { IfOk result (λ e. expr_view e
         ≡ to.selected (expr_view condition) (expr_view otherwise) (expr_view then)) }
 {
-    let form = PlacedForm::Select {
+    let selection = PlacedSelection {
         condition,
         otherwise,
         then,
     };
-    formed(alloc, form)
+    Ok(PlacedExpr::Select(Boxed::new(alloc, selection)?))
 }

@@ -38,52 +38,74 @@ pub enum Pairing {
 }
 
 /// An expression. A literal is its number, and parentheses are gone. A number and a variable take no memory of their own.
+/// Which operation an expression is stands beside the box with its operands, so that it is known before they are fetched.
 #[cycle(placed_expressions)]
 #[derive(Drop)]
 pub enum PlacedExpr {
     Number(i64),
     Place(u32),
-    Form(Boxed<PlacedForm>),
-}
-
-/// An operation with its operands.
-#[cycle(placed_expressions)]
-#[derive(Drop)]
-pub enum PlacedForm {
     Single {
         op: Single,
-        operand: PlacedExpr,
+        operand: Boxed<PlacedExpr>,
     },
-    Sum {
-        first: PlacedExpr,
-        rest: Items<PlacedTerm>,
-    },
-    Product {
-        first: PlacedExpr,
-        rest: Items<PlacedFactor>,
-    },
+    Sum(Boxed<PlacedSum>),
+    Product(Boxed<PlacedProduct>),
     Joined {
         join: Join,
-        operands: Items<PlacedExpr>,
+        operands: Boxed<PlacedOperands>,
     },
     /// Whether the relation holds, or whether it doesn't.
     Related {
         is: Relation,
         holds: bool,
-        first: PlacedExpr,
-        second: PlacedExpr,
+        operands: Boxed<PlacedPair>,
     },
     /// The larger of two values, or the smaller.
     Extreme {
         larger: bool,
-        first: PlacedExpr,
-        second: PlacedExpr,
+        operands: Boxed<PlacedPair>,
     },
-    Select {
-        condition: PlacedExpr,
-        otherwise: PlacedExpr,
-        then: PlacedExpr,
-    },
+    Select(Boxed<PlacedSelection>),
+}
+
+/// The operands of a sum.
+#[cycle(placed_expressions)]
+#[derive(Drop)]
+pub struct PlacedSum {
+    pub first: PlacedExpr,
+    pub rest: Items<PlacedTerm>,
+}
+
+/// The operands of a product.
+#[cycle(placed_expressions)]
+#[derive(Drop)]
+pub struct PlacedProduct {
+    pub first: PlacedExpr,
+    pub rest: Items<PlacedFactor>,
+}
+
+/// The operands of one level that are joined to a BOOL.
+#[cycle(placed_expressions)]
+#[derive(Drop)]
+pub struct PlacedOperands {
+    pub all: Items<PlacedExpr>,
+}
+
+/// Two operands.
+#[cycle(placed_expressions)]
+#[derive(Drop)]
+pub struct PlacedPair {
+    pub first: PlacedExpr,
+    pub second: PlacedExpr,
+}
+
+/// A condition, the value where it is FALSE, and the one where it is TRUE.
+#[cycle(placed_expressions)]
+#[derive(Drop)]
+pub struct PlacedSelection {
+    pub condition: PlacedExpr,
+    pub otherwise: PlacedExpr,
+    pub then: PlacedExpr,
 }
 
 /// A further operand of a sum.

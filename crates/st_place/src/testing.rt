@@ -3,10 +3,10 @@
 ghost use Rattle.std.specs.Prelude.{◌≡◌, map, IfOk, IfSome};
 ghost use Rattle.st_place.specs.PlacedTree as to;
 ghost use Rattle.st_place.specs.PlacedTests.{expr_of, exprs_of};
-ghost use Rattle.st_place.specs.PlacedView.{expr_view, form_view, test_view, tests_view, cond_view};
+ghost use Rattle.st_place.specs.PlacedView.{expr_view, test_view, tests_view, cond_view};
 ghost use Rattle.st_place.specs.declared.placed.Single.TheVariants as one;
 
-use crate::placed::{Join, PlacedCond, PlacedExpr, PlacedForm, PlacedTest, Relation, Single};
+use crate::placed::{Join, PlacedCond, PlacedExpr, PlacedTest, Relation, Single};
 use cif_base::{Boxed, Items, Memory};
 use std::alloc::Global;
 
@@ -69,7 +69,6 @@ fn test_of(alloc: Global, expr: &PlacedExpr) -> Result<Option<Boxed<PlacedTest>>
     ensures { IfOk result (λ found. IfSome found (λ t. expr_of (test_view t) ≡ expr_view expr.now)) }
 {
     match expr {
-        PlacedExpr::Number(_) => Ok(None),
         PlacedExpr::Place(place) => {
             let test = PlacedTest::Flag {
                 turned: false,
@@ -77,39 +76,32 @@ fn test_of(alloc: Global, expr: &PlacedExpr) -> Result<Option<Boxed<PlacedTest>>
             };
             Ok(Some(Boxed::new(alloc, test)?))
         }
-        PlacedExpr::Form(form) => test_of_form(alloc, form.get()),
-    }
-}
-
-#[cycle(testing)]
-fn test_of_form(alloc: Global, form: &PlacedForm) -> Result<Option<Boxed<PlacedTest>>, Memory>
-    ensures { IfOk result (λ found. IfSome found (λ t. expr_of (test_view t) ≡ form_view form.now)) }
-{
-    match form {
-        PlacedForm::Single {
+        PlacedExpr::Single {
             op: Single::Not,
             operand,
-        } => match test_of(alloc, operand)? {
+        } => match test_of(alloc, operand.get())? {
             Some(test) => Ok(Some(turned(alloc, test.into_inner())?)),
             None => Ok(None),
         },
-        PlacedForm::Related {
+        PlacedExpr::Related {
             is,
             holds,
-            first,
-            second,
-        } => compared(alloc, *is, *holds, first, second),
-        PlacedForm::Joined {
+            operands,
+        } => {
+            let pair = operands.get();
+            compared(alloc, *is, *holds, &pair.first, &pair.second)
+        }
+        PlacedExpr::Joined {
             join: Join::And,
             operands,
-        } => match tests_of(alloc, operands.as_slice())? {
+        } => match tests_of(alloc, operands.get().all.as_slice())? {
             Some(tests) => Ok(Some(Boxed::new(alloc, PlacedTest::All(tests))?)),
             None => Ok(None),
         },
-        PlacedForm::Joined {
+        PlacedExpr::Joined {
             join: Join::Or,
             operands,
-        } => match tests_of(alloc, operands.as_slice())? {
+        } => match tests_of(alloc, operands.get().all.as_slice())? {
             Some(tests) => Ok(Some(Boxed::new(alloc, PlacedTest::Any(tests))?)),
             None => Ok(None),
         },

@@ -1,4 +1,5 @@
--- Helper of the code: how an execution of statements ends, as the turns that are left, why there are none, and a memory.
+-- What stopped a scan, as an outcome (`stopped`). The rest helps the code: how an execution of statements ends, as the turns that are
+-- left, why there are none, and a memory.
 use Rattle.std.specs.Prelude.{ℕ, ◌≤◌, Option, Some, None}
 use Rattle.st_ast.specs.Values.{Memory, overflow, zero_divide, subrange_left}
 use Rattle.st_ast.specs.Exec.{Outcome, Ended, Faulted, OutOfTurns, Act}

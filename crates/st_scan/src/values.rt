@@ -5,11 +5,11 @@ ghost use Rattle.std.specs.Prelude.{◌≡◌, slice_index_or, pos, Ok};
 ghost use Rattle.st_ast.specs.Values.{of_bool, is_true, same_number, divided, remainder};
 ghost use Rattle.st_place.specs.PlacedTree.{of_term, of_factor, of_extreme, joined_none};
 ghost use Rattle.st_scan.specs.PlacedValues.{value_at, steps_at, applied_to, applied, related, joined_with};
-ghost use Rattle.st_place.specs.PlacedView.{expr_view, form_view, terms_view, factors_view, operands_view};
+ghost use Rattle.st_place.specs.PlacedView.{expr_view, terms_view, factors_view, operands_view};
 ghost use Rattle.st_scan.specs.Told.{told, or_overflow};
 
 use st_ast::StMul;
-use st_place::{Join, PlacedExpr, PlacedFactor, PlacedForm, PlacedTerm, Relation, Single};
+use st_place::{Join, PlacedExpr, PlacedFactor, PlacedTerm, Relation, Single};
 
 /// Why an expression has no value: a result outside 64 bits, or a divisor 0.
 #[derive(Clone, Copy, Debug, PartialEq, Eq)]
@@ -169,57 +169,55 @@ pub fn value(expr: &PlacedExpr, memory: &[i64], fault: &mut ValueFault) -> Optio
     match expr {
         PlacedExpr::Number(number) => Some(*number),
         PlacedExpr::Place(place) => Some(read(memory, *place)),
-        PlacedExpr::Form(form) => value_of(form.get(), memory, fault),
+        operation => value_of(operation, memory, fault),
     }
 }
 
 #[cycle(values)]
-fn value_of(form: &PlacedForm, memory: &[i64], fault: &mut ValueFault) -> Option<i64>
-    ensures { told result fault.new ≡ value_at (form_view form.now) memory.now }
+fn value_of(expr: &PlacedExpr, memory: &[i64], fault: &mut ValueFault) -> Option<i64>
+    ensures { told result fault.new ≡ value_at (expr_view expr.now) memory.now }
 {
-    match form {
-        PlacedForm::Single { op, operand } => {
-            let x = value(operand, memory, fault)?;
+    match expr {
+        PlacedExpr::Number(number) => Some(*number),
+        PlacedExpr::Place(place) => Some(read(memory, *place)),
+        PlacedExpr::Single { op, operand } => {
+            let x = value(operand.get(), memory, fault)?;
             apply_to(*op, x, fault)
         }
-        PlacedForm::Sum { first, rest } => {
-            let x = value(first, memory, fault)?;
-            sum(rest.as_slice(), x, memory, fault)
+        PlacedExpr::Sum(operands) => {
+            let operands = operands.get();
+            let x = value(&operands.first, memory, fault)?;
+            sum(operands.rest.as_slice(), x, memory, fault)
         }
-        PlacedForm::Product { first, rest } => {
-            let x = value(first, memory, fault)?;
-            product(rest.as_slice(), x, memory, fault)
+        PlacedExpr::Product(operands) => {
+            let operands = operands.get();
+            let x = value(&operands.first, memory, fault)?;
+            product(operands.rest.as_slice(), x, memory, fault)
         }
-        PlacedForm::Joined { join, operands } => {
-            joined(*join, operands.as_slice(), memory, fault)
+        PlacedExpr::Joined { join, operands } => {
+            joined(*join, operands.get().all.as_slice(), memory, fault)
         }
-        PlacedForm::Related {
+        PlacedExpr::Related {
             is,
             holds,
-            first,
-            second,
+            operands,
         } => {
-            let x = value(first, memory, fault)?;
-            let y = value(second, memory, fault)?;
+            let operands = operands.get();
+            let x = value(&operands.first, memory, fault)?;
+            let y = value(&operands.second, memory, fault)?;
             Some(number(is_so(*is, *holds, x, y)))
         }
-        PlacedForm::Extreme {
-            larger,
-            first,
-            second,
-        } => {
-            let x = value(first, memory, fault)?;
-            let y = value(second, memory, fault)?;
+        PlacedExpr::Extreme { larger, operands } => {
+            let operands = operands.get();
+            let x = value(&operands.first, memory, fault)?;
+            let y = value(&operands.second, memory, fault)?;
             Some(extreme(*larger, x, y))
         }
-        PlacedForm::Select {
-            condition,
-            otherwise,
-            then,
-        } => {
-            let chosen = is_set(value(condition, memory, fault)?);
-            let x = value(otherwise, memory, fault)?;
-            let y = value(then, memory, fault)?;
+        PlacedExpr::Select(operands) => {
+            let operands = operands.get();
+            let chosen = is_set(value(&operands.condition, memory, fault)?);
+            let x = value(&operands.otherwise, memory, fault)?;
+            let y = value(&operands.then, memory, fault)?;
             Some(if chosen { y } else { x })
         }
     }
