@@ -18,7 +18,7 @@ use Rattle.plc_face.specs.Face.{Face, HasInterface}
 use Rattle.plc_face.specs.Scans.{NeverFaults, RunsFirstSteps, ScansLegally, ScansExactly, ShowsOutputs, StaysTyped}
 use Rattle.plc_gen.specs.Faces.{face_of_net}
 use Rattle.cif_nesting.specs.Nesting.{is_shallow}
-use Rattle.plc_back.specs.Texts.{IsLayoutOf, TheProgram}
+use Rattle.plc_back.specs.Texts.{IsLayoutOf, TakesInRange, TheProgram}
 use Rattle.plc_back.specs.Written as written
 use Rattle.plc_back.specs.Written.{IsFirstUnclassed}
 use Rattle.plc_back.proofs.TextLaws as law
@@ -74,6 +74,9 @@ module _ (U C : ℕ) (t : Source) (text : Text) (h : IsTextOf U C t text) where
 
   pub stays_typed : TheProgram text (StaysTyped (meant_by t))
   stays_typed = over (λ f s. StaysTyped s) (law.stays_typed h.net U C text h.of_net)
+
+  pub takes_in_range : TheProgram text (TakesInRange (meant_by t))
+  takes_in_range = over (λ f s. TakesInRange s) (law.takes_in_range h.net U C text h.of_net)
 
   pub laid_out : TheProgram text (IsLayoutOf text)
   laid_out = law.laid_out h.net U C text h.of_net

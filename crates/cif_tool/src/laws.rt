@@ -12,7 +12,8 @@ ghost use Rattle.cif_generate.specs.Words.{IsGenerate};
 ghost use Rattle.cif_generate.specs.Meaning.{IsTextOf, meant_by};
 ghost use Rattle.cif_tool.specs.Laws.{IsTaken};
 
-/// A text that `generate` wrote is a program for `replay`, which no rule refuses, and of which every scan over rows in range ends.
+/// A text that `generate` wrote is a program for `replay`, which no rule refuses, and of which every scan ends over rows in range, as
+/// those of a file are that breaks no rule of the program.
 pub fn replay_takes_what_generate_writes()
     ensures { (unc con : ℕ) (t : Source) (text : List ℕ) → IsTextOf unc con t text → IsTaken (meant_by t) text }
 {}

@@ -15,11 +15,13 @@ use Rattle.plc_face.specs.Scans.{NeverFaults, RunsFirstSteps, ScansLegally, Scan
 use Rattle.plc_face.proofs.ScanLaws.{exact-first, exact-legal}
 use Rattle.plc_gen.specs.Faces.{face_of_net}
 use Rattle.plc_gen.specs.Makes.{Makes}
+use Rattle.plc_gen.proofs.Facts.{face-is}
 use Rattle.plc_parts.specs.Parts.{data_program}
 use Rattle.plc_sound.proofs.Whole.{program-spelled}
 use Rattle.plc_fits.proofs.FitLaws.{fitted-makes}
-use Rattle.plc_back.specs.Texts.{IsLayoutOf, TheProgram}
+use Rattle.plc_back.specs.Texts.{IsLayoutOf, TakesInRange, TheProgram}
 use Rattle.plc_back.specs.Written.{IsTextOf}
+use Rattle.plc_back.proofs.RangeLaws.{takes}
 
 module _ (n : Net) (U C : ℕ) (text : Text) (h : IsTextOf n U C text) where
   abbrev written : Program
@@ -64,3 +66,6 @@ module _ (n : Net) (U C : ℕ) (text : Text) (h : IsTextOf n U C text) where
 
   pub laid_out : TheProgram text (IsLayoutOf text)
   laid_out = of_text (IsLayoutOf text) h.is
+
+  pub takes_in_range : TheProgram text (TakesInRange (system_of_net n))
+  takes_in_range = of_text (TakesInRange (system_of_net n)) (takes (face_of_net n) (system_of_net n) written made.interface (face-is n))

@@ -9,7 +9,7 @@ ghost use Rattle.st_ast.specs.Scan.{start_memory};
 ghost use Rattle.plc_face.specs.Face.{HasInterface, StateOf};
 ghost use Rattle.plc_face.specs.Scans.{NeverFaults, RunsFirstSteps, ScansLegally, ScansExactly, ShowsOutputs, StaysTyped};
 ghost use Rattle.plc_gen.specs.Faces.{face_of_net};
-ghost use Rattle.plc_back.specs.Texts.{IsLayoutOf, TheProgram};
+ghost use Rattle.plc_back.specs.Texts.{IsLayoutOf, TakesInRange, TheProgram};
 ghost use Rattle.plc_back.specs.Written.{IsTextOf};
 
 /// It reads as one program, which has the inputs and outputs of the net.
@@ -64,4 +64,10 @@ pub fn texts_stay_typed()
 pub fn texts_are_laid_out()
     ensures { (n : Net) (U C : ℕ) (text : List ℕ) → IsTextOf n U C text →
         TheProgram text (IsLayoutOf text) }
+{}
+
+/// Rows whose values are of the types of its inputs are in range for the net.
+pub fn texts_take_rows_in_range()
+    ensures { (n : Net) (U C : ℕ) (text : List ℕ) → IsTextOf n U C text →
+        TheProgram text (TakesInRange (system_of_net n)) }
 {}
