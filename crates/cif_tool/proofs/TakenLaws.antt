@@ -18,7 +18,7 @@ taken unc con t text h =
     let f = never_faults unc con t text h in
     let g = takes_in_range unc con t text h in
     let ends : (p : Program) → ReadsAsProgram text p → (rows : List (List ℤ)) → AreRows (meant_by t) rows → AllEnd p rows =
-        λ p reads rows are. subst (λ (q : Program). AllEnd q rows) (sym (f.3 p reads)) (f.2 rows are) in
+    λ p reads rows are. subst (λ (q : Program). AllEnd q rows) (sym (f.3 p reads)) (f.2 rows are) in
     record {
       reads = (f.0, f.1, tt, f.3);
       accepted = λ why refused. refused_reads_none text why refused f.0 f.1;
