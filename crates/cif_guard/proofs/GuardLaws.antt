@@ -1,5 +1,5 @@
 -- What is added to the choices of a table makes them the choices with exclusions and state invariants.
-use Rattle.std.proofs.Common.{◌≡◌, ℕ, zero, suc, ◌+◌, ◌<◌, ◌≤◌, ◌^◌, Bool, true, false, nat_eq, nat_le, List, [], ◌∷◌, ◌++◌, length, map, filter, flat_map, Option, Some, None, option_map, slice_get, slice_index_or, refl, sym, ◌∙◌, ap, subst, if◌then◌else◌, arith}
+use Rattle.std.proofs.Common.{◌≡◌, ℕ, zero, suc, ◌+◌, ◌<◌, ◌≤◌, ◌^◌, Bool, true, false, nat_eq, nat_le, List, [], ◌∷◌, ◌++◌, length, map, filter, flat_map, Option, Some, None, option_map, slice_get, slice_set, get_or, take, drop, slice_index_or, refl, sym, ◌∙◌, ap, subst, if◌then◌else◌, arith}
 use Rattle.std.specs.List.{enumerate_from, range_with_len, AllByRecursion}
 use Rattle.std.proofs.lemmas.Bool.Decides.{nat_tests}
 use Rattle.std.proofs.lemmas.List.FromFn.{get_or-map-range_with_len}
@@ -65,6 +65,29 @@ test-none xs k h = ap (λ o. elim o [ None ↦ [] | Some y ↦ exclusion_test y 
 pub range-more : (i m : ℕ) → range_with_len i (suc m) ≡ range_with_len i m ++ (i + m) ∷ []
 range-more i zero = let e : i ≡ i + 0 = omega arith in ap (λ k. k ∷ []) e
 range-more i (suc m) = let e : i + 1 + m ≡ i + suc m = omega arith in ap (λ ks. i ∷ ks) (range-more (i + 1) m ∙ ap (λ k. range_with_len (i + 1) m ++ k ∷ []) e)
+
+-- ---- a list that is changed item by item
+
+abbrev head_or : {A : Type 0} → A → List A → A
+head_or d [] = d
+head_or d (x ∷ xs) = x
+
+abbrev rest_of : {A : Type 0} → List A → List A
+rest_of [] = []
+rest_of (x ∷ xs) = xs
+
+-- the items before place k are seen changed, and now the one there too
+pub changed_further : {A B : Type 0} (see : A → B) (g : B → B) (xs : List A) (all : List B) (k : ℕ) (d new : A)
+    → map see xs ≡ map g (take k all) ++ drop k all → k < length xs → see new ≡ g (see (get_or xs k d))
+    → map see (slice_set xs k new) ≡ map g (take (suc k) all) ++ drop (suc k) all
+changed_further see g [] all k d new h l n = let no : ⊥ = omega arith in absurd no
+changed_further see g (x ∷ xs) [] zero d new h l n = cc
+changed_further see g (x ∷ xs) [] (suc k) d new h l n = cc
+changed_further see g (x ∷ xs) (y ∷ ys) zero d new h l n =
+    ap (λ z. z ∷ map see xs) (n ∙ ap g (ap (head_or y) h)) ∙ ap (λ zs. g y ∷ zs) (ap rest_of h)
+changed_further see g (x ∷ xs) (y ∷ ys) (suc k) d new h l n =
+    ap (λ z. z ∷ map see (slice_set xs k new)) (ap (head_or (g y)) h)
+    ∙ ap (λ zs. g y ∷ zs) (changed_further see g xs ys k d new (ap rest_of h) (omega arith) n)
 
 -- ---- counts
 

@@ -1,6 +1,6 @@
 //! Exclusions and state invariants for each choice of a net.
 
-ghost use Rattle.std.specs.Prelude.{◌≡◌, ◌++◌, ◌<◌, ◌^◌, [], length, map, slice_index_or, IfOk};
+ghost use Rattle.std.specs.Prelude.{◌≡◌, ◌++◌, ◌<◌, ◌^◌, [], length, map, slice_index_or, IfOk, OnOk};
 ghost use Rattle.std.specs.List.{range_with_len};
 ghost use Rattle.cif_term.specs.View.{view};
 ghost use Rattle.cif_model.specs.Listing.{all_hold, linear_of, guarded_of};
@@ -8,10 +8,11 @@ ghost use Rattle.cif_net.specs.View.{net_tree, choice_tree, linear_tree};
 ghost use Rattle.cif_guard.specs.Tests.{members, exclusion_places, guarded_from, all_guarded};
 
 use crate::exclusions::{exclusions_by_event, tests_of};
-use cif_base::{Boxed, Items, Memory};
+use cif_base::{Items, Memory};
 use cif_net::{Choice, Guarded, Linear, Net, NetExpr, NetForm, Plain};
 use cif_sync::places_at;
 use std::alloc::Global;
+use std::mem;
 
 /// The net with its choices, to the test of each of which what exclusions ask of its event is added, and the numbers of all
 /// state invariants. The time is linear in what is written.
@@ -37,65 +38,48 @@ fn guarded_choices(
         (λ all. map choice_tree all ≡ all_guarded (net_tree net.now) (map choice_tree choices)) }
 {
     let places = exclusions_by_event(alloc, net.events.len(), net.exclusions.as_slice())?;
-    let mut all = Items::new(alloc);
-    for choice in choices.into_vec() {
-        all.push(guarded_choice(alloc, net, &places, choice)?.into_inner())?;
+    let mut choices = choices.into_vec();
+    for choice in choices.iter_mut() {
+        guard_choice(alloc, net, &places, choice)?;
     }
-    Ok(all)
+    Ok(Items::from_vec(choices))
 }
 
-fn guarded_choice(
+/// Changes a choice in its place: taken apart and made again it is slow to check.
+fn guard_choice(
     alloc: Global,
     net: &Net,
     places: &Items<Items<u32>>,
-    choice: Choice,
-) -> Result<Boxed<Choice>, Memory>
-    ensures { IfOk result
-        (λ c. choice_tree c ≡ guarded_from (net_tree net.now) places.now (choice_tree choice)) }
+    choice: &mut Choice,
+) -> Result<(), Memory>
+    ensures { OnOk result
+        (choice_tree choice.new ≡ guarded_from (net_tree net.now) places.now (choice_tree choice.old)) }
 {
     let found = places_at(places, choice.event);
     let tests = tests_of(alloc, &net.exclusions, found)?;
-    let Choice {
-        event,
-        moves,
-        test,
-        sent,
-        writes,
-        invariants: _,
-    } = choice;
-    let test = conjunction(alloc, test, tests)?.into_inner();
-    let invariants = numbers_below(alloc, net.invariants.len())?;
-    Boxed::new(
-        alloc,
-        Choice {
-            event,
-            moves,
-            test,
-            sent,
-            writes,
-            invariants,
-        },
-    )
+    conjoin(alloc, &mut choice.test, tests)?;
+    choice.invariants = numbers_below(alloc, net.invariants.len())?;
+    Ok(())
 }
 
-/// A conjunction of the members of a test and of more tests.
+/// Makes a test the conjunction of its members and of more tests.
 #[tactic(auto, using(crate::proofs::GuardLaws::conjoined))]
-fn conjunction(
-    alloc: Global,
-    test: NetExpr,
-    tests: Items<NetExpr>,
-) -> Result<Boxed<NetExpr>, Memory>
-    ensures { IfOk result (λ e. view e ≡ all_hold (members (view test) ++ map view tests)) }
+fn conjoin(alloc: Global, test: &mut NetExpr, tests: Items<NetExpr>) -> Result<(), Memory>
+    ensures { OnOk result
+        (view test.new ≡ all_hold (members (view test.old) ++ map view tests)) }
 {
-    let mut all = members_of(alloc, test)?;
+    let mut all = members_of(alloc, mem::replace(test, nothing()))?;
     all.append(tests)?;
-    Boxed::new(
-        alloc,
-        NetExpr {
-            form: NetForm::And(all),
-            at: 0,
-        },
-    )
+    test.form = NetForm::And(all);
+    test.at = 0;
+    Ok(())
+}
+
+fn nothing() -> NetExpr {
+    NetExpr {
+        form: NetForm::Received,
+        at: 0,
+    }
 }
 
 /// The members of a conjunction, or an expression alone.
