@@ -38,7 +38,7 @@ BUILT = [TOP / "crates/cif_cli/out/cif_cli", TOP / "crates/cif_cli/out/unproved/
 GIVEN = os.environ.get("CIF_PROGRAM")
 PROGRAM = pathlib.Path(GIVEN) if GIVEN else next((it for it in BUILT if it.exists()), None)
 # The pages whose commands are run.
-SHOWN = ["README.md", "docs/TUTORIAL.md", "docs/EXAMPLES.md", "docs/LANGUAGE.md", "docs/CONSTRUCTS.md", "docs/REFUSALS.md"]
+SHOWN = ["README.md", "docs/TUTORIAL.md", "docs/EXAMPLES.md", "docs/CONTROLLER.md", "docs/LANGUAGE.md", "docs/CONSTRUCTS.md", "docs/REFUSALS.md"]
 # The most lines of a page.
 LINES = {"README.md": 180, "docs/THEOREM.md": 150}
 
@@ -213,7 +213,7 @@ class Shown(WithRoom):
                     Page(self, name, pathlib.Path(room)).all()
 
     def test_each_page_has_commands(self):
-        for name in SHOWN[:3]:
+        for name in SHOWN[:4]:
             self.assertIn("console", {it.word for it in blocks_of((TOP / name).read_text())}, name)
 
     def test_constructs(self):
