@@ -303,7 +303,7 @@ class Links(unittest.TestCase):
         """Files of this repository that README and the pages of docs/ name exist."""
         missing = []
         for page in pages():
-            named = set(re.findall(r"(?<![\w/.])(?:examples|tools|docs|crates)/[\w./-]*\w", page.read_text()))
+            named = set(re.findall(r"(?<![\w/.])(?:examples|tools|docs|crates)/[\w./-]*\w(?![\w*])", page.read_text()))
             # (a part in capitals stands for a name)
             named = {it for it in named if "out" not in it.split("/") and not re.search(r"/[A-Z]+\b(?!\.md)", it)}
             missing += [f"{page.relative_to(TOP)}: {it}" for it in sorted(named) if not (TOP / it).exists()]
