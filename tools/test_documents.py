@@ -7,7 +7,7 @@ PROGRAM is by default the one that the environment variable CIF_PROGRAM names, e
 compiled without proofs; without any, nothing that is shown is run. Each page has a folder of its own with the examples, in which its blocks are taken in their order:
 
     ```console      commands after `$ `, run by bash, each with all that it writes below it; a line `..` is any lines. Below the line
-                    of a refusal may follow what a terminal shows: file:line:column, the line, and a caret
+                    of a refusal may follow what the script adds on a terminal (tools/explain.py)
     ```cif          a source: behind a line that ends with `NAME`: it is the file NAME, which is compared where it is in examples/,
                     and else written, or put behind what it has where the line begins with "Append". Without a name it is a part of
                     a source before it, or of one in examples/
@@ -102,25 +102,14 @@ def matches(shown, written):
     return any(matches(shown[at + 1 :], written[it:]) for it in range(at, len(written) + 1))
 
 
-def place_lines(file, at):
-    """What a terminal shows of a byte of a file: where it is, its line, and a caret below it."""
-    bytes_before = file.read_bytes()[:at]
-    line = bytes_before.count(b"\n")
-    start = bytes_before.rfind(b"\n") + 1
-    shown = file.read_bytes()[start:].split(b"\n")[0].decode()
-    return [f"{file.name}:{line + 1}:{at - start + 1}", shown, " " * len(bytes_before[start:].decode()) + "^"]
-
-
-def on_terminal(folder, written):
-    """The lines that are written, and below the line of a refusal those of its places."""
-    found = []
-    for line in written:
-        found.append(line)
-        told = re.fullmatch(r"cif: (\S+): \d+ \w+ at (\d+)(?: first (\d+)| count \d+)?", line)
-        if told:
-            for at in told.groups()[1:]:
-                found += place_lines(folder / told[1], int(at)) if at else []
-    return found
+def on_terminal(folder, command, written):
+    """The lines that a command writes, and below the line of a refusal what the script adds on a terminal."""
+    words = shlex.split(command)
+    if words[:1] != ["./cif"] or not written or not written[-1].startswith("cif: "):
+        return written
+    explain = [sys.executable, TOP / "tools/explain.py", "shown", written[-1], *words[1:]]
+    ran = subprocess.run(explain, cwd=folder, stdin=subprocess.DEVNULL, capture_output=True, text=True, timeout=60, check=False)
+    return written + ran.stdout.splitlines()
 
 
 class Page:
@@ -150,7 +139,8 @@ class Page:
         for command, shown in commands_of(block.text):
             written = self.run(command)[1].splitlines()
             if not matches(shown, written):
-                self.test.assertEqual(shown, on_terminal(self.folder, written), f"{self.name}:{block.line}: {command}")
+                added = on_terminal(self.folder, command, written)
+                self.test.assertTrue(matches(shown, added), f"{self.name}:{block.line}: {command}\n" + "\n".join(added))
 
     def file(self, block, kept):
         """A source or rows: a file, or a part of one."""
