@@ -6,8 +6,8 @@
 PROGRAM is by default the one that the environment variable CIF_PROGRAM names, else the proved program of this checkout, else the one
 compiled without proofs; without any, nothing that is shown is run. Each page has a folder of its own with the examples, in which its blocks are taken in their order:
 
-    ```console      commands after `$ `, run by bash, each with all that it writes below it; a line `..` is any lines. Below the line
-                    of a refusal may follow what the script adds on a terminal (tools/explain.py)
+    ```console      commands after `$ `, run by one bash, each with all that it writes below it; a line `..` is any lines. Below the
+                    line of a refusal may follow what the script adds on a terminal (tools/explain.py)
     ```cif          a source: behind a line that ends with `NAME`: it is the file NAME, which is compared where it is in examples/,
                     and else written, or put behind what it has where the line begins with "Append". Without a name it is a part of
                     a source before it, or of one in examples/
@@ -36,7 +36,7 @@ TOP = pathlib.Path(__file__).resolve().parent.parent
 BUILT = [TOP / "crates/cif_cli/out/cif_cli", TOP / "crates/cif_cli/out/unproved/cif_cli"]
 # (the environment names it where all tests are run)
 GIVEN = os.environ.get("CIF_PROGRAM")
-PROGRAM = pathlib.Path(GIVEN) if GIVEN else next((it for it in BUILT if it.exists()), None)
+PROGRAM = pathlib.Path(GIVEN).resolve() if GIVEN else next((it for it in BUILT if it.exists()), None)
 # The pages whose commands are run.
 SHOWN = ["README.md", "docs/TUTORIAL.md", "docs/EXAMPLES.md", "docs/CONTROLLER.md", "docs/LANGUAGE.md", "docs/CONSTRUCTS.md", "docs/REFUSALS.md"]
 # The most lines of a page.
@@ -124,23 +124,27 @@ class Page:
         for file in sorted((TOP / "examples").iterdir()):
             (self.sources if file.suffix == ".cif" else self.programs).append(file.read_text())
 
-    def run(self, command):
-        """The status of a command and what it writes. The programs that it writes are kept."""
-        ran = subprocess.run(["bash", "-c", command], cwd=self.folder, stdin=subprocess.DEVNULL, stdout=subprocess.PIPE,
-                             stderr=subprocess.STDOUT, timeout=120, check=False)
-        written = ran.stdout.decode()
-        for file in re.findall(r"> ([\w./-]+\.st)\b", command):
-            self.programs.append((self.folder / file).read_text())
-        if "./cif generate" in command:
-            self.programs.append(written)
-        return ran.returncode, written
+    def run(self, commands):
+        """What each of the commands writes, one after the other in one shell, and the last status. Programs that they write are kept."""
+        mark = "----- end of a command"
+        script = "".join(f"{it}\nstatus=$?; printf '\\n%s\\n' '{mark}'\n" for it in commands) + "exit $status\n"
+        ran = subprocess.run(["bash", "-c", script], cwd=self.folder, stdin=subprocess.DEVNULL, stdout=subprocess.PIPE,
+                             stderr=subprocess.STDOUT, timeout=300, check=False)
+        written = ran.stdout.decode().split(f"\n{mark}\n")[:-1]
+        for command, text in zip(commands, written):
+            files = re.findall(r"> ([\w./-]+\.st)\b", command)
+            self.programs += [(self.folder / it).read_text() for it in files] + ([text] if "./cif generate" in command else [])
+        return written, ran.returncode
 
     def console(self, block):
-        for command, shown in commands_of(block.text):
-            written = self.run(command)[1].splitlines()
-            if not matches(shown, written):
-                added = on_terminal(self.folder, command, written)
-                self.test.assertTrue(matches(shown, added), f"{self.name}:{block.line}: {command}\n" + "\n".join(added))
+        commands = commands_of(block.text)
+        written = self.run([it for it, _ in commands])[0]
+        for (command, shown), text in zip(commands, written):
+            lines = text.splitlines()
+            if not matches(shown, lines):
+                lines = on_terminal(self.folder, command, lines)
+                self.test.assertTrue(matches(shown, lines), f"{self.name}:{block.line}: {command}\n" + "\n".join(lines))
+        self.test.assertEqual(len(commands), len(written), f"{self.name}:{block.line}")
 
     def file(self, block, kept):
         """A source or rows: a file, or a part of one."""
@@ -160,7 +164,7 @@ class Page:
     def shell(self, block):
         for command in block.text.splitlines():
             if self.name == "README.md" and re.match(r"\./cif (check|generate|replay) ", command):
-                self.test.assertEqual(self.run(command)[0], 0, f"{self.name}:{block.line}: {command}")
+                self.test.assertEqual(self.run([command])[1], 0, f"{self.name}:{block.line}: {command}")
 
     def all(self):
         for block in blocks_of((TOP / self.name).read_text()):
@@ -322,11 +326,13 @@ class Shape(unittest.TestCase):
         self.assertEqual(page, crate_table.with_table(page), "run tools/crate_table.py")
 
     def test_usage(self):
-        """README has the text of `cif --help`."""
+        """README has each command and option of `cif --help`, and no other."""
         ran = subprocess.run(["bash", TOP / "cif", "--help"], stdin=subprocess.DEVNULL, capture_output=True, text=True, timeout=60, check=False)
         self.assertEqual(ran.returncode, 0)
-        usage = [it.text for it in blocks_of((TOP / "README.md").read_text()) if it.text.startswith("cif reads CIF 3 automata")]
-        self.assertEqual(usage, [ran.stdout])
+        part = re.search(r"^## Commands\n(.*?)^## ", (TOP / "README.md").read_text(), re.S | re.M)[1]
+        shown = set(re.findall(r"\./cif (\w[\w ]*|--\w+)", part)) | set(re.findall(r"`(-[\w-]+(?: [A-Z]+)?)`", part))
+        heads = {re.split(r" {2,}", it.strip())[0] for it in ran.stdout.splitlines() if it.startswith("  ") and not it.endswith(":")}
+        self.assertEqual(sorted(shown), sorted(it.split(",")[0].removeprefix("cif ") for it in heads))
 
     def test_definitions(self):
         """What THEOREM shows of definitions and clauses is, line for line, in the specs and in the code of the crates."""
