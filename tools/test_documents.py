@@ -309,7 +309,7 @@ class Links(unittest.TestCase):
         self.assertEqual([it.name for it in sorted((TOP / "docs").glob("*.md")) if f"(docs/{it.name}" not in readme], [])
 
     def test_files_that_a_reader_writes_are_ignored(self):
-        text = "".join(it.read_text() for it in pages())
+        text = "".join((TOP / it).read_text() for it in [*SHOWN[:4], "docs/SPEED.md"])
         written = set(re.findall(r"> ([\w-]+\.(?:cif|st|csv))\b", text))
         self.assertLessEqual({"lamp.st", "cell.st"}, written)
         ignored = [it.removeprefix("/") for it in (TOP / ".gitignore").read_text().splitlines()]
@@ -323,7 +323,7 @@ class Shape(unittest.TestCase):
 
     def test_crate_table(self):
         page = crate_table.PAGE.read_text()
-        self.assertEqual(page, crate_table.with_table(page), "run tools/crate_table.py")
+        self.assertTrue(page == crate_table.with_table(page), "docs/PROVED.md: run tools/crate_table.py")
 
     def test_usage(self):
         """README has each command and option of `cif --help`, and no other."""
@@ -348,7 +348,7 @@ class Shape(unittest.TestCase):
         for block in blocks:
             for chunk in re.split(r"\n\n+", block.text.strip()):
                 lines = "\n".join(it.strip() for it in chunk.splitlines())
-                self.assertIn(f"\n{lines}\n", where[block.word], f"docs/THEOREM.md:{block.line}")
+                self.assertTrue(f"\n{lines}\n" in where[block.word], f"docs/THEOREM.md:{block.line}: not so in the crates:\n{chunk}")
 
     def test_clauses(self):
         """The clauses that PROVED names are those of `tool`, and all of them."""
