@@ -325,6 +325,13 @@ class Shape(unittest.TestCase):
         page = crate_table.PAGE.read_text()
         self.assertTrue(page == crate_table.with_table(page), "docs/PROVED.md: run tools/crate_table.py")
 
+    def test_claims_of_crates(self):
+        """PROVED says of each crate what it proves, but for the programs of cases."""
+        part = re.search(r"^## Crate by crate\n(.*?)^## ", (TOP / "docs/PROVED.md").read_text(), re.S | re.M)[1]
+        named = set(re.findall(r"`(\w+)`", " ".join(re.findall(r"^\| (`[^|]*) \|", part, re.M))))
+        crates = {it for it in crate_table.listed_crates((TOP / "crates.txt").read_text()) if not it.endswith("_cases")}
+        self.assertEqual(sorted(named ^ crates), [])
+
     def test_usage(self):
         """README has each command and option of `cif --help`, and no other."""
         ran = subprocess.run(["bash", TOP / "cif", "--help"], stdin=subprocess.DEVNULL, capture_output=True, text=True, timeout=60, check=False)
