@@ -4,7 +4,8 @@
     tools/test_documents.py [PROGRAM]
 
 PROGRAM is by default the one that the environment variable CIF_PROGRAM names, else the proved program of this checkout, else the one
-compiled without proofs; without any, nothing that is shown is run. Each page has a folder of its own with the examples, in which its blocks are taken in their order:
+compiled without proofs; without any, nothing that is shown is run. Each page has a folder of its own with the examples, in which its
+blocks are taken in their order:
 
     ```console      commands after `$ `, run by one bash, each with all that it writes below it; a line `..` is any lines. Below the
                     line of a refusal may follow what the script adds on a terminal (tools/explain.py)
