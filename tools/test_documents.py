@@ -246,7 +246,7 @@ class Shown(WithRoom):
             self.assertEqual(table.count("\n"), (TOP / rows).read_text().count("\n"), source.name)
 
     def test_names_of_a_lock(self):
-        """The names that EXAMPLES lists are the program's, and its table is the one that the simulation of `plain_nets.py` makes."""
+        """The names that EXAMPLES lists are the program's."""
         self.page("docs/EXAMPLES.md")
         program = self.program_of("examples/lock.cif", "1", "1")
         named = re.search(r"with `_` for each dot: (.*?), each with its output", (TOP / "docs/EXAMPLES.md").read_text(), re.S)
@@ -254,12 +254,6 @@ class Shown(WithRoom):
             self.assertTrue(name.startswith(f"L{number}_"))
             self.assertIn(f"  {name}: LINT ", program)
             self.assertIn(f"P{name[1:]} := {name};\n", program)
-        (self.room / "lock.st").write_text(program)
-        status, table, told = self.run_program("replay", "lock.st", "examples/lock-rows.csv")
-        self.assertEqual((status, told), (0, ""))
-        self.assertEqual(table.splitlines()[1:], [
-            "1,0,1,0,1,1,1", "2,0,3,0,1,1,1", "3,0,0,1,2,1,0", "4,1,0,2,4,0,1",
-            "5,3,0,2,4,0,1", "6,0,0,3,2,0,0", "7,0,1,0,1,1,1", "8,0,3,0,1,1,1"])
 
     def test_words_that_are_no_command_line(self):
         self.page("README.md")
