@@ -4,7 +4,7 @@ walk over frames, on random sources.
 
     tools/compare_components.py CASES [SOURCES [SEED]]
 
-CASES is the program of `crates/data_cases`, which is asked `components` and `numbers` for each source that keeps all rules on scopes, and
+CASES is the program of `crates/lib_cases`, which is asked `components` and `numbers` for each source that keeps all rules on scopes, and
 `from` for names in its components. A frame is a body with the frame round it; an instance has the body of its definition and the frame in which
 the definition stands, and stands where its arguments are given. The status is 1 where the two differ.
 """

@@ -3,7 +3,7 @@
 
     tools/compare_data.py CASES [EXPRESSIONS [SEED]]
 
-CASES is the program of `crates/data_cases`, which is asked `interval` and `value`. An interval is told from the bounds of the operands; where
+CASES is the program of `crates/lib_cases`, which is asked `interval` and `value`. An interval is told from the bounds of the operands; where
 a divisor may be 0 or a part leaves 64 bits, the place that is told has to be one of these. Where the interval is told, each value that the
 expression has over small ranges has to lie in it. A constant expression has a value where no operand, also one that is not chosen,
 leaves 64 bits or divides by 0. The status is 1 where the two differ.

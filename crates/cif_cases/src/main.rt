@@ -7,15 +7,13 @@
 //! - `tool WORD .. | file NAME TEXT | reads N .. | writes N .. | takes N | tells N ..`: the command line over these files, where the
 //!   reads, the writes of the output and those of standard error with these numbers, counted from 0, fail; a write of the output
 //!   takes at most so many bytes (16), and one of standard error 7;
-//! - `lex`, `expr`, `exprs`, `names`, `ids`, `declaration`, `types`, `events`, `disc`, `plain`, `invariants`, `kind`, `component`,
-//!   `parameters`: readers of the front of a CIF source;
-//! - `items`, `automaton`, `location`, `edge`, `choice`, `outline`, `shape`, `tree`, `copy`: the tree of a CIF source: its items,
-//!   the automaton that is the last of them, its first location and the first edge of that; the value of the last declaration;
+//! - `lex`, `expr`, `declaration`, `types`, `events`, `component`, `parameters`: readers of the front of a CIF source;
+//! - `items`, `automaton`, `location`, `edge`, `choice`: the tree of a CIF source: its items, the automaton that is the last of them, its
+//!   first location, the first edge of that, and the `if` update that is its first;
 //! - `load TEXT`: the net of a CIF source with the choices of all events and its initial state, or why there is none;
-//!   `emit TEXT | UNC CON`: its program; `frame TEXT | UNC CON`: the frame of rounds round no event, for a source without events;
+//!   `emit TEXT | UNC CON`: its program;
 //!   `widths TEXT`: whether the expressions of its net, before algebraic variables are replaced in it, divide by no 0 and stay in 64
 //!   bits, and how deep they are; `inline TEXT`: the guards of that net where algebraic variables are replaced by their definitions;
-//! - `uses TEXT`: the names that the items of a source write, each with what its position asks for;
 //! - `scopes TEXT`: how many names the scope of each body of a source declares; `resolve TEXT`: the same where the source keeps all
 //!   rules on scopes; `find BODY NAME | TEXT`: the instances that a name passes in the body with that number, and what it finds,
 //!   each as the number of a body and that of a name of its scope.
@@ -29,7 +27,6 @@ mod nets;
 mod scopes;
 mod sources;
 mod tokens;
-mod uses;
 
 use crate::calls::CifCalls;
 use case_text::run;

@@ -1,6 +1,6 @@
 //! Cases of nets: sources, their nets with the choices of all events, and their programs.
 
-ghost use Rattle.std.specs.Prelude.{◌≡◌, ◌≤◌, [], map, true, length, IfOk};
+ghost use Rattle.std.specs.Prelude.{◌≡◌, ◌≤◌, true, length, IfOk};
 ghost use Rattle.cif_ast.specs.Countable.{IsCountable};
 ghost use Rattle.cif_ast.specs.SmallNumbers.{HasSmallNumbers};
 ghost use Rattle.cif_net.specs.View.{net_tree};
@@ -10,7 +10,7 @@ use crate::sources::{put_no_tree, spec_of};
 use case_text::{Fault, Fields, Put, put_lines, put_text};
 use cif_alg::inline;
 use cif_ast::Spec;
-use cif_base::{Items, Memory, Text};
+use cif_base::Text;
 use cif_front::{Refusal, load};
 use cif_inst::instantiate;
 use cif_measure::{check_intervals, depth_of};
@@ -18,9 +18,7 @@ use cif_net::{Auto, Choice, Class, Event, Guarded, Move, Net, NetEdge, State};
 use cif_resolve::resolve;
 use cif_types::check_kinds;
 use plc_back::generate_text;
-use plc_code::emit;
-use plc_gen::{Bounds, Part, frame};
-use st_print::print;
+use plc_gen::Bounds;
 use std::alloc::Global;
 
 /// The most bytes of a source that is loaded.
@@ -220,45 +218,6 @@ pub fn emit_case(fields: &Fields<'_>, page: &mut String) -> Result<(), Fault> {
     let bounds = bounds_of(fields)?;
     let text = fields.text()?;
     put_program(fields.alloc, page, text.as_slice(), bounds)
-}
-
-/// `frame TEXT | UNC CON`: the frame round the statements of no event, for a source without events and algebraic variables.
-pub fn frame_case(fields: &Fields<'_>, page: &mut String) -> Result<(), Fault> {
-    let bounds = bounds_of(fields)?;
-    let text = fields.text()?;
-    match loaded(fields.alloc, text.as_slice())? {
-        Err(refusal) => Ok(writeln!(page, "  {refusal:?}")?),
-        Ok(guarded) => {
-            if !guarded.plain.net.events.is_empty() {
-                return Err(Fault::Form("a source without events is wanted"));
-            }
-            if !guarded.plain.net.algs.is_empty() {
-                return Err(Fault::Form("a source without algebraic variables is wanted"));
-            }
-            let program = framed(fields.alloc, &guarded, bounds)?;
-            Ok(put_lines(page, "program", program.as_slice())?)
-        }
-    }
-}
-
-/// The text of the frame of a net without events and algebraic variables.
-#[tactic(auto, using(crate::proofs::FrameLaws::nothing_fits))]
-fn framed(alloc: Global, guarded: &Guarded, bounds: Bounds) -> Result<Vec<u8>, Memory>
-    requires shallow { is_shallow (net_tree guarded.now.plain.net) ≡ true }
-    requires events { (net_tree guarded.now.plain.net).events ≡ [] }
-    requires algs { (net_tree guarded.now.plain.net).algs ≡ [] }
-    requires unc { bounds.unc ≤ 10000 }
-    requires con { bounds.con ≤ 10000 }
-{
-    // That the program of the net could be emitted tells that its enumerations are small.
-    let _emitted = emit(alloc, guarded, bounds)?;
-    let parts = Items::new(alloc);
-    let shown = Part {
-        own: Items::new(alloc),
-        body: Items::new(alloc),
-    };
-    let program = frame(alloc, &guarded.plain.net, bounds, parts, shown)?;
-    print(alloc, &program)
 }
 
 /// The program of a source, or why there is none.

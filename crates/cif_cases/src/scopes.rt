@@ -1,8 +1,8 @@
 //! Cases of the scopes of a CIF source.
 
-use crate::sources::{put_no_tree, spec_of, value_of};
+use crate::sources::{put_no_tree, spec_of};
 use case_text::{Fault, Fields, Put, first_word, number};
-use cif_ast::{Form, Name, Spec};
+use cif_ast::{Decl, Form, Item, Name, Spec};
 use cif_resolve::resolve;
 use cif_scope::{Found, Scopes, number_scopes};
 use std::alloc::Global;
@@ -65,7 +65,18 @@ fn put_sought(
     }
 }
 
-/// What the name that a tree has as a value finds in a body of another tree.
+/// The name that an algebraic variable is defined by.
+fn name_of(items: &[Item]) -> Option<&Name> {
+    let [Item::Decl(Decl::Alg { value, .. })] = items else {
+        return None;
+    };
+    match &value.as_ref()?.form {
+        Form::Named(name) => Some(name),
+        _ => None,
+    }
+}
+
+/// What the name that the tree `asked` has as a value finds in a body of another tree.
 fn put_find(
     alloc: Global,
     page: &mut String,
@@ -73,7 +84,7 @@ fn put_find(
     body: u32,
     asked: &Spec,
 ) -> Result<(), Fault> {
-    let Some(Form::Named(name)) = value_of(asked.items.as_slice()).map(|value| &value.form) else {
+    let Some(name) = name_of(asked.items.as_slice()) else {
         return Err(Fault::Form("no name"));
     };
     match number_scopes(alloc, spec) {

@@ -6,11 +6,9 @@ ghost use Rattle.cif_ast.specs.SmallNumbers.{HasSmallNumbers};
 ghost use Rattle.cif_parse.specs.Grammar.{Reads};
 
 use crate::declarations::{decl_word, put_decls};
-use crate::expressions::put_shape;
 use case_text::{Fault, Fields, Put, put_text};
 use cif_ast::{
-    AutoBody, Body, Decl, Edge, EventUse, Expr, Ident, Inv, Item, Loc, Name, Role, Spec, Update,
-    UpdateBranch,
+    AutoBody, Body, Edge, EventUse, Ident, Item, Loc, Name, Role, Spec, Update, UpdateBranch,
 };
 use cif_base::Items;
 use cif_lex::{LexErr, lex};
@@ -66,21 +64,11 @@ pub fn source_case(call: &str, fields: &Fields<'_>, page: &mut String) -> Result
 
 fn put_part(page: &mut String, call: &str, items: &[Item]) -> Put {
     match call {
-        "items" => put_item_line(page, items),
-        "outline" => put_outline(page, items),
-        "automaton" => put_last(page, automaton_of(items)),
+        "items" => put_items(page, items),
+        "automaton" => put_automaton(page, automaton_of(items)),
         "location" => put_location(page, location_of(items)),
         "edge" => put_edge(page, edge_of(items)),
-        "choice" => put_choice(page, edge_of(items)),
-        "tree" => put_whole(page, value_of(items)),
-        _ => put_form(page, value_of(items)),
-    }
-}
-
-fn put_last(page: &mut String, body: Option<&AutoBody>) -> Put {
-    match body {
-        Some(body) => put_automaton(page, body),
-        None => page.push_str("  no automaton\n"),
+        _ => put_choice(page, edge_of(items)),
     }
 }
 
@@ -98,61 +86,12 @@ fn item_word(item: &Item) -> &'static str {
 }
 
 fn put_items(page: &mut String, items: &[Item]) -> Put {
-    if items.is_empty() {
-        page.push_str("none")?;
-    }
+    page.push_str(if items.is_empty() { "  none" } else { "  " })?;
     let mut gap = "";
     for item in items {
         page.push_str(gap)?;
         page.push_str(item_word(item))?;
         gap = " ";
-    }
-    Ok(())
-}
-
-fn put_item_line(page: &mut String, items: &[Item]) -> Put {
-    page.push_str("  ")?;
-    put_items(page, items)?;
-    page.push('\n')
-}
-
-/// The items, and those of each component in them.
-#[cycle(outline)]
-fn put_outline(page: &mut String, items: &[Item]) -> Put {
-    put_item_line(page, items)?;
-    for item in items {
-        put_component(page, item)?;
-    }
-    Ok(())
-}
-
-#[cycle(outline)]
-fn put_component(page: &mut String, item: &Item) -> Put {
-    let Item::Comp(comp) = item else {
-        return Ok(());
-    };
-    page.push_str("  in ")?;
-    put_text(page, comp.name.text.as_slice())?;
-    page.push('\n')?;
-    match &comp.body {
-        Body::Group(items) => put_outline(page, items.as_slice()),
-        Body::Auto(body) => {
-            put_automaton(page, body)?;
-            put_ways(page, body.locs.as_slice())
-        }
-    }
-}
-
-/// The name of each location, and behind it the targets of its edges.
-fn put_ways(page: &mut String, locs: &[Loc]) -> Put {
-    page.push_str("  ways")?;
-    for loc in locs {
-        page.push(' ')?;
-        put_target(page, &loc.name)?;
-        for edge in loc.edges.as_slice() {
-            page.push('>')?;
-            put_target(page, &edge.target)?;
-        }
     }
     page.push('\n')
 }
@@ -176,7 +115,10 @@ fn put_count(page: &mut String, names: &Option<Items<Name>>) -> Put {
     }
 }
 
-fn put_automaton(page: &mut String, body: &AutoBody) -> Put {
+fn put_automaton(page: &mut String, body: Option<&AutoBody>) -> Put {
+    let Some(body) = body else {
+        return page.push_str("  no automaton\n");
+    };
     page.push_str("  ")?;
     put_decls(page, body.decls.as_slice())?;
     page.push_str("; alphabet ")?;
@@ -304,70 +246,4 @@ fn put_branches(page: &mut String, branches: &[UpdateBranch]) -> Put {
     let (conds, updates) = parts(branches);
     write!(page, ", conditions {conds}")?;
     write!(page, ", updates {updates}")
-}
-
-/// The value or the predicate of the last of some items, if that is a declaration that has one.
-pub fn value_of(items: &[Item]) -> Option<&Expr> {
-    let [.., Item::Decl(decl)] = items else {
-        return None;
-    };
-    match decl {
-        Decl::Const { value, .. } => Some(value),
-        Decl::Alg { value, .. } => value.as_ref(),
-        Decl::Equation { value, .. } => Some(value),
-        Decl::Inv(Inv::State(p)) => Some(p),
-        Decl::Marked(p) => Some(p),
-        _ => None,
-    }
-}
-
-/// Whether the copy of an expression is printed as the expression is.
-fn is_copied(alloc: Global, value: &Expr) -> Result<bool, Fault> {
-    let first = printed(alloc, value)?;
-    let second = printed_copy(alloc, value)?;
-    Ok(first.as_str() == second.as_str())
-}
-
-fn printed(alloc: Global, value: &Expr) -> Result<String, Fault> {
-    Ok(format!(in alloc; "{value:?}")?)
-}
-
-fn printed_copy(alloc: Global, value: &Expr) -> Result<String, Fault> {
-    let copy = value.copy(alloc)?;
-    printed(alloc, &copy)
-}
-
-fn put_copy(alloc: Global, page: &mut String, value: Option<&Expr>) -> Result<(), Fault> {
-    let told = match value {
-        None => "  no value\n",
-        Some(value) if is_copied(alloc, value)? => "  the same\n",
-        Some(_) => "  another\n",
-    };
-    Ok(page.push_str(told)?)
-}
-
-/// `copy TEXT`: whether the copy of the value is printed as the value is.
-pub fn copy_case(fields: &Fields<'_>, page: &mut String) -> Result<(), Fault> {
-    let text = fields.text()?;
-    match spec_of(fields.alloc, text.as_slice()) {
-        Err(why) => put_no_tree(page, why),
-        Ok(spec) => put_copy(fields.alloc, page, value_of(spec.items.as_slice())),
-    }
-}
-
-/// A value as the code writes its tree, a text by its bytes.
-fn put_whole(page: &mut String, value: Option<&Expr>) -> Put {
-    match value {
-        Some(value) => writeln!(page, "  {value:?}"),
-        None => page.push_str("  no value\n"),
-    }
-}
-
-fn put_form(page: &mut String, value: Option<&Expr>) -> Put {
-    let Some(value) = value else {
-        return page.push_str("  no value\n");
-    };
-    page.push_str("  ")?;
-    put_shape(page, value)?;
-    page.push('\n')
 }

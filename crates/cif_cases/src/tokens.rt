@@ -1,15 +1,12 @@
 //! Cases of the readers that take parts from the front of a CIF source.
 
 use crate::declarations::{put_decls, put_events, put_param, put_types};
-use crate::expressions::{put_name, put_shape};
+use crate::expressions::put_shape;
 use case_text::{Fault, Fields, Put};
-use cif_ast::{Decl, Expr, Ident, Name, Param};
+use cif_ast::{Decl, Expr, Param};
 use cif_base::Items;
-use cif_decl::{
-    component_kind, declaration, disc_declaration, given, is_component, kind_invariants,
-    parameters, plain_declaration,
-};
-use cif_expr::{Read, ReadError, expr, expr_list, ids, names};
+use cif_decl::{declaration, given, is_component, parameters};
+use cif_expr::{Read, ReadError, expr};
 use cif_lex::{Token, TokenKind, lex};
 use std::alloc::Global;
 
@@ -42,31 +39,9 @@ fn put_answer(
     match call {
         "lex" => put_tokens(page, tokens),
         "expr" => put_expr(alloc, page, text, tokens),
-        "exprs" => put_exprs(page, expr_list(alloc, text, tokens)),
-        "names" => put_names(page, names(alloc, text, tokens)),
-        "ids" => put_ids(page, ids(alloc, text, tokens)),
-        "kind" => put_kind(page, component_kind(tokens)),
         "component" => put_component(page, is_component(tokens)),
         "parameters" => put_parameters(alloc, page, parameters(alloc, text, tokens)),
-        _ => put_declared(alloc, page, call, text, tokens),
-    }
-}
-
-fn put_declared(
-    alloc: Global,
-    page: &mut String,
-    call: &str,
-    text: &[u8],
-    tokens: &[Token],
-) -> Result<(), Fault> {
-    match call {
-        "declaration" => put_found(page, Sight::Words, declaration(alloc, text, tokens)),
-        "types" => put_found(page, Sight::Types, declaration(alloc, text, tokens)),
-        "events" => put_found(page, Sight::Events, declaration(alloc, text, tokens)),
-        "disc" => put_found(page, Sight::Types, disc_declaration(alloc, text, tokens)),
-        "plain" => put_found(page, Sight::Words, plain_declaration(alloc, text, tokens)),
-        "invariants" => put_found(page, Sight::Words, kind_invariants(alloc, text, tokens)),
-        _ => Err(Fault::Form("no such call")),
+        _ => put_declared(page, call, declaration(alloc, text, tokens)),
     }
 }
 
@@ -78,11 +53,7 @@ fn put_token(page: &mut String, token: &Token) -> Put {
         TokenKind::Sign(mark) => write!(page, "{mark:?}")?,
         TokenKind::Reserved(word) => write!(page, "{word:?}")?,
     }
-    put_span(page, span.from, span.to)
-}
-
-fn put_span(page: &mut String, from: u32, to: u32) -> Put {
-    write!(page, " {from}..{to}")
+    write!(page, " {}..{}", span.from, span.to)
 }
 
 /// `lex TEXT`: the tokens with their places.
@@ -124,93 +95,23 @@ fn put_tree(page: &mut String, tree: &Expr, rest: &[Token]) -> Result<(), Fault>
     put_left(page, rest)
 }
 
-/// `exprs TEXT`: the forms of expressions with commas between them.
-fn put_exprs(page: &mut String, read: Read<'_, Items<Expr>>) -> Result<(), Fault> {
+/// `declaration TEXT`, `types TEXT`, `events TEXT`: a declaration, as one for each of its names.
+fn put_declared(page: &mut String, call: &str, read: Read<'_, Items<Decl>>) -> Result<(), Fault> {
     match read {
-        Ok((all, rest)) => put_trees(page, all.as_slice(), rest),
+        Ok((found, rest)) => put_found(page, call, found.as_slice(), rest),
         Err(error) => put_stop(page, error),
     }
 }
 
-fn put_trees(page: &mut String, all: &[Expr], rest: &[Token]) -> Result<(), Fault> {
-    let mut gap = "  ";
-    for tree in all {
-        page.push_str(gap)?;
-        put_shape(page, tree)?;
-        gap = ", ";
-    }
-    put_left(page, rest)
-}
-
-/// `names TEXT`: names with commas between them.
-fn put_names(page: &mut String, read: Read<'_, Items<Name>>) -> Result<(), Fault> {
-    match read {
-        Ok((all, rest)) => put_all_names(page, all.as_slice(), rest),
-        Err(error) => put_stop(page, error),
-    }
-}
-
-fn put_all_names(page: &mut String, all: &[Name], rest: &[Token]) -> Result<(), Fault> {
-    let mut gap = "  ";
-    for name in all {
-        page.push_str(gap)?;
-        put_name(page, name)?;
-        gap = ", ";
-    }
-    put_left(page, rest)
-}
-
-/// `ids TEXT`: how many identifiers stand with commas between them.
-fn put_ids(page: &mut String, read: Read<'_, Items<Ident>>) -> Result<(), Fault> {
-    match read {
-        Ok((all, rest)) => put_number(page, all.len(), rest),
-        Err(error) => put_stop(page, error),
-    }
-}
-
-fn put_number(page: &mut String, count: usize, rest: &[Token]) -> Result<(), Fault> {
-    write!(page, "  {count}")?;
-    put_left(page, rest)
-}
-
-/// What is printed of declarations.
-#[derive(Clone, Copy)]
-enum Sight {
-    /// `declaration TEXT`, `plain TEXT`, `invariants TEXT`: their words.
-    Words,
-    /// `types TEXT`, `disc TEXT`: their words and types.
-    Types,
-    /// `events TEXT`: where the predicate and the events of each invariant stand.
-    Events,
-}
-
-fn put_found(page: &mut String, sight: Sight, read: Read<'_, Items<Decl>>) -> Result<(), Fault> {
-    match read {
-        Ok((found, rest)) => put_sight(page, sight, found.as_slice(), rest),
-        Err(error) => put_stop(page, error),
-    }
-}
-
-fn put_sight(page: &mut String, sight: Sight, found: &[Decl], rest: &[Token]) -> Result<(), Fault> {
+/// The words of declarations, these with their types, or where the predicate and the events of each invariant stand.
+fn put_found(page: &mut String, call: &str, found: &[Decl], rest: &[Token]) -> Result<(), Fault> {
     page.push_str("  ")?;
-    match sight {
-        Sight::Words => put_decls(page, found)?,
-        Sight::Types => put_types(page, found)?,
-        Sight::Events => put_events(page, found)?,
+    match call {
+        "declaration" => put_decls(page, found)?,
+        "types" => put_types(page, found)?,
+        _ => put_events(page, found)?,
     }
     put_left(page, rest)
-}
-
-/// `kind TEXT`: a kind of components.
-fn put_kind(page: &mut String, read: Read<'_, &Token>) -> Result<(), Fault> {
-    match read {
-        Ok((token, rest)) => {
-            page.push_str("  ")?;
-            put_token(page, token)?;
-            put_left(page, rest)
-        }
-        Err(error) => put_stop(page, error),
-    }
 }
 
 /// `component TEXT`: whether a component begins.
