@@ -29,7 +29,7 @@ pub fn number(word: &str) -> Result<u32, Fault> {
 }
 
 /// A whole number of 64 bits.
-pub fn whole(word: &str) -> Result<i64, Fault> {
+fn whole(word: &str) -> Result<i64, Fault> {
     match word.parse::<i64>() {
         Ok(value) => Ok(value),
         Err(_) => Err(Fault::Form("no whole number, or one that is too great")),

@@ -24,7 +24,7 @@ mod stream;
 mod texts;
 
 pub use fault::Fault;
-pub use fields::{Fields, first_word, number, whole};
+pub use fields::{Fields, first_word, number};
 pub use files::file;
 pub use page::{Put, put_lines, put_text};
 pub use script::Calls;

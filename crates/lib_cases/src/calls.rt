@@ -7,7 +7,6 @@ use crate::naming::name_case;
 use crate::programs::{checked_case, program_case};
 use crate::sources::source_case;
 use crate::stores::{int_case, sure_case};
-use crate::values::text_case;
 use case_text::{Calls, Fault, Fields};
 
 /// The calls of this program.
@@ -28,7 +27,6 @@ impl Calls for LibCalls {
             "order" => order_case(fields, page),
             "int" => int_case(fields, page),
             "sure" => sure_case(fields, page),
-            "text" => text_case(fields, page),
             _ => Err(Fault::Form("no such call")),
         }
     }

@@ -1,5 +1,5 @@
 //! Cases of what stands below the command line, as data: of expressions of a net, of components and their parameters, of the rules on
-//! kinds, constants and updates; of Structured Text, of rows and names; of intervals, numbers, texts, graphs, files and sinks. Asks the
+//! kinds, constants and updates; of Structured Text, of rows and names; of intervals, numbers, graphs, files and sinks. Asks the
 //! public calls of the libraries what the standard input says, and prints what they answer. The file `stdout` beside this crate has the
 //! expected answers, which are never taken from a run. `case_text` says how lines and texts are written.
 //!
@@ -31,7 +31,7 @@
 //! The calls on what stands below both languages:
 //!
 //! - `operator OPERATOR | LO HI [LO HI]`: the interval that an operator makes of one interval or of two;
-//! - `int TEXT`: a number; `text TEXT | FRONT | NUMBER`: how a text begins, and the text with the number behind it;
+//! - `int TEXT`: the number that a text is in canonical decimal;
 //! - `sure TEXT | file NAME TEXT | read NAME LIMIT`: a sink and files in memory that never fail;
 //! - `order NEEDS | NEEDS ..`: the order of nodes, each with the numbers of those that it needs, `-` for none, and the lowest that
 //!   reaches itself.
@@ -52,7 +52,6 @@ mod rules;
 mod sources;
 mod stores;
 mod tables;
-mod values;
 
 use crate::calls::LibCalls;
 use case_text::run;
