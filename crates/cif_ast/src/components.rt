@@ -7,14 +7,14 @@ use crate::names::{Ident, Name};
 use cif_base::Items;
 
 /// A specification: its items in the order of the text.
-#[derive(Debug, Drop)]
+#[derive(Drop)]
 pub struct Spec {
     pub items: Items<Item>,
 }
 
 /// What stands in a specification or a group.
 #[cycle(item)]
-#[derive(Debug, Drop)]
+#[derive(Drop)]
 pub enum Item {
     Decl(Decl),
     Comp(Comp),
@@ -24,7 +24,7 @@ pub enum Item {
 
 /// A group or an automaton.
 #[cycle(item)]
-#[derive(Debug, Drop)]
+#[derive(Drop)]
 pub struct Comp {
     pub name: Ident,
     pub body: Body,
@@ -32,7 +32,7 @@ pub struct Comp {
 
 /// The body of a group, or that of an automaton.
 #[cycle(item)]
-#[derive(Debug, Drop)]
+#[derive(Drop)]
 pub enum Body {
     Group(Items<Item>),
     Auto(AutoBody),
@@ -40,7 +40,7 @@ pub enum Body {
 
 /// The body of an automaton. Its alphabet is `None` where it isn't declared, and `monitor` where nothing is monitored;
 /// `monitor;` has no names.
-#[derive(Debug, Drop)]
+#[derive(Drop)]
 pub struct AutoBody {
     pub decls: Items<Decl>,
     pub alphabet: Option<Items<Name>>,
@@ -50,7 +50,7 @@ pub struct AutoBody {
 
 /// A definition of a group or an automaton.
 #[cycle(item)]
-#[derive(Debug, Drop)]
+#[derive(Drop)]
 pub struct Def {
     pub name: Ident,
     pub params: Items<Param>,
@@ -58,7 +58,7 @@ pub struct Def {
 }
 
 /// An instance of a definition, with its arguments.
-#[derive(Debug, Drop)]
+#[derive(Drop)]
 pub struct Inst {
     pub name: Ident,
     pub def: Name,

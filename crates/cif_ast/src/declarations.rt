@@ -14,7 +14,7 @@ pub enum Class {
 }
 
 /// What is sent along an event: the event is no channel, a channel without a value, or one with a value of a type.
-#[derive(Debug, Drop)]
+#[derive(Drop)]
 pub enum Chan {
     No,
     Void,
@@ -22,7 +22,7 @@ pub enum Chan {
 }
 
 /// A type where it is used. `Range` has the lower and the upper bound.
-#[derive(Debug, Drop)]
+#[derive(Drop)]
 pub enum TypeUse {
     Bool,
     Int,
@@ -32,7 +32,7 @@ pub enum TypeUse {
 
 /// A declaration. Where a declaration of the source has several names, invariants or marking predicates, each is one
 /// here, in the order of the text.
-#[derive(Debug, Drop)]
+#[derive(Drop)]
 pub enum Decl {
     TypeName {
         name: Ident,
@@ -75,7 +75,7 @@ pub enum Decl {
 }
 
 /// An invariant: of the state, or one that allows (`needs`) or forbids (`disables`) events.
-#[derive(Debug, Drop)]
+#[derive(Drop)]
 pub enum Inv {
     State(Expr),
     Needs { events: Items<Name>, p: Expr },
@@ -83,7 +83,7 @@ pub enum Inv {
 }
 
 /// A parameter of a definition.
-#[derive(Debug, Drop)]
+#[derive(Drop)]
 pub enum Param {
     Event {
         class: Class,

@@ -5,7 +5,7 @@ use crate::names::{Ident, Name};
 use cif_base::Items;
 
 /// A location. `marked` has its marking predicates, and `marked;` leaves none.
-#[derive(Debug, Drop)]
+#[derive(Drop)]
 pub struct Loc {
     pub name: Option<Ident>,
     pub initial: bool,
@@ -15,14 +15,14 @@ pub struct Loc {
 }
 
 /// The value of an algebraic variable in a location.
-#[derive(Debug, Drop)]
+#[derive(Drop)]
 pub struct LocEquation {
     pub name: Ident,
     pub value: Expr,
 }
 
 /// An edge, which stands for one edge for each of its uses of an event. Without a target it leads back.
-#[derive(Debug, Drop)]
+#[derive(Drop)]
 pub struct Edge {
     pub uses: Items<EventUse>,
     pub guards: Items<Expr>,
@@ -31,14 +31,14 @@ pub struct Edge {
 }
 
 /// An event on an edge, and what the automaton does with it.
-#[derive(Debug, Drop)]
+#[derive(Drop)]
 pub struct EventUse {
     pub name: Name,
     pub role: Role,
 }
 
 /// An automaton synchronises on an event, sends a value or nothing along it, or receives.
-#[derive(Debug, Drop)]
+#[derive(Drop)]
 pub enum Role {
     Sync,
     Send(Option<Expr>),
@@ -47,7 +47,7 @@ pub enum Role {
 
 /// An update of an edge. `other` is empty where there is no `else`.
 #[cycle(update)]
-#[derive(Debug, Drop)]
+#[derive(Drop)]
 pub enum Update {
     Set {
         target: Name,
@@ -61,7 +61,7 @@ pub enum Update {
 
 /// A branch of an `if` update: its conditions, all of which must hold, and its updates.
 #[cycle(update)]
-#[derive(Debug, Drop)]
+#[derive(Drop)]
 pub struct UpdateBranch {
     pub conds: Items<Expr>,
     pub updates: Items<Update>,

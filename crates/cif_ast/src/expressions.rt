@@ -5,7 +5,7 @@ use cif_base::{Boxed, Items};
 
 /// An expression and the byte where it begins.
 #[cycle(expression)]
-#[derive(Debug, Drop)]
+#[derive(Drop)]
 pub struct Expr {
     pub form: Form,
     pub at: u32,
@@ -14,7 +14,7 @@ pub struct Expr {
 /// The form of an expression. A list of operands of one level is one form: `rest` of a sum or product is not empty, and
 /// `And` and `Or` have two operands or more. `Received` is `?`, the value that an edge receives.
 #[cycle(expression)]
-#[derive(Debug, Drop)]
+#[derive(Drop)]
 pub enum Form {
     Bool(bool),
     Int(i64),
@@ -52,7 +52,7 @@ pub enum Form {
 
 /// A further operand of a sum, which is subtracted where `minus` is true.
 #[cycle(expression)]
-#[derive(Debug, Drop)]
+#[derive(Drop)]
 pub struct Term {
     pub minus: bool,
     pub value: Expr,
@@ -60,7 +60,7 @@ pub struct Term {
 
 /// A further operand of a product.
 #[cycle(expression)]
-#[derive(Debug, Drop)]
+#[derive(Drop)]
 pub struct Factor {
     pub op: MulOp,
     pub value: Expr,
@@ -68,7 +68,7 @@ pub struct Factor {
 
 /// A branch of an `if`: its conditions, all of which must hold, and its value.
 #[cycle(expression)]
-#[derive(Debug, Drop)]
+#[derive(Drop)]
 pub struct Branch {
     pub conds: Items<Expr>,
     pub value: Expr,

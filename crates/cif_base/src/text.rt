@@ -1,9 +1,8 @@
 //! A list of bytes that contracts see as such.
 
 ghost use Rattle.std.specs.Prelude.{◌≡◌, List, ℕ, ◌++◌, ◌∷◌, [], ◌↔◌, length, take, slice_get, IsTrue, IfOk, OnOk, OnErr, MatchOption};
-ghost use Rattle.std.specs.Fmt.{signed_decimal};
 
-use crate::{Memory, put_int};
+use crate::Memory;
 use std::alloc::Global;
 use std::marker::Model;
 
@@ -79,12 +78,6 @@ impl Text {
         self.bytes.get(at).copied()
     }
 
-    pub fn starts_with(&self, front: &[u8]) -> bool
-        ensures { IsTrue result ↔ ((rest : List ℕ) × (self.now ≡ front.now ++ rest)) }
-    {
-        self.bytes.starts_with(front)
-    }
-
     pub fn pop(&mut self) -> Option<u8>
         ensures { MatchOption result ((self.old ≡ []) × (self.new ≡ [])) (λ last. self.old ≡ self.new ++ last ∷ []) }
     {
@@ -120,14 +113,6 @@ impl Text {
     {
         self.bytes.extend_from_slice(bytes)?;
         Ok(())
-    }
-
-    /// Adds the decimal text of a number at the end.
-    pub fn push_int(&mut self, value: i64) -> Result<(), Memory>
-        ensures ok { OnOk result (self.new ≡ self.old ++ signed_decimal value) }
-        ensures err { OnErr result (self.new ≡ self.old) }
-    {
-        put_int(&mut self.bytes, value)
     }
 
     pub fn is_same(&self, other: &Text) -> bool
