@@ -1,0 +1,680 @@
+"""The sentence for a refusal of a CIF source: what the mistake may be, and what to write instead. For `explain.py`."""
+import re
+
+TOKEN = re.compile(
+    rb"(?P<skip>[ \t\r\n]+|//[^\n]*|/\*.*?\*/)|\$?[A-Za-z_][A-Za-z0-9_]*|0|[1-9][0-9]*|<=>|\.\.|:=|!=|<=|>=|=>|[.,;:()\[\]{}+\-*=<>!?]",
+    re.S,
+)
+RESERVED = set(
+    """abs alg alphabet and any automaton bool cont const controllable def der dict disables disc dist div do edge elif else end enum
+    equation event false func goto group if import in initial input int invariant list location marked max min mod monitor namespace
+    needs not now or plant pow print real requirement self set string sub supervisor switch tau time true tuple type uncontrollable
+    urgent void when""".split()
+)
+KINDS = {"automaton", "plant", "requirement", "supervisor"}
+EVENTS = {"event", "controllable", "uncontrollable"}
+VALUES = {"const", "alg", "input", "disc"}
+DECLARATIONS = EVENTS | VALUES | {"type", "enum", "alphabet", "monitor"}
+IN_LOCATIONS = {"edge", "initial", "marked", "equation"}
+STARTERS = DECLARATIONS | IN_LOCATIONS | KINDS | {"group", "location", "invariant", "end"}
+ORDERS = {"=", "!=", "<", "<=", ">", ">="}
+TYPES = "Types are `bool`, `int`, `int[0..9]` and enumerations. "
+INPUT = " An input can report that a timer has run out."
+NO_INVARIANT = "Invariants in locations are left out. Outside the automaton write `invariant a.x => p;` for the location x of the automaton a."
+ORDER_OF_EDGE = "The parts of an edge have an order: events, `when`, `do`, `goto`."
+
+# What is left out on purpose, by the reserved word.
+LEFT_OUT = {
+    "cont": "Continuous variables are left out, since time is not read." + INPUT,
+    "der": "Derivatives are left out, since time is not read.",
+    "time": "`time` is left out, since time is not read." + INPUT,
+    "urgent": "`urgent` is left out, since time is not read. A program makes in each scan the steps that are possible.",
+    "now": "`now` is left out, since time is not read. A program makes in each scan the steps that are possible.",
+    "real": TYPES + "Instead of a real number use a whole one of a smaller unit, such as tenths.",
+    "string": TYPES + "Instead of texts use an enumeration.",
+    "dist": TYPES + "Distributions are left out.",
+    "tau": "An edge needs an event. Declare one, such as `controllable c;`, and name it after `edge`.",
+    "switch": "`switch` is left out. Write `if x = 0: 1 elif x = 1: 2 else 0 end`.",
+    "func": "Functions are left out. An algebraic variable has the value of an expression.",
+    "import": "Imports are left out. Put the whole source into one file.",
+    "namespace": "Namespaces are left out. A `group` has names of its own.",
+    "print": "Print declarations are left out. `cif replay` writes the values after each scan.",
+    "self": "`self` is left out. A location is named by itself, and is true where its automaton is in it.",
+    "pow": "Powers are left out. Write a product, such as `x * x`.",
+    "in": "A variable has one first value. Write it after `=`.",
+    "any": "A variable has one first value. Write it after `=`.",
+}
+for several in ("list", "set", "dict", "tuple"):
+    LEFT_OUT[several] = TYPES + f"Instead of a `{several}` use several variables."
+
+# What a byte is written as that begins no token.
+SIGNS = {
+    "&": "`&` is no sign. Write `and`.",
+    "|": "`|` is no sign. Write `or`.",
+    "/": "`/` is no sign. Write `div` for the quotient of whole numbers.",
+    "%": "`%` is no sign. Write `mod`.",
+    "#": "`#` is no sign. A comment begins with `//`.",
+    "@": "Annotations are left out. Remove what begins with `@`.",
+    "'": "Derivatives are left out, since time is not read.",
+    "^": "Names with `^` are left out. A name from the whole source begins with a dot, such as `.a.b`.",
+    "~": "`~` is no sign. Write `not` for a negation; flags of parameters are left out.",
+    "$": "After `$` a reserved word is required, as a name.",
+    "\0": "There is a byte 0. Save the file as UTF-8.",
+    "\u2264": "`\u2264` is no sign. Write `<=`.",
+    "\u2265": "`\u2265` is no sign. Write `>=`.",
+    "\u2260": "`\u2260` is no sign. Write `!=`.",
+    "\u2227": "`\u2227` is no sign. Write `and`.",
+    "\u2228": "`\u2228` is no sign. Write `or`.",
+    "\u00ac": "`\u00ac` is no sign. Write `not`.",
+    "\u2192": "`\u2192` is no sign. Write `goto` for a target, and `=>` for an implication.",
+    "\u2212": "`\u2212` is no sign. Write `-`.",
+    "\u2013": "`\u2013` is no sign. Write `-`.",
+    "\u00a0": "There is a no-break space (U+00A0). Write a blank.",
+    "\ufeff": "The file begins with a byte order mark. Save it as UTF-8 without one.",
+}
+QUOTES = '"\u201c\u201d\u201e\u201f'
+QUOTED = {
+    "import": LEFT_OUT["import"],
+    "print": LEFT_OUT["print"],
+    "printfile": LEFT_OUT["print"],
+}
+BEGINS_SVG = re.compile("svg(file|out|in|copy|move)$")
+
+WORDS_OF_OTHERS = {
+    "boolean": "bool", "Boolean": "bool", "Bool": "bool", "BOOL": "bool",
+    "integer": "int", "Integer": "int", "Int": "int", "INT": "int", "uint": "int", "LINT": "int",
+}
+EVENT_USES = {"edge", "alphabet", "monitor", "needs", "disables", "{"}
+
+# What to do about a refusal whose place says no more.
+ADVICE = {
+    2: "The largest number is 2147483647.",
+    3: "Close it with `*/`. Comments do not nest.",
+    8: "It is needed, perhaps through others, by what it contains. Break the circle.",
+    10: "Bounds, first values and values of constants are made of constants and literals. Assign the value on an edge.",
+    11: "Write `initial;` in exactly one location.",
+    12: "Only the automaton that declares a variable assigns it. Give it an edge for the same event.",
+    13: "Leave one assignment: all right sides read the values before the step.",
+    14: "Add the event to `alphabet`, or leave `alphabet` out.",
+    15: "Declare a second event: one for each role.",
+    17: "Make fewer instances, or shorter alphabets of edges: an instance counts as its whole definition.",
+    18: "Change the value or the range.",
+    19: "Define one of them without the others.",
+    20: "Give the divisor a range without 0, such as `int[1..9]`, or write `max(x, 1)`.",
+    21: "Give the variables ranges, such as `int[0..999]`.",
+    22: "Write `e needs p;` for each event that the input is to block, or a guard.",
+    23: "Change the first values, the initial locations or the invariant.",
+    24: "Shorten what is named often: a definition counts as often as its name is written. State invariants count in each choice.",
+    25: "Give the event fewer edges or fewer automata: its choices are the product of the edges of each automaton for it.",
+    28: "Declare the event `controllable` or `uncontrollable`.",
+}
+
+
+def text_of(raw):
+    return raw.decode("utf-8", "replace")
+
+
+def tokens_of(text, start, end):
+    """The tokens of a part of a text with their places, up to a byte where none begins."""
+    found = []
+    while start < end:
+        match = TOKEN.match(text, start, end)
+        if not match:
+            break
+        if match.lastgroup != "skip":
+            found.append((text_of(match.group()), start))
+        start = match.end()
+    return found
+
+
+def is_name(word):
+    return bool(re.match(r"\$?[A-Za-z_]\w*$", word, re.A)) and word not in RESERVED
+
+
+def ends_operand(word):
+    return is_name(word) or word.isdigit() or word in {"true", "false", ")", "end", "?"}
+
+
+def is_head(words):
+    """Whether the words begin a component or a definition, up to its `:`."""
+    words = words[:]
+    if not words or words[0] not in KINDS | {"group"}:
+        return False
+    first = words.pop(0)
+    if words and words[0] == "automaton" and first not in {"automaton", "group"}:
+        words.pop(0)
+    if words and words[0] == "def":
+        return len(words) > 1 and is_name(words[1])
+    return len(words) == 1 and is_name(words[0])
+
+
+class Component:
+    """A component that is open at a place, or an `if`."""
+
+    def __init__(self, head):
+        self.name = " ".join(head[: head.index("(")] if "(" in head else head)
+        self.is_if = head == ["if"]
+        self.is_group = head[0] == "group"
+        self.has_location = False
+
+
+class Place:
+    """What is before and after a byte of a source: tokens, the statement so far, and the open components."""
+
+    def __init__(self, text, at):
+        self.text, self.at = text, at
+        earlier = tokens_of(text, 0, at)
+        later = tokens_of(text, at, min(len(text), at + 400))
+        self.word = later[0][0] if later else ""
+        self.after = [it[0] for it in later[1:]]
+        self.last, last_at = earlier[-1] if earlier else ("", 0)
+        self.is_glued = bool(earlier) and last_at + len(self.last.encode()) == at
+        self.last_line = text.count(b"\n", 0, last_at) + 1
+        self.is_first_on_line = b"\n" in text[last_at:at] or not earlier
+        self.open = []
+        self.statement = []
+        self.ended = []
+        self.depth = depth = 0
+        for word, _ in earlier:
+            depth += (word in "([{") - (word in ")]}")
+            self.step(word, depth)
+
+    def step(self, word, depth):
+        """Goes on by a token of a text that could be continued so far."""
+        self.depth = depth
+        self.statement.append(word)
+        if word == "if":
+            self.open.append(Component(["if"]))
+        elif word == "end" and self.open:
+            if not self.open.pop().is_if:
+                self.close_statement()
+        elif word == ":" and is_head(self.statement[:-1]):
+            self.open.append(Component(self.statement[:-1]))
+            self.close_statement()
+        elif word in ":;" and self.statement[0] == "location":
+            if self.component():
+                self.component().has_location = True
+            self.close_statement()
+        elif word == ";" and depth == 0:
+            self.close_statement()
+
+    def close_statement(self):
+        self.ended, self.statement = self.statement, []
+
+    def component(self):
+        """The innermost open component, or none at the specification."""
+        return next((it for it in reversed(self.open) if not it.is_if), None)
+
+    def in_automaton(self):
+        return bool(self.component()) and not self.component().is_group
+
+    def in_location(self):
+        return self.in_automaton() and self.component().has_location
+
+    def in_if(self):
+        return bool(self.open) and self.open[-1].is_if
+
+    def is_in(self, word):
+        """Whether the statement so far has a word."""
+        return word in self.statement
+
+    def starts(self, *words):
+        return self.statement[:1] != [] and self.statement[0] in words
+
+    def assigns(self):
+        """Whether a name to assign is just before the place."""
+        words = self.statement[:]
+        while words and (is_name(words[-1]) or words[-1] == "."):
+            words.pop()
+        return self.is_in("do") and words != self.statement and words[-1:] != [] and words[-1] in {"do", ",", ":", "else"}
+
+
+# ---- 4 NotRead: each function has the sentence for some mistakes, or none
+
+
+def at_end_of_text(place):
+    if place.word or place.at < len(place.text):
+        return None
+    inner = place.open[-1] if place.open else None
+    missing = "`;`" if place.statement else "`end`"
+    if not inner:
+        return "The text ends here. Is `;` missing?"
+    if inner.is_if:
+        return "The text ends inside an `if`. Is `end` missing?"
+    if place.statement:
+        return f"The text ends inside `{inner.name}`. Are `;` and `end` missing?"
+    return f"The text ends inside `{inner.name}`. Is {missing} missing?"
+
+
+def at_reserved_name(place):
+    """A reserved word in the place of a name."""
+    if place.word not in RESERVED or (place.is_first_on_line and place.last not in {",", "."}):
+        return None
+    in_list = place.last == "," and place.starts(*EVENTS, *VALUES, "enum") and not place.is_in("(") and not place.is_in("[")
+    is_typed = place.starts(*VALUES) and len(place.statement) > 1 and place.last not in {"[", "..", "=", ","}
+    is_value = place.is_in("=") and not in_list
+    is_event = place.starts(*EVENTS) and place.after[:1] in ([";"], [","])
+    is_head_name = place.last in KINDS | {"group", "def"} and place.after[:1] in ([":"], ["("])
+    is_location = place.last == "location" and place.after[:1] in ([":"], [";"]) and place.word not in {"initial", "marked"}
+    after = place.last in {".", "goto", "type"} or (place.last in {"enum", "equation"})
+    if (after or in_list or (is_typed and not is_value and place.word != "in") or is_event or is_head_name or is_location):
+        return f"`{place.word}` is a reserved word. As a name it is written `${place.word}`."
+    return None
+
+
+def at_left_out(place):
+    return LEFT_OUT.get(place.word)
+
+
+def at_edge_without_event(place):
+    if place.last == "edge" and place.word in {"when", "do", "goto", ";"}:
+        return LEFT_OUT["tau"]
+    return None
+
+
+def at_missing_sign(place):
+    """A token that is first on its line, where the line before has no end."""
+    if not place.statement or not place.is_first_on_line:
+        return None
+    if place.starts("location") and len(place.statement) < 3:
+        return f"Is `:` missing after `{' '.join(place.statement)}`?"
+    if is_head(place.statement) and "(" not in place.statement and place.word in STARTERS:
+        return f"Is `:` missing after `{' '.join(place.statement)}`?"
+    is_whole = ends_operand(place.last) or place.last in {"]", "!", "initial", "marked", "alphabet", "monitor"}
+    if place.word in STARTERS and is_whole:
+        return f"Is `;` missing at the end of line {place.last_line}?"
+    return None
+
+
+def at_start(place):
+    """A word that begins no statement there."""
+    if place.statement:
+        return None
+    for rule in (at_start_of_sign, at_start_in_location, at_start_of_declaration, at_start_of_part):
+        found = rule(place)
+        if found:
+            return found
+    return None
+
+
+def at_start_of_sign(place):
+    if place.word == ";":
+        return "After the `end` of a component there is no `;`." if place.last == "end" else "There is a `;` too many."
+    if place.word != "end":
+        return None
+    if not place.component():
+        return "There is no open component that this `end` could close."
+    if place.in_automaton() and not place.in_location():
+        return "An automaton has at least one location, such as `location: initial;`."
+    return None
+
+
+def at_start_in_location(place):
+    if not place.in_location():
+        return None
+    ahead = [place.word] + place.after
+    opens = is_head(ahead[: ahead.index(":")]) if ":" in ahead else "def" in ahead[:3]
+    if place.word in KINDS | {"group"} and opens:
+        return f"Is `end` missing before this line? `{place.component().name}` is still open."
+    if place.word in KINDS | {"invariant"}:
+        return NO_INVARIANT
+    if is_name(place.word) and place.after[:1] in ([":="], ["."]) and "do" in place.ended:
+        return "Updates have commas between them, and one `;` after the last."
+    if is_name(place.word) and place.after[:1] in (["needs"], ["disables"]):
+        return NO_INVARIANT
+    if place.word in DECLARATIONS:
+        return "The declarations of an automaton come before its first location."
+    return None
+
+
+def at_start_of_declaration(place):
+    if place.word == "disc" and not place.in_automaton():
+        return "A discrete variable is declared in an automaton."
+    if place.word in {"alphabet", "monitor"}:
+        if place.in_automaton():
+            return f"An automaton has one `{place.word}`. Name all events in it."
+        return f"`{place.word}` is part of an automaton."
+    if place.word == "initial":
+        return "`initial;` is part of a location. First values are given where variables are declared."
+    return None
+
+
+def at_start_of_part(place):
+    if place.word == "edge":
+        return "An edge is part of a location. An automaton without named ones has `location: initial;`."
+    if place.word == "location" and place.in_location():
+        return "A location without a name is the only one of its automaton."
+    if place.word == "location":
+        return "A location is part of an automaton."
+    if place.word in {"goto", "do", "when"}:
+        return f"`{place.word}` is part of an edge. Remove the `;` before it."
+    return None
+
+
+def at_head(place):
+    """The words up to the `:` of a location, a component, a definition or an instance."""
+    words = place.statement
+    if not words:
+        return None
+    if words[:1] == ["location"] and place.word in IN_LOCATIONS:
+        return f"Is `:` missing after `{' '.join(words)}`?"
+    if is_head(words) and place.word == ":":
+        return f"A definition has parentheses, also without parameters: `def {words[-1]}():`."
+    if is_head(words) and "(" not in words and place.word in STARTERS:
+        return f"Is `:` missing after `{' '.join(words)}`?"
+    if len(words) > 2 and is_name(words[0]) and words[1] == ":" and "(" not in words and place.word == ";":
+        return f"An instance has parentheses, also without arguments: `{words[0]}: {''.join(words[2:])}();`."
+    if place.word == ":" and words[0] in KINDS | {"group"} and words[-1] in {"abs", "min", "max"}:
+        return f"`{words[-1]}` is a reserved word. As a name it is written `${words[-1]}`."
+    if place.word == ":=" and not place.is_in("edge") and is_name(words[0]):
+        return "An assignment is part of an edge, after `do`."
+    if len(words) == 1 and is_name(words[0]):
+        return f"No declaration begins with `{words[0]}`. An instance is written `x: D();`."
+    return None
+
+
+def at_parameter(place):
+    words = place.statement
+    if "def" not in words or not is_head(words[: words.index("(")] if "(" in words else []):
+        return None
+    if place.word in {"!", "?"}:
+        return f"Flags of parameters are left out. Write the event without `{place.word}`."
+    if place.last == "," and place.word in EVENTS | {"alg", "location"}:
+        return "Parameters of different sorts have `;` between them."
+    if place.last not in {"(", ";"}:
+        return None
+    if place.word in {"bool", "int"}:
+        return f"A value parameter begins with `alg`, such as `alg {place.word} x`."
+    if is_name(place.word) or place.word in KINDS | {"group"}:
+        return "A parameter is an event, a location, or a value (`alg int x`). Instead of a component hand over what is used of it."
+    return None
+
+
+def at_declaration(place):
+    words = place.statement
+    if place.word in EVENTS and place.starts(*EVENTS) and len(words) == 1:
+        return "Leave one word out: an event is declared by `event`, `controllable` or `uncontrollable`."
+    if place.starts(*VALUES) and len(words) == 2 and is_name(words[1]) and place.word in {"=", ";", ","}:
+        return "A type is missing before the name, such as `int`."
+    if place.word == ":=" and place.starts(*VALUES, "equation", "type", "enum"):
+        return "A first value or a definition is written with `=`. `:=` is for assignments on edges."
+    if place.starts("enum") and place.word in {"{", "("}:
+        return "Write an enumeration without braces, such as `enum E = a, b;`."
+    if "[" in words and words[words.index("[") - 1] == "int" and "]" not in words and place.word in {",", "]", ";"} and ".." not in words:
+        return "Write a range as `int[0..5]`."
+    if place.last == "int" and place.word == "(":
+        return "Write a range as `int[0..5]`."
+    if place.word == "=" and place.starts("input"):
+        return "An input has no first value of its own: its values come from outside."
+    if place.word == ":" and place.starts(*VALUES, *EVENTS):
+        return "A type is written before the name, such as `disc int x;`."
+    if place.starts("enum") and len(words) == 2 and is_name(place.word):
+        return f"Is `=` missing after `enum {words[1]}`?"
+    if is_name(place.word) and is_name(place.last) and place.starts(*EVENTS, "enum", "alphabet", "monitor"):
+        return f"Is `,` missing between `{place.last}` and `{place.word}`?"
+    if place.last == "initial" and place.word != ",":
+        return "`initial` has no predicate but `true`. First values are given where variables are declared."
+    return None
+
+
+def at_edge(place):
+    if not place.starts("edge"):
+        return None
+    if place.word in {"when", "do"} and (place.is_in("goto") or place.is_in("do") or place.is_in("when")):
+        return ORDER_OF_EDGE
+    if place.word == "." and place.statement[-2:-1] == ["goto"]:
+        return "`goto` leads to a location of the same automaton, named without a path."
+    if place.word == "-" and place.after[:1] == [">"] or place.word in {"=>", "<=>"} and not place.is_in("when"):
+        return "Write `goto` and the location for the target of an edge."
+    if place.word in {"if", "["} and not place.is_in("when") and not place.is_in("do"):
+        return "Write `when` before the guard of an edge."
+    if place.assigns() and place.word == "=":
+        return "Write `:=` for an assignment."
+    if place.assigns() and place.word in {"+", "-", "*"}:
+        return "Write an assignment as `x := x + 1`."
+    uses = not (place.is_in("when") or place.is_in("do") or place.is_in("goto"))
+    if uses and is_name(place.word) and is_name(place.last):
+        return "After the events of an edge come `when`, `do` and `goto`. Several events have commas between them."
+    if place.word == ":=" and place.is_in("when") and not place.is_in("do"):
+        return "Write `=` for equality. `:=` is for assignments, after `do`."
+    if place.word == "(" and place.last in {"do", ","}:
+        return "One variable is assigned at a time. Write `x := 1, y := 2`; all right sides read the old values."
+    return None
+
+
+def at_number(place):
+    if place.word == "." and place.last.isdigit() and place.is_glued:
+        return "Real numbers are left out. Use a whole number of a smaller unit, such as tenths."
+    if place.word.isdigit() and place.last == "0" and place.is_glued:
+        return "A number has no zeros in front."
+    if is_name(place.word) and place.last.isdigit() and place.is_glued:
+        return "A name begins with a letter or `_`. Real numbers, such as `1e3`, are left out."
+    return None
+
+
+def at_word(place):
+    if place.word.lower() in RESERVED and place.word not in RESERVED:
+        return f"Reserved words have small letters. Write `{place.word.lower()}`."
+    if place.last.lower() in RESERVED and place.last not in RESERVED and len(place.statement) == 1:
+        return f"Reserved words have small letters. Write `{place.last.lower()}`."
+    if place.word == "then" and place.in_if():
+        return "Write `:` after the condition of an `if`, in the place of `then`."
+    if place.word in {"elsif", "elseif"}:
+        return "Write `elif`."
+    if place.word == "endif":
+        return "An `if` ends with `end`."
+    if place.word == ":" and place.last == "else":
+        return "`else` has no `:` after it."
+    if place.word == "end" and place.in_if() and ends_operand(place.last):
+        return "An `if` that is a value has an `else`."
+    if place.word in {";", "goto"} and place.in_if() and ends_operand(place.last):
+        return "The `if` before it is still open. Is `end` missing?"
+    if place.word == "xor" and ends_operand(place.last):
+        return "Write `!=` for one of two booleans."
+    return None
+
+
+def at_operator(place):
+    if place.word == "=" and place.last == "=" and place.is_glued:
+        return "Write `=` for equality."
+    if place.word == ">" and place.last == "<" and place.is_glued:
+        return "Write `!=` for inequality."
+    if place.word in {"<", ">"} and place.last == "=" and place.is_glued:
+        return f"Write `{place.word}=`."
+    if place.word == "!" and not ends_operand(place.last):
+        return "`!` is behind an event that is sent. Write `not`."
+    if place.word == "<" and not ends_operand(place.last):
+        return "Casts are left out."
+    if place.word in {"[", "{"} and (ends_operand(place.last) or place.last in ORDERS | {":=", "when", "("}):
+        return "Lists and their elements are left out. Use several variables."
+    if place.word == "(" and is_name(place.last):
+        return f"`{place.last}` is no function here. There are `abs`, `min` and `max`."
+    if place.word == "*" and place.last == "*":
+        return LEFT_OUT["pow"]
+    if place.word == "?" and ends_operand(place.last) and ":" in place.after:
+        return "Write `if a: b else c end` for one of two values."
+    if place.word in {"=>", "<=>"} and ends_operand(place.last):
+        return "An expression has one `=>` or `<=>`. Write parentheses round the first."
+    if place.word in ORDERS and ends_operand(place.last) and has_comparison(place):
+        return f"A comparison has one operator. Write `a {first_comparison(place)} b and b {place.word} c`."
+    return None
+
+
+def first_comparison(place):
+    """The comparison of the operand before the place, or none."""
+    depth = 0
+    for word in reversed(place.statement):
+        depth += (word in {")", "]"}) - (word in {"(", "["})
+        if depth < 0 or (depth == 0 and word in {"and", "or", "not", "=>", "<=>", ",", ":", ":=", "when", "do", "if", "else"}):
+            return None
+        if depth == 0 and word in ORDERS:
+            return word
+    return None
+
+
+def has_comparison(place):
+    """Whether the operand before the place is compared already; the `=` of a declaration compares nothing."""
+    found = first_comparison(place)
+    defines = place.starts(*VALUES, "equation", "type", "enum") and place.statement.count("=") == 1 and "," not in place.statement
+    return bool(found) and not (found == "=" and defines)
+
+
+def at_gap(place):
+    """A sign before which something is missing."""
+    if place.word not in {";", ",", ")", "]", ":"} or not place.statement:
+        return None
+    if place.depth > 0 and place.word == ";" and ends_operand(place.last):
+        return "Is a closing parenthesis or bracket missing?"
+    if not ends_operand(place.last) and place.last not in {"]", "!"}:
+        return f"Something is missing between `{place.last}` and `{place.word}`."
+    if place.last == "]" and place.word == ";":
+        return "A name is missing before `;`."
+    return None
+
+
+NOT_READ = (
+    at_end_of_text, at_reserved_name, at_edge_without_event, at_left_out, at_missing_sign, at_start, at_word, at_parameter, at_head,
+    at_declaration, at_edge, at_number, at_operator, at_gap,
+)
+
+
+def not_read(place):
+    for rule in NOT_READ:
+        found = rule(place)
+        if found:
+            return found
+    if place.is_first_on_line and place.statement and ends_operand(place.last):
+        return f"Is `;` missing at the end of line {place.last_line}?"
+    return None
+
+
+# ---- the other refusals with a place
+
+
+def first_character(raw):
+    """The character that bytes begin with, or none where they are no UTF-8."""
+    for size in range(1, 5):
+        try:
+            return raw[:size].decode("utf-8")
+        except UnicodeDecodeError:
+            continue
+    return ""
+
+
+def bad_byte(place):
+    raw = place.text[place.at : place.at + 4]
+    if place.at < 2 and place.text[:2] in (b"\xff\xfe", b"\xfe\xff"):
+        return "The file is in UTF-16. Save it as UTF-8 without a byte order mark."
+    sign = first_character(raw)
+    if not sign:
+        return "Outside comments ASCII alone is read. Save the file as UTF-8."
+    if sign in QUOTES:
+        first = place.statement[0] if place.statement else ""
+        if BEGINS_SVG.match(first):
+            return "SVG declarations are left out. Keep them in a file of their own."
+        return QUOTED.get(first, "Texts in quotes are left out. Use an enumeration for named states.")
+    if sign == "^" and ends_operand(place.last):
+        return LEFT_OUT["pow"]
+    if sign in SIGNS:
+        return SIGNS[sign]
+    if sign.isalpha():
+        return "Names have ASCII letters, digits and `_`. Outside comments no other letters are read."
+    return None
+
+
+def unknown(place):
+    word = place.word
+    if word in WORDS_OF_OTHERS:
+        return TYPES + f"Write `{WORDS_OF_OTHERS[word]}`."
+    if word.lower() in RESERVED and word not in RESERVED:
+        return f"Reserved words have small letters. Write `{word.lower()}`."
+    if place.last == "goto":
+        return "`goto` leads to a location of the same automaton, and there is none of this name."
+    if place.last == "equation":
+        return "An equation defines an algebraic variable of its own component."
+    if place.after[:1] == ["."]:
+        return "The first part of a name is looked up here and then outward, each other part in the component before it."
+    return "Names inside another component have its name in front, such as `a.x`."
+
+
+def duplicate(place):
+    if place.starts("enum"):
+        return "A literal is a name of the scope of its enumeration. Rename one of the two."
+    return "Rename one of the two, or remove it."
+
+
+def wrong_kind(place):
+    ahead = place.after[:]
+    while len(ahead) > 1 and ahead[0] == ".":
+        ahead = ahead[2:]
+    if place.after[:1] == [":"] or (place.last == ":" and ahead[:1] == ["("]):
+        return "An instance has one argument for each parameter, and the name after `:` is that of a definition."
+    if ahead[:1] == [":="]:
+        return "Only discrete variables are assigned."
+    if place.last == "goto":
+        return "`goto` leads to a location of the same automaton."
+    if place.last == "equation":
+        return "An equation defines an algebraic variable of its own component."
+    in_uses = place.last == "," and place.starts("edge") and not place.is_in("when") and not place.is_in("do")
+    if place.last in EVENT_USES or in_uses or ahead[:1] == ["needs"]:
+        return "Here an event is required."
+    if place.last in VALUES | EVENTS:
+        return "Here a type is required."
+    return "A value is required: a constant, a variable, a location or a literal."
+
+
+def mismatch(place):
+    ahead = place.after[:]
+    while len(ahead) > 1 and ahead[0] == ".":
+        ahead = ahead[2:]
+    is_single = not ahead or ahead[0] in {";", ",", "do", "goto", ":", "and", "or", "=>", "<=>", "end", "elif", "else", ")"}
+    if place.word == "?":
+        return "`?` is the received value, in updates of an edge whose events are all received."
+    if place.last in {"edge", "alphabet"} or (ahead[:1] in (["!"], ["?"]) and place.starts("edge")):
+        return "A use fits its event: `e!v` sends a value of its type, `e?` receives one, and `e!` needs an event with `void`."
+    if len(place.statement) > 2 and place.statement[1] == ":" and place.statement[-1] in {"(", ","} and is_name(place.statement[0]):
+        return "An argument fits its parameter: the name of an event or a location, or a value of the kind of the parameter."
+    if place.last in {"+", "-", "*", "div", "mod", "<", "<=", ">", ">="} and place.statement[-2:-1] != [] and ends_operand(place.statement[-2]):
+        return f"`{place.last}` has integers on both sides. Write `if b: 1 else 0 end` for a boolean."
+    if place.last in {"and", "or", "=>", "<=>"} and is_single:
+        return f"`{place.last}` has booleans on both sides."
+    if place.last in {"when", "if", "elif"} and is_single:
+        return "A condition is boolean. Compare the number, such as `x > 0`."
+    if place.last in {"=", "!="} and not (place.starts(*VALUES) and place.statement.count("=") == 1):
+        return f"Both sides of `{place.last}` have one kind: boolean, integer, or the same enumeration."
+    if place.last in {":=", "="} and (is_single or place.last == ":="):
+        return "A value has the kind of its variable: boolean, integer, or the same enumeration."
+    return "Arithmetic and orders have integers, `and`, `or` and `not` booleans; branches of an `if` have one kind."
+
+
+def equations(place, count):
+    if count == 0:
+        return "Give it a value after `=`, an `equation` in its component, or one in each location."
+    return "Remove all definitions but one."
+
+
+BY_PLACE = {1: bad_byte, 4: not_read, 5: unknown, 6: duplicate, 7: wrong_kind, 9: mismatch}
+
+
+def sentence(number, text, at, count=None):
+    """The sentence for a refusal of a text at a byte, or none."""
+    if number == 16:
+        return equations(None, count)
+    if at is None or number not in BY_PLACE:
+        return ADVICE.get(number)
+    return BY_PLACE[number](Place(text, at))
+
+
+def declared(text, keywords, path):
+    """The place where the last name of a path is declared by one of the words, where there is one such place alone."""
+    name, found, is_declared, depth = path.split(".")[-1], [], False, 0
+    earlier = tokens_of(text, 0, len(text))
+    for (word, at), (after, _) in zip(earlier, earlier[1:]):
+        depth += (word == "(") - (word == ")")
+        if word in keywords:
+            is_declared = depth == 0
+        elif word in {";", ":"}:
+            is_declared = False
+        elif is_declared and word.lstrip("$") == name and after in {",", ";", "="}:
+            found.append(at)
+    return found if len(found) == 1 else []
