@@ -159,7 +159,7 @@ def header_sentence(program):
 
 def cell_sentence(program, rows, row, column):
     header = record(rows, 0)
-    if not header or column > len(header):
+    if not header or row is None or not 0 < (column or 0) <= len(header):
         return None
     name = content(rows, header[column - 1])
     if name == "scan":
@@ -174,7 +174,7 @@ def cell_sentence(program, rows, row, column):
 
 
 def length_sentence(rows, row):
-    header, fields = record(rows, 0), record(rows, row)
+    header, fields = record(rows, 0), record(rows, row or 0)
     if not header or not fields:
         return None
     return f"The header has {len(header)} fields, and this row {len(fields)}."

@@ -1,0 +1,311 @@
+#!/usr/bin/env python3
+"""Runs what docs/REFUSALS.md and docs/LANGUAGE.md show, and tools/wrong_sources.txt with the sentences of tools/explain.py.
+
+    tools/test_refusals.py [PROGRAM]
+
+Without a word the program of this checkout is run, or the one without proofs.
+"""
+import os
+import pathlib
+import re
+import resource
+import shlex
+import subprocess
+import sys
+import tempfile
+import unittest
+
+TOP = pathlib.Path(__file__).resolve().parent.parent
+BUILT = [TOP / "crates/cif_cli/out" / it for it in ("cif_cli", "unproved/cif_cli")]
+EXPLAIN = TOP / "tools/explain.py"
+# (a word before the words of unittest)
+PROGRAM = pathlib.Path(sys.argv.pop(1)).resolve() if sys.argv[1:] and os.path.isfile(sys.argv[1]) else next(filter(pathlib.Path.exists, BUILT), None)
+STACK = 64 << 20
+# The exit code of each refusal.
+CODES = {**dict.fromkeys(range(1, 25), 7), 25: 8, 28: 8, **dict.fromkeys(range(31, 40), 9)}
+CODES.update({40: 11, 41: 11, 42: 11, 43: 12, **dict.fromkeys(range(44, 48), 10)})
+
+sys.path.insert(0, str(TOP / "tools"))
+import explain  # noqa: E402
+
+
+def with_stack():
+    """The program without proofs takes more stack than is common."""
+    most = resource.getrlimit(resource.RLIMIT_STACK)[1]
+    if most == resource.RLIM_INFINITY or most >= STACK:
+        resource.setrlimit(resource.RLIMIT_STACK, (STACK, most))
+
+
+def run(words, folder, output=None):
+    """The status of a command, its standard output and standard error."""
+    with open(output, "wb") if output else tempfile.TemporaryFile() as written:
+        ran = subprocess.run([str(it) for it in words], cwd=folder, stdout=written, stderr=subprocess.PIPE, preexec_fn=with_stack, timeout=120)
+        told = ran.stderr.decode(errors="surrogateescape")
+        if output:
+            return ran.returncode, "", told
+        written.seek(0)
+        return ran.returncode, written.read().decode(), told
+
+
+def explained(verb, *words, folder=TOP):
+    """The status and output of `explain.py`, on a wide terminal."""
+    environment = {**os.environ, "COLUMNS": "200"}
+    ran = subprocess.run([sys.executable, EXPLAIN, verb, *words], cwd=folder, capture_output=True, text=True, env=environment, timeout=60)
+    return ran.returncode, ran.stdout
+
+
+def sections_of(page):
+    """The headings of a page and what is below each."""
+    return re.findall(r"^## ([^\n]*)\n(.*?)(?=^## |\Z)", page, re.S | re.M)
+
+
+def blocks_of(section):
+    """The blocks of a section, each with the last line before it that is in no block."""
+    found, label, block = [], "", None
+    for line in section.splitlines(keepends=True):
+        if line.startswith("```") and block is None:
+            block = ""
+        elif line.startswith("```"):
+            found.append((label, block))
+            label, block = "", None
+        elif block is not None:
+            block += line
+        elif line.strip():
+            label = line.strip()
+    return found
+
+
+class Shown(unittest.TestCase):
+    """Files and commands in a folder of their own."""
+
+    def setUp(self):
+        room = tempfile.TemporaryDirectory()
+        self.addCleanup(room.cleanup)
+        self.work = pathlib.Path(room.name)
+
+    def write(self, name, text, is_made=False):
+        if is_made:
+            text = subprocess.run([sys.executable, "-c", text], capture_output=True, text=True, check=True).stdout
+        (self.work / name).write_bytes(text.encode())
+
+
+class Page(Shown):
+    """docs/REFUSALS.md."""
+
+    def setUp(self):
+        super().setUp()
+        self.sections = sections_of((TOP / "docs/REFUSALS.md").read_text())
+        self.numbered = [(int(it[0].split()[0]), it[0].split()[1], it[1]) for it in self.sections if it[0][0].isdigit()]
+
+    def test_numbers(self):
+        """Each refusal has a part, in order, that begins with its rule in words."""
+        self.assertEqual([it[0] for it in self.numbered], sorted(explain.RULES))
+        self.assertEqual(sorted(CODES), sorted(explain.RULES))
+        for number, _, text in self.numbered:
+            self.assertEqual(" ".join(text.strip().split("\n\n")[0].split("\n")), explain.RULES[number])
+
+    def test_explained_by_number(self):
+        for number, name, text in self.numbered:
+            self.assertEqual(explain_number(number), f"## {number} {name}\n{text.rstrip()}\n")
+        for word in ("0", "26", "48", "x", "", "1 "):
+            self.assertEqual(explained("number", word), (2, ""))
+
+    @unittest.skipUnless(PROGRAM, "there is no program")
+    def test_examples(self):
+        for heading, text in self.sections:
+            with self.subTest(heading):
+                self.assertTrue(self.show(heading, text))
+
+    def show(self, heading, text):
+        """Runs the example of a part; whether something was refused and something mended."""
+        words, has_run, is_mended = [], False, False
+        for label, block in blocks_of(text):
+            named = re.fullmatch(r"`([\w.]+)`(, mended)?(, as Python writes it)?:", label)
+            if named:
+                self.write(named[1], block, is_made=bool(named[3]))
+            if named and named[2]:
+                self.assertEqual(run([PROGRAM, *words], self.work)[0], 0)
+                is_mended = True
+            elif not named:
+                words = self.transcript(heading, block)
+                has_run = True
+        return has_run and is_mended
+
+    def transcript(self, heading, block):
+        """Runs the command of a block, which has its answer; the words of the command."""
+        command, answer = block.split("\n", 1)
+        self.assertTrue(command.startswith("$ cif "), block)
+        command, _, output = command.removeprefix("$ cif ").partition(" > ")
+        words = shlex.split(command)
+        status, written, told = run([PROGRAM, *words], self.work, output)
+        self.assertEqual(written + told, answer)
+        if heading[0].isdigit():
+            number, name = heading.split()
+            self.assertEqual(status, CODES[int(number)])
+            self.assertRegex(told, rf"^cif: [^ ]+: (row 1: )?{number} {name}\b")
+        return words
+
+
+def explain_number(number):
+    status, written = explained("number", str(number))
+    return written if status == 0 else None
+
+
+class WrongSources(Shown):
+    """tools/wrong_sources.txt: the sentence for each, behind the rule in words."""
+
+    def setUp(self):
+        super().setUp()
+        text = (TOP / "tools/wrong_sources.txt").read_text()
+        self.sources = re.findall(r"^### ([^\n]*)\n(.*?)^>>> ([^\n]*)\n", text, re.S | re.M)
+
+    def test_table(self):
+        self.assertGreaterEqual(len(self.sources), 89)
+        self.assertEqual(len({it[0] for it in self.sources}), len(self.sources))
+        silent = [it for it in self.sources if it[2] == "-"]
+        self.assertLessEqual(len(silent) * 89, 9 * len(self.sources))
+
+    @unittest.skipUnless(PROGRAM, "there is no program")
+    def test_sentences(self):
+        met = set()
+        for title, source, sentence in self.sources:
+            with self.subTest(title):
+                self.write("a.cif", re.sub(r"<U\+([0-9A-F]{4})>", lambda it: chr(int(it[1], 16)), source))
+                status, _, told = run([PROGRAM, "check", "a.cif"], self.work)
+                self.assertEqual(status, 7)
+                met.add(int(told.split()[2]))
+                line, words = told.rstrip("\n"), ["check", "a.cif"]
+                found = explain.sentence_of(explain.told_by(line, words), (self.work / "a.cif").read_bytes(), words)
+                self.assertEqual(found or "-", sentence)
+        self.assertEqual(explained("shown", line, *words, folder=self.work)[1].splitlines()[-1], sentence)
+        # (too many objects and nodes are no mistakes of a small source)
+        self.assertEqual(met, set(range(1, 25)) - {17, 24})
+
+
+class Places(Shown):
+    """The place of a byte as a terminal and as an editor has it."""
+
+    def shown(self, text, at, columns=200, name="a.cif"):
+        """What is shown of a place, without the rule and the sentence."""
+        (self.work / name).write_bytes(text)
+        line = f"cif: {name}: 4 NotRead at {at}"
+        words = [sys.executable, EXPLAIN, "shown", line, "check", name]
+        found = subprocess.run(words, cwd=self.work, capture_output=True, env={**os.environ, "COLUMNS": str(columns)}, timeout=60)
+        self.assertEqual((found.returncode, found.stderr), (0, b""))
+        return found.stdout.decode().split(explain.RULES[4])[0]
+
+    def test_lines_and_columns(self):
+        cases = [
+            (b"event e", 7, "1:8\nevent e\n       ^\n"),
+            (b"event e\n", 8, "2:1\n\n^\n"),
+            (b"", 0, "1:1\n\n^\n"),
+            (b"one\n\ttwo\tthree four\nfive\n", 15, "2:12\n\ttwo\tthree four\n\t   \t      ^\n"),
+            (b"one\r\ntwo three\r\n", 9, "2:5\ntwo three\n    ^\n"),
+            ("// \u00e9\u20ac \u00a7\n".encode(), 9, "1:10\n// \u00e9\u20ac \u00a7\n      ^\n"),
+            ("// \u4e2d\u6587 e\u0301 @\n".encode(), 14, "1:15\n// \u4e2d\u6587 e\u0301 @\n          ^\n"),
+            (b"a\x1b[2J\x07 b", 7, "1:8\na?[2J? b\n       ^\n"),
+            (b"// \xc2\x9b31m \x7f \xff\xfe @", 14, "1:15\n// ?31m ? ?? @\n             ^\n"),
+            ("\u202e x\u2028y".encode(), 4, "1:5\n? x?y\n  ^\n"),
+        ]
+        for text, at, wanted in cases:
+            with self.subTest(text):
+                self.assertEqual(self.shown(text, at), f"a.cif:{wanted}")
+
+    def test_long_lines(self):
+        """A part of a long line is shown, with the caret below the byte that is meant."""
+        for before in (b"x" * 500, "\u4e2d".encode() * 90, b"x\ty " * 90, b"\xff" * 300, b"x" * 9000):
+            for columns in (20, 60, 80):
+                line, caret = self.shown(before + b"Q" + b" y" * 9000, len(before), columns).splitlines()[1:3]
+                self.assertLess(width(line), columns)
+                self.assertEqual(at_column(line, width(caret) - 1), "Q")
+
+    def test_odd_names(self):
+        for name in ("-", "a b", "x: 4 NotRead at 0", "*"):
+            self.assertEqual(self.shown(b"one\ntwo", 5, name=name), f"{name}:2:2\ntwo\n ^\n")
+        self.assertEqual(self.shown(b"one", 0, name="a\x1b[2J\u009b.cif"), "a?[2J?.cif:1:1\none\n^\n")
+
+    def test_place_for_editors(self):
+        self.write("a.cif", "one\n\ttwo")
+        for line, wanted in (
+            ("cif: a.cif: 4 NotRead at 5", "a.cif:2:2: 4 NotRead\n"),
+            ("cif: a.cif: 6 Duplicate at 4 first 1", "a.cif:2:1: 6 Duplicate\n"),
+            ("cif: a.cif: 4 NotRead at 99", ""),
+            ("cif: a.cif: 19 AlgCycle alg b", ""),
+            ("cif: b.cif: 4 NotRead at 1", ""),
+            ("cif: cannot read a.cif", ""),
+        ):
+            self.assertEqual(explained("place", line, "check", "a.cif", folder=self.work), (0, wanted))
+
+    def test_nothing_fails(self):
+        """Whatever the line and the words are, there is no fault and the status is 0."""
+        self.addCleanup(os.chdir, os.getcwd())
+        os.chdir(self.work)
+        self.write("a.cif", "\0\xff if if end ] ) } : ; ..")
+        self.write("r.csv", '"a,b\n\n"",,\r\n')
+        lines = [f"cif: {file}: {row}{number} Name{field}" for file in ("a.cif", "r.csv") for row in ("", "row 3: ") for number in range(0, 60)
+                 for field in ("", " at 3", " at 99999999999999999999", " statement 7 ", " row 9 column 9", " variable x value y")]
+        lines += ["", "cif: ", "cif: a.cif: ", "cif: a.cif: 4", "\udcff"]
+        for line in lines:
+            for words in (["check", "a.cif"], ["replay", "a.cif", "r.csv"]):
+                told = explain.told_by(line, words)
+                if told and told.number in explain.RULES:
+                    explain.rule_of(told)
+                    text = (self.work / told.file).read_bytes()
+                    for call in (explain.places_of, explain.sentence_of):
+                        call(told, text, words)
+        for words in ([], ["check"], ["check", "none"]):
+            self.assertEqual(explained("shown", "cif: a.cif: 4 NotRead at 3", *words, folder=self.work), (0, ""))
+
+
+def width(line):
+    """The columns of a line on a terminal."""
+    column = 0
+    for it in line:
+        column += 8 - column % 8 if it == "\t" else explain.shown_character(it)[1]
+    return column
+
+
+def at_column(line, column):
+    return next((it for at, it in enumerate(line) if width(line[:at]) == column), "")
+
+
+class Replays(Shown):
+    """What is shown of programs and rows."""
+
+    def setUp(self):
+        super().setUp()
+        self.write("a.st", "PROGRAM p\nVAR_INPUT go: BOOL; level: LINT (-1 .. 3); END_VAR\nVAR y: LINT; END_VAR\n"
+                   "IF go THEN\n  y := level;\nELSIF level > 1 THEN y := 1; END_IF;\nWHILE go DO y := 2; END_WHILE;\nEND_PROGRAM\n")
+        self.write("r.csv", "scan,level,go\n\n1,2,TRUE\n2,\"4\",x\n3,1\n")
+
+    def shown(self, line):
+        return explained("shown", f"cif: {line}", "replay", "a.st", "r.csv", folder=self.work)[1].splitlines()
+
+    def test_statements_and_variables(self):
+        for number, place in enumerate(("4:1", "5:3", "6:22", "7:1", "7:13")):
+            self.assertEqual(self.shown(f"a.st: 37 StMismatch statement {number}")[0], f"a.st:{place}")
+        self.assertEqual(self.shown("a.st: 39 StInitRange variable y")[:3], ["a.st:3:5", "VAR y: LINT; END_VAR", "    ^"])
+        found = self.shown("a.st: row 2: 42 SubrangeLeft variable y value 4")
+        self.assertEqual([it for it in found if re.match(r"\w\.\w+:", it)], ["a.st:3:5", "r.csv:4:1"])
+
+    def test_rows(self):
+        self.assertEqual(self.shown("r.csv: 44 Header column 3")[-1], "The header has these fields, in any order: scan,go,level")
+        cell = self.shown("r.csv: 45 Cell row 2 column 2")
+        self.assertEqual(cell[:3], ["r.csv:4:3", '2,"4",x', "  ^"])
+        self.assertEqual(cell[-1], "Under `level` a whole number from -1 to 3 is required, without blanks and zeros in front.")
+        self.assertEqual(self.shown("r.csv: 45 Cell row 2 column 3")[-1], "Under `go` one of TRUE, FALSE, true, false, 1 and 0 is required.")
+        self.assertEqual(self.shown("r.csv: 45 Cell row 2 column 1")[-1], "Under `scan` the number of the row is required: 2.")
+        self.assertEqual(self.shown("r.csv: 46 RowLength row 3")[-1], "The header has 3 fields, and this row 2.")
+
+    def test_files(self):
+        self.assertEqual(self.shown("cannot read none"), [])
+        (self.work / "a.st").unlink()
+        self.assertEqual(self.shown("cannot read a.st"), ["There is no such file."])
+        (self.work / "a.st").mkdir()
+        self.assertEqual(self.shown("cannot read a.st"), ["It is a folder."])
+
+
+if __name__ == "__main__":
+    if not PROGRAM:
+        print("there is no program: nothing of the pages and of the wrong sources is run")
+    unittest.main()
