@@ -89,6 +89,21 @@ class Shown(unittest.TestCase):
         (self.work / name).write_bytes(text.encode())
 
 
+    def transcript(self, heading, block):
+        """Runs the command of a block, which has its answer; the words of the command."""
+        command, answer = block.split("\n", 1)
+        self.assertTrue(command.startswith("$ cif "), block)
+        command, _, output = command.removeprefix("$ cif ").partition(" > ")
+        words = shlex.split(command)
+        status, written, told = run([PROGRAM, *words], self.work, self.work / output if output else None)
+        self.assertEqual(written + told, answer)
+        if heading[0].isdigit():
+            number, name = heading.split()
+            self.assertEqual(status, CODES[int(number)])
+            self.assertRegex(told, rf"^cif: [^ ]+: (row 1: )?{number} {name}\b")
+        return words
+
+
 class Page(Shown):
     """docs/REFUSALS.md."""
 
@@ -131,24 +146,73 @@ class Page(Shown):
                 has_run = True
         return has_run and is_mended
 
-    def transcript(self, heading, block):
-        """Runs the command of a block, which has its answer; the words of the command."""
-        command, answer = block.split("\n", 1)
-        self.assertTrue(command.startswith("$ cif "), block)
-        command, _, output = command.removeprefix("$ cif ").partition(" > ")
-        words = shlex.split(command)
-        status, written, told = run([PROGRAM, *words], self.work, output)
-        self.assertEqual(written + told, answer)
-        if heading[0].isdigit():
-            number, name = heading.split()
-            self.assertEqual(status, CODES[int(number)])
-            self.assertRegex(told, rf"^cif: [^ ]+: (row 1: )?{number} {name}\b")
-        return words
-
 
 def explain_number(number):
     status, written = explained("number", str(number))
     return written if status == 0 else None
+
+
+class Language(Shown):
+    """docs/LANGUAGE.md."""
+
+    def setUp(self):
+        super().setUp()
+        self.page = (TOP / "docs/LANGUAGE.md").read_text()
+
+    def tables(self):
+        """The rows of the tables of constructs, each with the source round its examples."""
+        part = dict(sections_of(self.page))["What is read, and what is refused"]
+        for text in part.split("\n### ")[1:]:
+            blocks = blocks_of(text)
+            for row in re.findall(r"^\| (.*) \|$", text, re.M)[1:]:
+                construct, example, answer, *instead = [it.strip() for it in re.split(r" \|(?: |$)", row)]
+                yield blocks[0][1] if blocks else "...", construct, re.fullmatch("`(.*)`", example)[1], answer, "".join(instead)
+
+    @unittest.skipUnless(PROGRAM, "there is no program")
+    def test_constructs(self):
+        answers = set()
+        for frame, construct, example, answer, instead in self.tables():
+            with self.subTest(construct):
+                self.assertEqual(self.answer(frame.replace("...", example)), answer)
+                answers.add(answer)
+                piece = re.match("`([^`]*)`", instead)
+                if piece:
+                    self.assertEqual(self.answer(frame.replace("...", piece[1])), "read")
+        self.assertLessEqual({"read", "1", "4", "7", "9", "12", "15", "20", "22"}, answers)
+
+    def answer(self, source):
+        self.write("a.cif", source)
+        status, _, told = run([PROGRAM, "check", "a.cif"], self.work)
+        return "read" if status == 0 else told.split()[2]
+
+    @unittest.skipUnless(PROGRAM, "there is no program")
+    def test_requirement(self):
+        text = self.page.split("\n### A requirement that blocks a sensor\n")[1]
+        tables = 0
+        for label, block in blocks_of(text):
+            named = re.fullmatch(r"`([\w.]+)`:", label)
+            if named:
+                self.write(named[1], block)
+            else:
+                self.transcript("an example", block)
+                tables += block.count("scan,")
+        self.assertEqual(tables, 2)
+
+
+class Links(unittest.TestCase):
+    """The links of the pages lead to files and headings."""
+
+    def test_links(self):
+        for name in ("LANGUAGE.md", "REFUSALS.md", "CONSTRUCTS.md"):
+            page = (TOP / "docs" / name).read_text()
+            for file, _, part in re.findall(r"\]\(([\w./-]*)(#([\w-]+))?\)", page):
+                aim = TOP / "docs" / (file or name)
+                self.assertTrue(aim.exists(), file)
+                self.assertTrue(not part or part in anchors_of(aim.read_text()), part)
+
+
+def anchors_of(page):
+    return {re.sub(r"[^\w -]", "", it.lower()).replace(" ", "-") for it in re.findall(r"^#+ (.*)$", page, re.M)}
 
 
 class WrongSources(Shown):
