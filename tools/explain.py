@@ -64,8 +64,8 @@ RULES = {
 FIELDS = {"at", "first", "count", "alg", "nodes", "depth", "event", "statement", "variable", "value", "row", "column"}
 
 
-class Told:
-    """What a line says: the file, the refusal, and its fields."""
+class Refusal:
+    """The refusal in a line: its file, number and fields."""
 
     def __init__(self, file, row, number, name, fields):
         self.file, self.row, self.number, self.name, self.fields = file, row, number, name, fields
@@ -75,8 +75,8 @@ class Told:
         return int(found) if re.fullmatch("[0-9]{1,18}", found) else None
 
 
-def told_by(line, words):
-    """What a refusing line says of one of the files of a command, or none."""
+def refusal_in(line, words):
+    """The refusal that a line has for one of the files of a command, or none."""
     for file in words[1:3]:
         start = f"cif: {file}: "
         if not line.startswith(start):
@@ -86,7 +86,7 @@ def told_by(line, words):
             parts = found[4].split()
             fields = dict(zip(parts[::2], parts[1::2]))
             if set(fields) <= FIELDS:
-                return Told(file, int(found[1]) if found[1] else None, int(found[2]), found[3], fields)
+                return Refusal(file, int(found[1]) if found[1] else None, int(found[2]), found[3], fields)
     return None
 
 
@@ -182,55 +182,55 @@ def lines_of_place(file, text, at):
     return [head, before + "".join(it[1] for it in shown) + after, " " * len(before) + blanks + "^"]
 
 
-# ---- what a line says
+# ---- what is shown of a line
 
 
-def places_of(told, text, words):
+def places_of(refusal, text, words):
     """The places to show: the file, its bytes, and a byte of them."""
-    at = told.count("at")
+    at = refusal.count("at")
     if at is not None:
-        first = told.count("first")
-        return [(told.file, text, it) for it in (at, first) if it is not None]
-    if told.number in {19, 28}:
+        first = refusal.count("first")
+        return [(refusal.file, text, it) for it in (at, first) if it is not None]
+    if refusal.number in {19, 28}:
         import explain_source
 
-        keywords = {"alg"} if told.number == 19 else {"event"}
-        return [(told.file, text, it) for it in explain_source.declared(text, keywords, told.fields.get("alg") or told.fields.get("event", ""))]
-    if told.number < 31 or len(words) < 3:
+        keywords = {"alg"} if refusal.number == 19 else {"event"}
+        return [(refusal.file, text, it) for it in explain_source.declared(text, keywords, refusal.fields.get("alg") or refusal.fields.get("event", ""))]
+    if refusal.number < 31 or len(words) < 3:
         return []
     import explain_replay as replay
 
     places = []
-    if told.count("statement") is not None:
-        places = [replay.statement_place(text, told.count("statement"))]
-    elif "variable" in told.fields:
-        places = replay.variable_places(text, told.fields["variable"])
-    elif told.number in {44, 45, 46}:
-        places = [replay.row_place(text, told.count("row") or 0, told.count("column"))]
-    found = [(told.file, text, it) for it in places if it is not None]
-    if told.row:
+    if refusal.count("statement") is not None:
+        places = [replay.statement_place(text, refusal.count("statement"))]
+    elif "variable" in refusal.fields:
+        places = replay.variable_places(text, refusal.fields["variable"])
+    elif refusal.number in {44, 45, 46}:
+        places = [replay.row_place(text, refusal.count("row") or 0, refusal.count("column"))]
+    found = [(refusal.file, text, it) for it in places if it is not None]
+    if refusal.row:
         rows = content(words[2])
-        found.append((words[2], rows, replay.row_place(rows, told.row, None)))
+        found.append((words[2], rows, replay.row_place(rows, refusal.row, None)))
     return [it for it in found if it[2] is not None]
 
 
-def sentence_of(told, text, words):
+def sentence_of(refusal, text, words):
     """What the mistake may be, and what to do."""
-    if told.number < 31:
+    if refusal.number < 31:
         import explain_source
 
-        return explain_source.sentence(told.number, text, told.count("at"), told.count("count"))
+        return explain_source.sentence(refusal.number, text, refusal.count("at"), refusal.count("count"))
     import explain_replay as replay
 
-    if told.number in {31, 34} and told.count("at") is not None:
-        return replay.text_sentence(told.number, text, told.count("at"))
-    if told.number == 44:
+    if refusal.number in {31, 34} and refusal.count("at") is not None:
+        return replay.text_sentence(refusal.number, text, refusal.count("at"))
+    if refusal.number == 44:
         return replay.header_sentence(content(words[1]))
-    if told.number == 45:
-        return replay.cell_sentence(content(words[1]), text, told.count("row"), told.count("column"))
-    if told.number == 46:
-        return replay.length_sentence(text, told.count("row"))
-    return replay.ADVICE.get(told.number)
+    if refusal.number == 45:
+        return replay.cell_sentence(content(words[1]), text, refusal.count("row"), refusal.count("column"))
+    if refusal.number == 46:
+        return replay.length_sentence(text, refusal.count("row"))
+    return replay.ADVICE.get(refusal.number)
 
 
 def status_sentence(line, words):
@@ -250,9 +250,9 @@ def status_sentence(line, words):
     return None
 
 
-def rule_of(told):
-    count = told.fields.get("count", "")
-    return RULES.get(told.number, "").replace("`count`", count if count.isdigit() else "`count`")
+def rule_of(refusal):
+    count = refusal.fields.get("count", "")
+    return RULES.get(refusal.number, "").replace("`count`", count if count.isdigit() else "`count`")
 
 
 def attempt(call, *given):
@@ -270,30 +270,30 @@ def write(lines):
 
 
 def show(line, words):
-    told = told_by(line, words)
-    if not told or told.number not in RULES:
+    refusal = refusal_in(line, words)
+    if not refusal or refusal.number not in RULES:
         found = attempt(status_sentence, line, words)
         write([found] if found else [])
         return
-    text = attempt(content, told.file)
-    if text is not None and (told.count("at") or 0) > len(text):
+    text = attempt(content, refusal.file)
+    if text is not None and (refusal.count("at") or 0) > len(text):
         text = None
     lines = []
     if text is not None:
-        for place in attempt(places_of, told, text, words) or []:
+        for place in attempt(places_of, refusal, text, words) or []:
             lines += attempt(lines_of_place, *place) or []
-    lines.append(rule_of(told))
-    found = attempt(sentence_of, told, text, words) if text is not None else None
+    lines.append(rule_of(refusal))
+    found = attempt(sentence_of, refusal, text, words) if text is not None else None
     write(lines + ([found] if found else []))
 
 
 def write_place(line, words):
-    told = told_by(line, words)
-    at = told.count("at") if told else None
-    text = content(told.file) if at is not None else None
+    refusal = refusal_in(line, words)
+    at = refusal.count("at") if refusal else None
+    text = content(refusal.file) if at is not None else None
     if text is not None and at <= len(text):
         start = text.rfind(b"\n", 0, at) + 1
-        write([f"{clean(told.file)}:{text.count(10, 0, start) + 1}:{at - start + 1}: {told.number} {told.name}"])
+        write([f"{clean(refusal.file)}:{text.count(10, 0, start) + 1}:{at - start + 1}: {refusal.number} {refusal.name}"])
 
 
 def write_number(word):

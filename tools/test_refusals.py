@@ -40,11 +40,11 @@ def run(words, folder, output=None):
     """The status of a command, its standard output and standard error."""
     with open(output, "wb") if output else tempfile.TemporaryFile() as written:
         ran = subprocess.run([str(it) for it in words], cwd=folder, stdout=written, stderr=subprocess.PIPE, preexec_fn=with_stack, timeout=120)
-        told = ran.stderr.decode(errors="surrogateescape")
+        error = ran.stderr.decode(errors="surrogateescape")
         if output:
-            return ran.returncode, "", told
+            return ran.returncode, "", error
         written.seek(0)
-        return ran.returncode, written.read().decode(), told
+        return ran.returncode, written.read().decode(), error
 
 
 def explained(verb, *words, folder=TOP):
@@ -95,12 +95,12 @@ class Shown(unittest.TestCase):
         self.assertTrue(command.startswith("$ cif "), block)
         command, _, output = command.removeprefix("$ cif ").partition(" > ")
         words = shlex.split(command)
-        status, written, told = run([PROGRAM, *words], self.work, self.work / output if output else None)
-        self.assertEqual(written + told, answer)
+        status, written, error = run([PROGRAM, *words], self.work, self.work / output if output else None)
+        self.assertEqual(written + error, answer)
         if heading[0].isdigit():
             number, name = heading.split()
             self.assertEqual(status, CODES[int(number)])
-            self.assertRegex(told, rf"^cif: [^ ]+: (row 1: )?{number} {name}\b")
+            self.assertRegex(error, rf"^cif: [^ ]+: (row 1: )?{number} {name}\b")
         return words
 
 
@@ -182,8 +182,8 @@ class Language(Shown):
 
     def answer(self, source):
         self.write("a.cif", source)
-        status, _, told = run([PROGRAM, "check", "a.cif"], self.work)
-        return "read" if status == 0 else told.split()[2]
+        status, _, error = run([PROGRAM, "check", "a.cif"], self.work)
+        return "read" if status == 0 else error.split()[2]
 
     @unittest.skipUnless(PROGRAM, "there is no program")
     def test_requirement(self):
@@ -235,11 +235,11 @@ class WrongSources(Shown):
         for title, source, sentence in self.sources:
             with self.subTest(title):
                 self.write("a.cif", re.sub(r"<U\+([0-9A-F]{4})>", lambda it: chr(int(it[1], 16)), source))
-                status, _, told = run([PROGRAM, "check", "a.cif"], self.work)
+                status, _, error = run([PROGRAM, "check", "a.cif"], self.work)
                 self.assertEqual(status, 7)
-                met.add(int(told.split()[2]))
-                line, words = told.rstrip("\n"), ["check", "a.cif"]
-                found = explain.sentence_of(explain.told_by(line, words), (self.work / "a.cif").read_bytes(), words)
+                met.add(int(error.split()[2]))
+                line, words = error.rstrip("\n"), ["check", "a.cif"]
+                found = explain.sentence_of(explain.refusal_in(line, words), (self.work / "a.cif").read_bytes(), words)
                 self.assertEqual(found or "-", sentence)
         self.assertEqual(explained("shown", line, *words, folder=self.work)[1].splitlines()[-1], sentence)
         # (too many objects and nodes are no mistakes of a small source)
@@ -311,12 +311,12 @@ class Places(Shown):
         lines += ["", "cif: ", "cif: a.cif: ", "cif: a.cif: 4", "\udcff"]
         for line in lines:
             for words in (["check", "a.cif"], ["replay", "a.cif", "r.csv"]):
-                told = explain.told_by(line, words)
-                if told and told.number in explain.RULES:
-                    explain.rule_of(told)
-                    text = (self.work / told.file).read_bytes()
+                error = explain.refusal_in(line, words)
+                if error and error.number in explain.RULES:
+                    explain.rule_of(error)
+                    text = (self.work / error.file).read_bytes()
                     for call in (explain.places_of, explain.sentence_of):
-                        call(told, text, words)
+                        call(error, text, words)
         for words in ([], ["check"], ["check", "none"]):
             self.assertEqual(explained("shown", "cif: a.cif: 4 NotRead at 3", *words, folder=self.work), (0, ""))
 
