@@ -97,7 +97,7 @@ ADVICE = {
     13: "Leave one assignment: all right sides read the values before the step.",
     14: "Add the event to `alphabet`, or leave `alphabet` out.",
     15: "Declare a second event: one for each role.",
-    17: "Make fewer instances, or shorter alphabets of edges: an instance counts as its whole definition.",
+    17: "Make fewer instances, locations or edges: an instance counts as its whole definition.",
     18: "Change the value or the range.",
     19: "Define one of them without the others.",
     20: "Give the divisor a range without 0, such as `int[1..9]`, or write `max(x, 1)`.",
@@ -246,6 +246,12 @@ def at_end_of_text(place):
     return f"The text ends inside `{inner.name}`. Is {missing} missing?"
 
 
+def at_repeated_word(place):
+    if place.word not in {"", "end"} and place.word == place.last and not place.is_glued and re.match(r"[\w$]", place.word):
+        return f"`{place.word}` is written twice."
+    return None
+
+
 def at_reserved_name(place):
     """A reserved word in the place of a name."""
     if place.word not in RESERVED or (place.is_first_on_line and place.last not in {",", "."}):
@@ -324,6 +330,10 @@ def at_start_in_location(place):
         return NO_INVARIANT
     if place.word in DECLARATIONS:
         return "The declarations of an automaton come before its first location."
+    if is_name(place.word) and place.after[:1] == [":"]:
+        return f"Is `location` missing before `{place.word}`?"
+    if is_name(place.word) and place.word.lower() not in RESERVED:
+        return "What is in a location begins with `edge`, `initial`, `marked` or `equation`."
     return None
 
 
@@ -334,6 +344,12 @@ def at_start_of_declaration(place):
         if place.in_automaton():
             return f"An automaton has one `{place.word}`. Name all events in it."
         return f"`{place.word}` is part of an automaton."
+    if place.in_automaton() and is_name(place.word) and place.after[:1] == [":"] and place.after[1:2] and place.after[1] in IN_LOCATIONS:
+        return f"Is `location` missing before `{place.word}`?"
+    if place.in_automaton() and is_name(place.word) and place.after[:1] == [":"]:
+        return "An instance is part of the source or of a group, beside the automata."
+    if place.in_automaton() and is_name(place.word) and place.word.lower() not in RESERVED:
+        return f"No declaration begins with `{place.word}`."
     if place.word == "initial":
         return "`initial;` is part of a location. First values are given where variables are declared."
     return None
@@ -368,6 +384,8 @@ def at_head(place):
         return f"`{words[-1]}` is a reserved word. As a name it is written `${words[-1]}`."
     if place.word == ":=" and not place.is_in("edge") and is_name(words[0]):
         return "An assignment is part of an edge, after `do`."
+    if len(words) == 2 and is_name(words[0]) and words[1] == ":":
+        return f"After `{words[0]}:` the name of a definition is required. A component begins with `plant`, `automaton` or `group`."
     if len(words) == 1 and is_name(words[0]):
         return f"No declaration begins with `{words[0]}`. An instance is written `x: D();`."
     return None
@@ -412,7 +430,7 @@ def at_declaration(place):
         return f"Is `=` missing after `enum {words[1]}`?"
     if is_name(place.word) and is_name(place.last) and place.starts(*EVENTS, "enum", "alphabet", "monitor"):
         return f"Is `,` missing between `{place.last}` and `{place.word}`?"
-    if place.last == "initial" and place.word != ",":
+    if place.last == "initial" and place.word != "," and place.word not in STARTERS:
         return "`initial` has no predicate but `true`. First values are given where variables are declared."
     return None
 
@@ -430,10 +448,14 @@ def at_edge(place):
         return "Write `when` before the guard of an edge."
     if place.assigns() and place.word == "=":
         return "Write `:=` for an assignment."
+    if place.assigns() and not place.is_first_on_line and (is_name(place.word) or place.word.isdigit()):
+        return f"Write `:=` between `{place.last}` and its new value."
     if place.assigns() and place.word in {"+", "-", "*"}:
         return "Write an assignment as `x := x + 1`."
     uses = not (place.is_in("when") or place.is_in("do") or place.is_in("goto"))
-    if uses and is_name(place.word) and is_name(place.last):
+    if uses and is_name(place.last) and place.word in ORDERS | {"not", "and", "or", "true", "false"}:
+        return "Write `when` before the guard of an edge."
+    if uses and is_name(place.last) and (is_name(place.word) or place.word == ":"):
         return "After the events of an edge come `when`, `do` and `goto`. Several events have commas between them."
     if place.word == ":=" and place.is_in("when") and not place.is_in("do"):
         return "Write `=` for equality. `:=` is for assignments, after `do`."
@@ -519,8 +541,22 @@ def has_comparison(place):
     return bool(found) and not (found == "=" and defines)
 
 
+def at_list(place):
+    """Something else than a name in a list of names, or two operands side by side."""
+    lists = place.starts(*EVENTS, *VALUES, "enum", "alphabet", "monitor")
+    if lists and place.last == "," and place.depth == 0 and not is_name(place.word):
+        return "After this `,` a name is required."
+    begins = is_name(place.word) or place.word.isdigit() or place.word in {"true", "false", "not", "abs", "min", "max"}
+    in_value = place.is_in("when") or place.is_in("=") or place.is_in(":=") or place.starts("invariant", *KINDS)
+    if begins and in_value and ends_operand(place.last) and not place.is_first_on_line and not place.is_in("goto"):
+        return f"Is an operator missing between `{place.last}` and `{place.word}`?"
+    return None
+
+
 def at_gap(place):
     """A sign before which something is missing."""
+    if place.statement and place.depth == 0 and place.word in STARTERS and (ends_operand(place.last) or place.last in {"initial", "marked"}):
+        return f"Is `;` missing before `{place.word}`?"
     if place.word not in {";", ",", ")", "]", ":"} or not place.statement:
         return None
     if place.depth > 0 and place.word == ";" and ends_operand(place.last):
@@ -533,8 +569,8 @@ def at_gap(place):
 
 
 NOT_READ = (
-    at_end_of_text, at_reserved_name, at_edge_without_event, at_left_out, at_missing_sign, at_start, at_word, at_parameter, at_head,
-    at_declaration, at_edge, at_number, at_operator, at_gap,
+    at_end_of_text, at_repeated_word, at_reserved_name, at_edge_without_event, at_left_out, at_missing_sign, at_start, at_word, at_parameter, at_head,
+    at_declaration, at_edge, at_number, at_operator, at_list, at_gap,
 )
 
 
@@ -584,6 +620,8 @@ def bad_byte(place):
 
 def unknown(place):
     word = place.word
+    if place.last in EVENTS and place.after and is_name(place.after[0]) and word not in WORDS_OF_OTHERS:
+        return f"Is `,` missing between `{word}` and `{place.after[0]}`? The first of two names is a type."
     if word in WORDS_OF_OTHERS:
         return TYPES + f"Write `{WORDS_OF_OTHERS[word]}`."
     if word.lower() in RESERVED and word not in RESERVED:
@@ -618,6 +656,8 @@ def wrong_kind(place):
     in_uses = place.last == "," and place.starts("edge") and not place.is_in("when") and not place.is_in("do")
     if place.last in EVENT_USES or in_uses or ahead[:1] == ["needs"]:
         return "Here an event is required."
+    if place.last in EVENTS and place.after and is_name(place.after[0]):
+        return f"Is `,` missing between `{place.word}` and `{place.after[0]}`? The first of two names is a type."
     if place.last in VALUES | EVENTS:
         return "Here a type is required."
     return "A value is required: a constant, a variable, a location or a literal."
