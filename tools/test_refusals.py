@@ -3,7 +3,7 @@
 
     tools/test_refusals.py [PROGRAM]
 
-Without a word the program of this checkout is run, or the one without proofs.
+Without a word the program is run that the environment variable CIF_PROGRAM names, or that of this checkout, or the one without proofs.
 """
 import os
 import pathlib
@@ -18,8 +18,9 @@ import unittest
 TOP = pathlib.Path(__file__).resolve().parent.parent
 BUILT = [TOP / "crates/cif_cli/out" / it for it in ("cif_cli", "unproved/cif_cli")]
 EXPLAIN = TOP / "tools/explain.py"
-# (a word before the words of unittest)
-PROGRAM = pathlib.Path(sys.argv.pop(1)).resolve() if sys.argv[1:] and os.path.isfile(sys.argv[1]) else next(filter(pathlib.Path.exists, BUILT), None)
+# (a word before those of unittest, or the environment where all tests are run)
+GIVEN = sys.argv.pop(1) if sys.argv[1:] and os.path.isfile(sys.argv[1]) else os.environ.get("CIF_PROGRAM")
+PROGRAM = pathlib.Path(GIVEN).resolve() if GIVEN else next(filter(pathlib.Path.exists, BUILT), None)
 STACK = 64 << 20
 # The exit code of each refusal.
 CODES = {**dict.fromkeys(range(1, 25), 7), 25: 8, 28: 8, **dict.fromkeys(range(31, 40), 9)}
@@ -92,8 +93,8 @@ class Shown(unittest.TestCase):
     def transcript(self, heading, block):
         """Runs the command of a block, which has its answer; the words of the command."""
         command, answer = block.split("\n", 1)
-        self.assertTrue(command.startswith("$ cif "), block)
-        command, _, output = command.removeprefix("$ cif ").partition(" > ")
+        self.assertTrue(command.startswith("$ ./cif "), block)
+        command, _, output = command.removeprefix("$ ./cif ").partition(" > ")
         words = shlex.split(command)
         status, written, error = run([PROGRAM, *words], self.work, self.work / output if output else None)
         self.assertEqual(written + error, answer)
