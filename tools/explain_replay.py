@@ -3,9 +3,15 @@ import re
 
 TOKEN = re.compile(rb"[ \t\r\n]+|\(\*.*?\*\)|(?P<token>[A-Za-z_][A-Za-z0-9_]*|[0-9]+|:=|\.\.|<>|<=|>=|[;:(),+\-*/=<>&])", re.S)
 FIELD = re.compile(rb'"(?:[^"]|"")*"?[^,\r\n]*|[^,\r\n]*')
+# Up to here a text is cut into tokens for a sentence.
+LONG = 1 << 20
 MARK = b"\xef\xbb\xbf"
 BLOCKS = {"VAR", "VAR_INPUT", "VAR_OUTPUT"}
 LEFT_OUT = set("CASE OF FOR TO BY REPEAT UNTIL EXIT RETURN FUNCTION FUNCTION_BLOCK ARRAY STRUCT STRING REAL LREAL TIME TYPE DINT AT".split())
+OTHER_BLOCKS = {"VAR_IN_OUT", "VAR_GLOBAL", "VAR_TEMP", "VAR_EXTERNAL", "VAR_CONFIG", "VAR_ACCESS", "RETAIN"}
+STATEMENT_ENDS = {";", "THEN", "DO", "ELSE", "END_VAR", "CONSTANT"}
+ORDERS = {"=", "<>", "<", ">", "<=", ">="}
+OPERATORS = {"OR", "XOR", "AND", "MOD", "NOT", "IF", "ELSIF", "WHILE", "PROGRAM"}
 BYTES = {
     ord("{"): "Pragmas are left out.",
     ord("#"): "Numbers with a base or a type are left out. Write the decimal.",
@@ -180,25 +186,101 @@ def length_sentence(rows, row):
     return f"The header has {len(header)} fields, and this row {len(fields)}."
 
 
+class Point:
+    """What is before and after a byte of a program: tokens in capitals, the statement or declaration so far, and whether it is in a block."""
+
+    def __init__(self, text, at):
+        self.text, self.at = text, at
+        earlier = [it for it in tokens(text[:at])]
+        later = [it for it, _ in tokens(text[at : at + 400])]
+        self.spelled = later[0] if later else ""
+        self.word = self.spelled.upper()
+        self.last_spelled, last_at = earlier[-1] if earlier else ("", 0)
+        self.last = self.last_spelled.upper()
+        self.is_glued = bool(earlier) and last_at + len(self.last) == at
+        self.is_first_on_line = b"\n" in text[last_at:at]
+        self.last_line = text.count(10, 0, last_at) + 1
+        self.in_block, self.statement = False, []
+        for word in (it.upper() for it, _ in earlier):
+            self.in_block = (self.in_block or word in BLOCKS) and word != "END_VAR"
+            ends = word in STATEMENT_ENDS or word in BLOCKS
+            if ends:
+                self.statement = []
+            else:
+                self.statement.append(word)
+
+    def ends_operand(self):
+        return bool(re.match(r"[A-Z0-9_]+$|\)$", self.last)) and self.last not in OPERATORS
+
+
+def in_declaration(point):
+    if point.last in OTHER_BLOCKS or point.word in OTHER_BLOCKS:
+        return "Blocks are `VAR`, `VAR CONSTANT`, `VAR_INPUT` and `VAR_OUTPUT`."
+    if not point.in_block:
+        return None
+    if point.last == ":":
+        return "Types are `BOOL`, `LINT` and subranges such as `LINT (0 .. 9)`."
+    if point.word == "," and len(point.statement) == 1:
+        return "Each variable has a declaration of its own, such as `x: LINT; y: LINT;`."
+    if ":=" in point.statement and point.word in OPERATORS | {"+", "-", "*", "/", "("}:
+        return "A first value is a literal."
+    return None
+
+
+def in_statement(point):
+    if point.word == "=" and len(point.statement) == 1:
+        return "Write `:=` for an assignment."
+    if point.word == "(" and len(point.statement) == 1:
+        return "Calls of function blocks are left out."
+    if point.word == ";" and not point.statement:
+        return "Empty statements are left out. Remove the `;`."
+    if point.word == "(" and point.ends_operand():
+        return f"`{point.last_spelled}` is no function here. There are `ABS`, `MIN`, `MAX` and `SEL`."
+    if point.word == "*" and point.last == "*":
+        return "Powers are left out. Write a product."
+    if point.word in ORDERS and point.ends_operand() and ORDERS & set(point.statement):
+        return "A comparison has one operator. Write `a < b AND b < c`."
+    for first, then in (("IF", "THEN"), ("ELSIF", "THEN"), ("WHILE", "DO")):
+        if point.statement[:1] == [first] and point.ends_operand() and re.match("[A-Z]", point.word):
+            return f"Is `{then}` missing before `{point.spelled}`?"
+    return None
+
+
+def of_token(point):
+    if point.at >= len(point.text):
+        return "The text ends here. Is `END_PROGRAM` missing, or an `END_IF`, `END_WHILE` or `END_VAR`?"
+    if point.text[point.at : point.at + 2] == b"//" or point.word == "/" == point.last:
+        return "Comments are written `(* .. *)`."
+    if re.search("__|_$", point.word):
+        if point.is_glued and point.last.isdigit():
+            return "Numbers have no `_`."
+        return "A name has no two adjoining `_`, and none at its end."
+    if point.is_glued and point.last.isdigit() and point.word.startswith("_"):
+        return "Numbers have no `_`."
+    return None
+
+
+def of_word(point):
+    if point.word in LEFT_OUT:
+        return f"`{point.spelled}` is left out: there are BOOL, LINT and subranges of LINT, assignments, `IF` and `WHILE`."
+    if point.is_first_on_line and point.statement and (point.ends_operand() or point.last in {"END_IF", "END_WHILE"}):
+        return f"Is `;` missing at the end of line {point.last_line}?"
+    return None
+
+
+def bad_byte(text, at):
+    if text[at : at + 3] == MARK:
+        return "The file begins with a byte order mark. Save it as UTF-8 without one."
+    return BYTES.get(text[at], "Outside comments ASCII alone is read.")
+
+
 def text_sentence(number, text, at):
     """The sentence for 31 and 34."""
-    byte = text[at] if at < len(text) else None
     if number == 31:
-        if text[at : at + 3] == MARK:
-            return "The file begins with a byte order mark. Save it as UTF-8 without one."
-        return BYTES.get(byte, "Outside comments ASCII alone is read.") if byte is not None else None
-    match = TOKEN.match(text, at) if byte is not None else None
-    word = match.group().decode() if match and match.lastgroup else ""
-    if byte is None:
-        return "The text ends here. Is `END_PROGRAM` missing, or an `END_IF`, `END_WHILE` or `END_VAR`?"
-    if word.upper() in LEFT_OUT:
-        return f"`{word}` is left out: there are BOOL, LINT and subranges of LINT, assignments, `IF` and `WHILE`."
-    if word == "/" and text[at - 1 : at] == b"/":
-        return "Comments are written `(* .. *)`."
-    if word == "=":
-        return "Write `:=` for an assignment."
-    line = text.rfind(b"\n", 0, at)
-    if line >= 0 and not text[line + 1 : at].strip() and not text[:at].rstrip().endswith((b";", b"THEN", b"DO", b"ELSE")):
-        last_line = text.count(10, 0, len(text[:at].rstrip())) + 1
-        return f"Is `;` missing at the end of line {last_line}?"
+        return bad_byte(text, at) if at < len(text) else None
+    point = Point(text, at) if at < LONG else None
+    for rule in (of_token, in_declaration, in_statement, of_word) if point else ():
+        found = rule(point)
+        if found:
+            return found
     return None

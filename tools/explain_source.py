@@ -17,6 +17,8 @@ VALUES = {"const", "alg", "input", "disc"}
 DECLARATIONS = EVENTS | VALUES | {"type", "enum", "alphabet", "monitor"}
 IN_LOCATIONS = {"edge", "initial", "marked", "equation"}
 STARTERS = DECLARATIONS | IN_LOCATIONS | KINDS | {"group", "location", "invariant", "end"}
+# Up to here a text is cut into tokens for a sentence.
+LONG = 1 << 20
 ORDERS = {"=", "!=", "<", "<=", ">", ">="}
 TYPES = "Types are `bool`, `int`, `int[0..9]` and enumerations. "
 INPUT = " An input can report that a timer has run out."
@@ -700,13 +702,15 @@ def sentence(number, text, at, count=None):
     """The sentence for a refusal of a text at a byte, or none."""
     if number == 16:
         return equations(None, count)
-    if at is None or number not in BY_PLACE:
+    if at is None or at > LONG or number not in BY_PLACE:
         return ADVICE.get(number)
     return BY_PLACE[number](Place(text, at))
 
 
 def declared(text, keywords, path):
     """The place where the last name of a path is declared by one of the words, where there is one such place alone."""
+    if len(text) > LONG:
+        return []
     name, found, is_declared, depth = path.split(".")[-1], [], False, 0
     earlier = tokens_of(text, 0, len(text))
     for (word, at), (after, _) in zip(earlier, earlier[1:]):

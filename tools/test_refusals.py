@@ -362,6 +362,33 @@ class Replays(Shown):
         self.assertEqual(self.shown("r.csv: 45 Cell row 2 column 1")[-1], "Under `scan` the number of the row is required: 2.")
         self.assertEqual(self.shown("r.csv: 46 RowLength row 3")[-1], "The header has 3 fields, and this row 2.")
 
+    @unittest.skipUnless(PROGRAM, "there is no program")
+    def test_programs(self):
+        """Mistakes of one who writes programs for other compilers."""
+        declared = "PROGRAM p\nVAR x: LINT; END_VAR\n"
+        for program, sentence in (
+            ("PROGRAM p\nVAR x: INT; END_VAR\nEND_PROGRAM", "Types are `BOOL`, `LINT` and subranges such as `LINT (0 .. 9)`."),
+            ("PROGRAM p\nVAR x, y: LINT; END_VAR\nEND_PROGRAM", "Each variable has a declaration of its own, such as `x: LINT; y: LINT;`."),
+            ("PROGRAM p\nVAR RETAIN x: LINT; END_VAR\nEND_PROGRAM", "Blocks are `VAR`, `VAR CONSTANT`, `VAR_INPUT` and `VAR_OUTPUT`."),
+            ("PROGRAM p\nVAR_IN_OUT x: LINT; END_VAR\nEND_PROGRAM", "Blocks are `VAR`, `VAR CONSTANT`, `VAR_INPUT` and `VAR_OUTPUT`."),
+            ("PROGRAM p\nVAR x: LINT := 1 + 2; END_VAR\nEND_PROGRAM", "A first value is a literal."),
+            ("PROGRAM p\nVAR x: LINT := 16#FF; END_VAR\nEND_PROGRAM", "Numbers with a base or a type are left out. Write the decimal."),
+            ("PROGRAM p\nVAR x: LINT := 1_000; END_VAR\nEND_PROGRAM", "Numbers have no `_`."),
+            (declared + "x = 3;\nEND_PROGRAM", "Write `:=` for an assignment."),
+            (declared + "x := 3\nEND_PROGRAM", "Is `;` missing at the end of line 3?"),
+            (declared + "x := 3;;\nEND_PROGRAM", "Empty statements are left out. Remove the `;`."),
+            (declared + "// three\nx := 3;\nEND_PROGRAM", "Comments are written `(* .. *)`."),
+            (declared + "x := SQRT(x);\nEND_PROGRAM", "`SQRT` is no function here. There are `ABS`, `MIN`, `MAX` and `SEL`."),
+            (declared + "IF x > 3 x := 2; END_IF;\nEND_PROGRAM", "Is `THEN` missing before `x`?"),
+            (declared + "EXIT;\nEND_PROGRAM", "`EXIT` is left out: there are BOOL, LINT and subranges of LINT, assignments, `IF` and `WHILE`."),
+            (declared + "x := 3;", "The text ends here. Is `END_PROGRAM` missing, or an `END_IF`, `END_WHILE` or `END_VAR`?"),
+        ):
+            self.write("a.st", program)
+            status, _, error = run([PROGRAM, "replay", "a.st", "r.csv"], self.work)
+            words = ["replay", "a.st", "r.csv"]
+            self.assertEqual(status, 9)
+            self.assertEqual(explain.sentence_of(explain.refusal_in(error.rstrip("\n"), words), program.encode(), words), sentence)
+
     def test_files(self):
         self.assertEqual(self.shown("cannot read none"), [])
         (self.work / "a.st").unlink()
