@@ -86,6 +86,9 @@ WORDS_OF_OTHERS = {
     "boolean": "bool", "Boolean": "bool", "Bool": "bool", "BOOL": "bool",
     "integer": "int", "Integer": "int", "Int": "int", "INT": "int", "uint": "int", "LINT": "int",
 }
+LOOPS = {"while", "for", "repeat", "loop"}
+JOINS = {"and", "or", "=>", "<=>"}
+CONDITIONS = {"when", "if", "elif"}
 EVENT_USES = {"edge", "alphabet", "monitor", "needs", "disables", "{"}
 
 # What to do about a refusal whose place says no more.
@@ -256,7 +259,7 @@ def at_repeated_word(place):
 
 def at_reserved_name(place):
     """A reserved word in the place of a name."""
-    if place.word not in RESERVED or (place.is_first_on_line and place.last not in {",", "."}):
+    if place.word not in RESERVED or (place.word in EVENTS and place.starts(*EVENTS)) or (place.is_first_on_line and place.last not in {",", "."}):
         return None
     in_list = place.last == "," and place.starts(*EVENTS, *VALUES, "enum") and not place.is_in("(") and not place.is_in("[")
     is_typed = place.starts(*VALUES) and len(place.statement) > 1 and place.last not in {"[", "..", "=", ","}
@@ -271,6 +274,8 @@ def at_reserved_name(place):
 
 
 def at_left_out(place):
+    if place.word == "in" and not place.starts("disc"):
+        return "`in` is left out. Compare the value, such as `0 <= x and x <= 5`."
     return LEFT_OUT.get(place.word)
 
 
@@ -342,6 +347,8 @@ def at_start_in_location(place):
 def at_start_of_declaration(place):
     if place.word == "disc" and not place.in_automaton():
         return "A discrete variable is declared in an automaton."
+    if place.word in {"bool", "int"}:
+        return "A declaration begins with `const`, `alg` or `input`, or in an automaton with `disc`."
     if place.word in {"alphabet", "monitor"}:
         if place.in_automaton():
             return f"An automaton has one `{place.word}`. Name all events in it."
@@ -369,6 +376,16 @@ def at_start_of_part(place):
     return None
 
 
+def at_component(place):
+    """A sign in the place of the `:` of a component."""
+    head = " ".join(place.statement)
+    if place.word == "(":
+        return f"A component has no parameters. A definition is written `{' '.join(place.statement[:-1])} def {place.statement[-1]}():`."
+    if place.word == "{":
+        return f"`{head}` is followed by `:`, and ends with `end`."
+    return f"Is `:` missing after `{head}`?"
+
+
 def at_head(place):
     """The words up to the `:` of a location, a component, a definition or an instance."""
     words = place.statement
@@ -386,6 +403,8 @@ def at_head(place):
         return f"`{words[-1]}` is a reserved word. As a name it is written `${words[-1]}`."
     if place.word == ":=" and not place.is_in("edge") and is_name(words[0]):
         return "An assignment is part of an edge, after `do`."
+    if is_head(words) and words[0] in KINDS | {"group"} and "def" not in words:
+        return at_component(place)
     if len(words) == 2 and is_name(words[0]) and words[1] == ":":
         return f"After `{words[0]}:` the name of a definition is required. A component begins with `plant`, `automaton` or `group`."
     if len(words) == 1 and is_name(words[0]):
@@ -401,6 +420,8 @@ def at_parameter(place):
         return f"Flags of parameters are left out. Write the event without `{place.word}`."
     if place.last == "," and place.word in EVENTS | {"alg", "location"}:
         return "Parameters of different sorts have `;` between them."
+    if place.statement[-2:-1] == ["alg"] and place.word in {")", ";", ","}:
+        return "A type is missing before the name, such as `int`."
     if place.last not in {"(", ";"}:
         return None
     if place.word in {"bool", "int"}:
@@ -414,16 +435,24 @@ def at_declaration(place):
     words = place.statement
     if place.word in EVENTS and place.starts(*EVENTS) and len(words) == 1:
         return "Leave one word out: an event is declared by `event`, `controllable` or `uncontrollable`."
+    if place.word in EVENTS and place.starts(*EVENTS) and not place.is_first_on_line and "(" not in words:
+        return f"The class of an event is written first, such as `{place.word} e;`."
     if place.starts(*VALUES) and len(words) == 2 and is_name(words[1]) and place.word in {"=", ";", ","}:
         return "A type is missing before the name, such as `int`."
     if place.word == ":=" and place.starts(*VALUES, "equation", "type", "enum"):
         return "A first value or a definition is written with `=`. `:=` is for assignments on edges."
+    if place.starts("type") and place.last == "=" and place.word in {"{", "enum"}:
+        return f"An enumeration is declared by `enum {words[1]} = a, b;`."
     if place.starts("enum") and place.word in {"{", "("}:
         return "Write an enumeration without braces, such as `enum E = a, b;`."
     if "[" in words and words[words.index("[") - 1] == "int" and "]" not in words and place.word in {",", "]", ";"} and ".." not in words:
         return "Write a range as `int[0..5]`."
-    if place.last == "int" and place.word == "(":
+    if place.last == "int" and place.word == "(" or place.last == "." and words[-2:-1] == [".."]:
         return "Write a range as `int[0..5]`."
+    if place.word == "." and place.starts("equation") and len(words) == 2:
+        return "An equation defines a variable of its own component, named without a path."
+    if place.word == "=" and place.starts("alphabet", "monitor") and len(words) == 1:
+        return f"Write the events after `{words[0]}`, without `=`."
     if place.word == "=" and place.starts("input"):
         return "An input has no first value of its own: its values come from outside."
     if place.word == ":" and place.starts(*VALUES, *EVENTS):
@@ -440,6 +469,12 @@ def at_declaration(place):
 def at_edge(place):
     if not place.starts("edge"):
         return None
+    if place.word in {"when", "do", "goto"} and place.last == ",":
+        return f"Remove the `,` before `{place.word}`."
+    if place.word == "," and place.statement[-2:-1] == ["goto"]:
+        return "An edge has one target."
+    if place.word == ":=" and place.is_in("do") and is_name(place.last):
+        return "Updates have commas between them."
     if place.word in {"when", "do"} and (place.is_in("goto") or place.is_in("do") or place.is_in("when")):
         return ORDER_OF_EDGE
     if place.word == "." and place.statement[-2:-1] == ["goto"]:
@@ -483,6 +518,10 @@ def at_word(place):
         return f"Reserved words have small letters. Write `{place.last.lower()}`."
     if place.word == "then" and place.in_if():
         return "Write `:` after the condition of an `if`, in the place of `then`."
+    if place.word == "{" and place.in_if():
+        return "Write `:` after the condition of an `if`, and `end` at its end."
+    if place.last in LOOPS and place.is_in("do"):
+        return "Loops are left out. An event happens again, round by round, as long as it can."
     if place.word in {"elsif", "elseif"}:
         return "Write `elif`."
     if place.word == "endif":
@@ -507,8 +546,10 @@ def at_operator(place):
         return f"Write `{place.word}=`."
     if place.word == "!" and not ends_operand(place.last):
         return "`!` is behind an event that is sent. Write `not`."
-    if place.word == "<" and not ends_operand(place.last):
+    if place.word == "<" and not ends_operand(place.last) and place.after[1:2] == [">"]:
         return "Casts are left out."
+    if place.word == "if" and ends_operand(place.last) and not place.is_first_on_line:
+        return "Write `if p: a else b end` for one of two values."
     if place.word in {"[", "{"} and (ends_operand(place.last) or place.last in ORDERS | {":=", "when", "("}):
         return "Lists and their elements are left out. Use several variables."
     if place.word == "(" and is_name(place.last):
@@ -548,6 +589,8 @@ def at_list(place):
     lists = place.starts(*EVENTS, *VALUES, "enum", "alphabet", "monitor")
     if lists and place.last == "," and place.depth == 0 and not is_name(place.word):
         return "After this `,` a name is required."
+    if place.starts(*VALUES) and len(place.statement) > 2 and is_name(place.last) and is_name(place.word) and not place.is_in("="):
+        return f"Is `,` or `=` missing between `{place.last}` and `{place.word}`?"
     begins = is_name(place.word) or place.word.isdigit() or place.word in {"true", "false", "not", "abs", "min", "max"}
     in_value = place.is_in("when") or place.is_in("=") or place.is_in(":=") or place.starts("invariant", *KINDS)
     if begins and in_value and ends_operand(place.last) and not place.is_first_on_line and not place.is_in("goto"):
@@ -555,14 +598,33 @@ def at_list(place):
     return None
 
 
+def opened_by(place):
+    """The word before the innermost open parenthesis, where no comma is in it so far."""
+    depth = 0
+    for at in range(len(place.statement) - 1, 0, -1):
+        word = place.statement[at]
+        depth += (word == ")") - (word == "(")
+        if depth < 0:
+            return place.statement[at - 1]
+        if depth == 0 and word == ",":
+            return ""
+    return ""
+
+
 def at_gap(place):
     """A sign before which something is missing."""
+    if place.word in ORDERS and place.last in JOINS | CONDITIONS | {"not", "("}:
+        return f"An operand is missing before `{place.word}`."
     if place.statement and place.depth == 0 and place.word in STARTERS and (ends_operand(place.last) or place.last in {"initial", "marked"}):
         return f"Is `;` missing before `{place.word}`?"
-    if place.word not in {";", ",", ")", "]", ":"} or not place.statement:
+    if place.last in {"abs", "min", "max"}:
+        return f"`{place.last}` has its operands in parentheses."
+    if place.word not in {";", ",", ")", "]", ":", "goto", "when", "do"} or not place.statement:
         return None
     if place.depth > 0 and place.word == ";" and ends_operand(place.last):
         return "Is a closing parenthesis or bracket missing?"
+    if place.word == ")" and opened_by(place) in {"min", "max"}:
+        return f"`{opened_by(place)}` has two operands."
     if not ends_operand(place.last) and place.last not in {"]", "!"}:
         return f"Something is missing between `{place.last}` and `{place.word}`."
     if place.last == "]" and place.word == ";":
@@ -611,6 +673,8 @@ def bad_byte(place):
         if BEGINS_SVG.match(first):
             return "SVG declarations are left out. Keep them in a file of their own."
         return QUOTED.get(first, "Texts in quotes are left out. Use an enumeration for named states.")
+    if sign == "/" and place.last == "*" and place.is_glued:
+        return "There is no open comment here. Comments do not nest."
     if sign == "^" and ends_operand(place.last):
         return LEFT_OUT["pow"]
     if sign in SIGNS:
@@ -632,9 +696,15 @@ def unknown(place):
         return "`goto` leads to a location of the same automaton, and there is none of this name."
     if place.last == "equation":
         return "An equation defines an algebraic variable of its own component."
+    if word == ".":
+        return "A name with a dot in front is looked up in the whole source alone, and not in components."
+    if len(place.statement) > 2 and place.statement[1] == ":" and place.after[:1] == ["="]:
+        return "Arguments are written in the order of the parameters, without their names."
+    if place.statement[1:] == [":"] and place.after[:1] == ["("]:
+        return "There is no definition of this name, neither here nor further out."
     if place.after[:1] == ["."]:
         return "The first part of a name is looked up here and then outward, each other part in the component before it."
-    return "Names inside another component have its name in front, such as `a.x`."
+    return "Declare it, here or further out. What another component declares has its name in front, such as `a.x`."
 
 
 def duplicate(place):
@@ -678,9 +748,14 @@ def mismatch(place):
         return "An argument fits its parameter: the name of an event or a location, or a value of the kind of the parameter."
     if place.last in {"+", "-", "*", "div", "mod", "<", "<=", ">", ">="} and place.statement[-2:-1] != [] and ends_operand(place.statement[-2]):
         return f"`{place.last}` has integers on both sides. Write `if b: 1 else 0 end` for a boolean."
-    if place.last in {"and", "or", "=>", "<=>"} and is_single:
-        return f"`{place.last}` has booleans on both sides."
-    if place.last in {"when", "if", "elif"} and is_single:
+    if ahead[:1] == ["=>"] and place.last in {"when", "if", "elif", "and", "or", "=", "("}:
+        return "`=>` is an implication, with booleans on both sides. Write `>=` for greater or equal."
+    around = place.last if place.last in JOINS and is_single else ahead[0] if place.last in CONDITIONS and ahead[:1] and ahead[0] in JOINS else ""
+    if around:
+        return f"`{around}` has booleans on both sides."
+    if place.last == "not" and is_single:
+        return "`not` has a boolean after it. Compare the number, such as `x > 0`."
+    if place.last in CONDITIONS and is_single:
         return "A condition is boolean. Compare the number, such as `x > 0`."
     if place.last in {"=", "!="} and not (place.starts(*VALUES) and place.statement.count("=") == 1):
         return f"Both sides of `{place.last}` have one kind: boolean, integer, or the same enumeration."
