@@ -182,8 +182,8 @@ pub fn type_of(
     net_ty(alloc, leaf_of(types, turns, body, ty))
 }
 
-/// The value that a variable or an input has at first in a component which is written as this body: its first value, or else the value
-/// of its type that is nearest to 0. `turns` is as for `type_of` (CIF 3 language reference, "Discrete variables", "Input variables").
+/// The value that a variable or an input has at first in a component which is written as this body: its first value (CIF 3 language
+/// reference, "Discrete variables"), or else the value of its type that is nearest to 0. `turns` is as for `type_of`.
 pub fn first_value(
     types: &Types<'_>,
     turns: usize,
