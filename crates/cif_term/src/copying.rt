@@ -1,7 +1,6 @@
 //! Copies of expressions and updates: a derived `Clone` would say nothing of what a copy of a tree is.
 
 ghost use Rattle.std.specs.Prelude.{◌≡◌, IfOk};
-ghost use Rattle.cif_term.specs.declared.expressions.NetExpr.{roll-NetExpr};
 ghost use Rattle.cif_term.specs.View.{view, view_update, view_updates};
 
 use crate::expressions::{NetBranch, NetExpr, NetFactor, NetForm, NetTerm};
@@ -16,71 +15,82 @@ impl NetExpr {
         ensures same { IfOk result (λ x. x ≡ self.now) }
         ensures view { IfOk result (λ x. view x ≡ view self.now) }
     {
-        self.form.copy_at(self.at, alloc)
+        let (form, at) = (self.form.copy(alloc)?, self.at);
+        Boxed::new(alloc, NetExpr { form, at })
     }
 }
 
 impl NetForm {
-    /// A copy with its place, in a box: a `Result` with all forms of an expression in it is slow to check.
     #[cycle(copy)]
-    fn copy_at(&self, at: u32, alloc: Global) -> Result<Boxed<NetExpr>, Memory>
-        ensures { IfOk result (λ x. x ≡ roll-NetExpr (record { form = self.now; at = at })) }
+    fn copy(&self, alloc: Global) -> Result<NetForm, Memory>
+        ensures { IfOk result (λ x. x ≡ self.now) }
     {
         match self {
-            NetForm::Bool(b) => node(alloc, NetForm::Bool(*b), at),
-            NetForm::Int(n) => node(alloc, NetForm::Int(*n), at),
-            &NetForm::Loc { auto, place } => node(alloc, NetForm::Loc { auto, place }, at),
-            NetForm::Var(number) => node(alloc, NetForm::Var(*number), at),
-            NetForm::Input(number) => node(alloc, NetForm::Input(*number), at),
-            NetForm::Alg(number) => node(alloc, NetForm::Alg(*number), at),
-            NetForm::Received => node(alloc, NetForm::Received, at),
-            NetForm::Neg(e) => node(alloc, NetForm::Neg(e.get().copy(alloc)?), at),
-            NetForm::Plus(e) => node(alloc, NetForm::Plus(e.get().copy(alloc)?), at),
-            NetForm::Not(e) => node(alloc, NetForm::Not(e.get().copy(alloc)?), at),
-            NetForm::Abs(e) => node(alloc, NetForm::Abs(e.get().copy(alloc)?), at),
-            NetForm::Min(a, b) => {
-                let (a, b) = (a.get().copy(alloc)?, b.get().copy(alloc)?);
-                node(alloc, NetForm::Min(a, b), at)
-            }
-            NetForm::Max(a, b) => {
-                let (a, b) = (a.get().copy(alloc)?, b.get().copy(alloc)?);
-                node(alloc, NetForm::Max(a, b), at)
-            }
+            NetForm::Bool(b) => Ok(NetForm::Bool(*b)),
+            NetForm::Int(n) => Ok(NetForm::Int(*n)),
+            &NetForm::Loc { auto, place } => Ok(NetForm::Loc { auto, place }),
+            NetForm::Var(number) => Ok(NetForm::Var(*number)),
+            NetForm::Input(number) => Ok(NetForm::Input(*number)),
+            NetForm::Alg(number) => Ok(NetForm::Alg(*number)),
+            NetForm::Received => Ok(NetForm::Received),
+            NetForm::Neg(e) => e.get().copy(alloc).map(NetForm::Neg),
+            NetForm::Plus(e) => e.get().copy(alloc).map(NetForm::Plus),
+            NetForm::Not(e) => e.get().copy(alloc).map(NetForm::Not),
+            NetForm::Abs(e) => e.get().copy(alloc).map(NetForm::Abs),
+            NetForm::Min(a, b) => pair(NetForm::Min, a.get().copy(alloc), b.get().copy(alloc)),
+            NetForm::Max(a, b) => pair(NetForm::Max, a.get().copy(alloc), b.get().copy(alloc)),
             NetForm::Sum { first, rest } => {
-                let (first, rest) = (first.get().copy(alloc)?, copy_terms(rest, alloc)?);
-                node(alloc, NetForm::Sum { first, rest }, at)
+                let (first, rest) = both(first.get().copy(alloc), copy_terms(rest, alloc))?;
+                Ok(NetForm::Sum { first, rest })
             }
             NetForm::Product { first, rest } => {
-                let (first, rest) = (first.get().copy(alloc)?, copy_factors(rest, alloc)?);
-                node(alloc, NetForm::Product { first, rest }, at)
+                let (first, rest) = both(first.get().copy(alloc), copy_factors(rest, alloc))?;
+                Ok(NetForm::Product { first, rest })
             }
             NetForm::Compare { left, op, right } => {
-                let (left, right) = (left.get().copy(alloc)?, right.get().copy(alloc)?);
+                let (left, right) = both(left.get().copy(alloc), right.get().copy(alloc))?;
                 let op = *op;
-                node(alloc, NetForm::Compare { left, op, right }, at)
+                Ok(NetForm::Compare { left, op, right })
             }
-            NetForm::And(parts) => node(alloc, NetForm::And(copy_exprs(parts, alloc)?), at),
-            NetForm::Or(parts) => node(alloc, NetForm::Or(copy_exprs(parts, alloc)?), at),
-            NetForm::Implies(a, b) => {
-                let (a, b) = (a.get().copy(alloc)?, b.get().copy(alloc)?);
-                node(alloc, NetForm::Implies(a, b), at)
-            }
-            NetForm::Iff(a, b) => {
-                let (a, b) = (a.get().copy(alloc)?, b.get().copy(alloc)?);
-                node(alloc, NetForm::Iff(a, b), at)
-            }
+            NetForm::And(parts) => copy_exprs(parts, alloc).map(NetForm::And),
+            NetForm::Or(parts) => copy_exprs(parts, alloc).map(NetForm::Or),
+            NetForm::Implies(a, b) => pair(
+                NetForm::Implies,
+                a.get().copy(alloc),
+                b.get().copy(alloc),
+            ),
+            NetForm::Iff(a, b) => pair(NetForm::Iff, a.get().copy(alloc), b.get().copy(alloc)),
             NetForm::If { branches, other } => {
-                let (branches, other) = (copy_branches(branches, alloc)?, other.get().copy(alloc)?);
-                node(alloc, NetForm::If { branches, other }, at)
+                let (branches, other) = both(
+                    copy_branches(branches, alloc),
+                    other.get().copy(alloc),
+                )?;
+                Ok(NetForm::If { branches, other })
             }
         }
     }
 }
 
-fn node(alloc: Global, form: NetForm, at: u32) -> Result<Boxed<NetExpr>, Memory>
-    ensures { IfOk result (λ e. e ≡ roll-NetExpr (record { form = form; at = at })) }
+/// Two copies, where there was memory for both: a `?` for each is slow to check.
+fn both<T: Drop, U: Drop>(
+    first: Result<T, Memory>,
+    second: Result<U, Memory>,
+) -> Result<(T, U), Memory>
+    ensures { IfOk result (λ x. (first ≡ Ok x.0) × (second ≡ Ok x.1)) }
 {
-    Boxed::new(alloc, NetExpr { form, at })
+    Ok((first?, second?))
+}
+
+/// The form of two copies, where there was memory for both.
+fn pair<F: FnOnce(Boxed<NetExpr>, Boxed<NetExpr>) -> NetForm>(
+    form: F,
+    first: Result<Boxed<NetExpr>, Memory>,
+    second: Result<Boxed<NetExpr>, Memory>,
+) -> Result<NetForm, Memory>
+    requires { F.IsAlwaysCallable form }
+    ensures { IfOk result (λ x. (p q : _) × (first ≡ Ok p) × (second ≡ Ok q) × F.post form p q x) }
+{
+    Ok(form(first?, second?))
 }
 
 #[cycle(copy)]
@@ -130,7 +140,7 @@ fn copy_branches(all: &Items<NetBranch>, alloc: Global) -> Result<Items<NetBranc
 {
     let mut copies = Items::new(alloc);
     for branch in all.as_slice() {
-        let (cond, value) = (branch.cond.copy(alloc)?, branch.value.copy(alloc)?);
+        let (cond, value) = both(branch.cond.copy(alloc), branch.value.copy(alloc))?;
         copies.push(NetBranch {
             cond: cond.into_inner(),
             value: value.into_inner(),

@@ -13,58 +13,80 @@ impl StExpr {
         ensures same { IfOk result (λ x. x ≡ self.now) }
         ensures view { IfOk result (λ x. view_expr x ≡ view_expr self.now) }
     {
-        Ok(self.copied(alloc)?.into_inner())
+        self.copied(alloc)
     }
 
-    /// A copy in a box: a `Result` with all forms of an expression in it is slow to check.
     #[cycle(copy)]
-    fn copied(&self, alloc: Global) -> Result<Boxed<StExpr>, Memory>
+    fn copied(&self, alloc: Global) -> Result<StExpr, Memory>
         ensures { IfOk result (λ x. x ≡ self.now) }
     {
         match self {
-            StExpr::Bool(b) => Boxed::new(alloc, StExpr::Bool(*b)),
-            StExpr::Int(n) => Boxed::new(alloc, StExpr::Int(*n)),
-            StExpr::Named(name) => Boxed::new(alloc, StExpr::Named(name.copy(alloc)?)),
-            StExpr::Paren(e) => Boxed::new(alloc, StExpr::Paren(e.get().copied(alloc)?)),
-            StExpr::Neg(e) => Boxed::new(alloc, StExpr::Neg(e.get().copied(alloc)?)),
-            StExpr::Not(e) => Boxed::new(alloc, StExpr::Not(e.get().copied(alloc)?)),
+            StExpr::Bool(b) => Ok(StExpr::Bool(*b)),
+            StExpr::Int(n) => Ok(StExpr::Int(*n)),
+            StExpr::Named(name) => name.copy(alloc).map(StExpr::Named),
+            StExpr::Paren(e) => e.get().boxed(alloc).map(StExpr::Paren),
+            StExpr::Neg(e) => e.get().boxed(alloc).map(StExpr::Neg),
+            StExpr::Not(e) => e.get().boxed(alloc).map(StExpr::Not),
             StExpr::Product { first, rest } => {
-                let (first, rest) = (first.get().copied(alloc)?, copy_factors(rest, alloc)?);
-                Boxed::new(alloc, StExpr::Product { first, rest })
+                let (first, rest) = both(first.get().boxed(alloc), copy_factors(rest, alloc))?;
+                Ok(StExpr::Product { first, rest })
             }
             StExpr::Sum { first, rest } => {
-                let (first, rest) = (first.get().copied(alloc)?, copy_terms(rest, alloc)?);
-                Boxed::new(alloc, StExpr::Sum { first, rest })
+                let (first, rest) = both(first.get().boxed(alloc), copy_terms(rest, alloc))?;
+                Ok(StExpr::Sum { first, rest })
             }
             StExpr::Order { left, op, right } => {
-                let (left, right) = (left.get().copied(alloc)?, right.get().copied(alloc)?);
+                let (left, right) = both(left.get().boxed(alloc), right.get().boxed(alloc))?;
                 let op = *op;
-                Boxed::new(alloc, StExpr::Order { left, op, right })
+                Ok(StExpr::Order { left, op, right })
             }
             StExpr::Equal { left, equal, right } => {
-                let (left, right) = (left.get().copied(alloc)?, right.get().copied(alloc)?);
+                let (left, right) = both(left.get().boxed(alloc), right.get().boxed(alloc))?;
                 let equal = *equal;
-                Boxed::new(alloc, StExpr::Equal { left, equal, right })
+                Ok(StExpr::Equal { left, equal, right })
             }
-            StExpr::And(parts) => Boxed::new(alloc, StExpr::And(copy_exprs(parts, alloc)?)),
-            StExpr::Xor(parts) => Boxed::new(alloc, StExpr::Xor(copy_exprs(parts, alloc)?)),
-            StExpr::Or(parts) => Boxed::new(alloc, StExpr::Or(copy_exprs(parts, alloc)?)),
-            StExpr::Abs(e) => Boxed::new(alloc, StExpr::Abs(e.get().copied(alloc)?)),
-            StExpr::Min(a, b) => {
-                let (a, b) = (a.get().copied(alloc)?, b.get().copied(alloc)?);
-                Boxed::new(alloc, StExpr::Min(a, b))
-            }
-            StExpr::Max(a, b) => {
-                let (a, b) = (a.get().copied(alloc)?, b.get().copied(alloc)?);
-                Boxed::new(alloc, StExpr::Max(a, b))
-            }
+            StExpr::And(parts) => copy_exprs(parts, alloc).map(StExpr::And),
+            StExpr::Xor(parts) => copy_exprs(parts, alloc).map(StExpr::Xor),
+            StExpr::Or(parts) => copy_exprs(parts, alloc).map(StExpr::Or),
+            StExpr::Abs(e) => e.get().boxed(alloc).map(StExpr::Abs),
+            StExpr::Min(a, b) => pair(StExpr::Min, a.get().boxed(alloc), b.get().boxed(alloc)),
+            StExpr::Max(a, b) => pair(StExpr::Max, a.get().boxed(alloc), b.get().boxed(alloc)),
             StExpr::Sel(cond, a, b) => {
-                let cond = cond.get().copied(alloc)?;
-                let (a, b) = (a.get().copied(alloc)?, b.get().copied(alloc)?);
-                Boxed::new(alloc, StExpr::Sel(cond, a, b))
+                let cond = cond.get().boxed(alloc)?;
+                let (a, b) = both(a.get().boxed(alloc), b.get().boxed(alloc))?;
+                Ok(StExpr::Sel(cond, a, b))
             }
         }
     }
+
+    #[cycle(copy)]
+    fn boxed(&self, alloc: Global) -> Result<Boxed<StExpr>, Memory>
+        ensures { IfOk result (λ x. x ≡ self.now) }
+    {
+        Boxed::new(alloc, self.copied(alloc)?)
+    }
+}
+
+/// Two copies, where there was memory for both: a `?` for each is slow to check.
+fn both<T: Drop, U: Drop>(
+    first: Result<T, Memory>,
+    second: Result<U, Memory>,
+) -> Result<(T, U), Memory>
+    ensures { IfOk result (λ x. (first ≡ Ok x.0) × (second ≡ Ok x.1)) }
+{
+    Ok((first?, second?))
+}
+
+/// The form of two copies, where there was memory for both.
+fn pair<F: FnOnce(Boxed<StExpr>, Boxed<StExpr>) -> StExpr>(
+    form: F,
+    first: Result<Boxed<StExpr>, Memory>,
+    second: Result<Boxed<StExpr>, Memory>,
+) -> Result<StExpr, Memory>
+    requires { F.IsAlwaysCallable form }
+    ensures { IfOk result (λ x. (p q : _) × (first ≡ Ok p) × (second ≡ Ok q) × F.post form p q x) }
+{
+    Ok(form(first?, second?))
 }
 
 #[cycle(copy)]
@@ -73,7 +95,7 @@ fn copy_terms(all: &Items<StTerm>, alloc: Global) -> Result<Items<StTerm>, Memor
 {
     let mut copies = Items::new(alloc);
     for term in all.as_slice() {
-        let value = term.value.copied(alloc)?.into_inner();
+        let value = term.value.copied(alloc)?;
         copies.push(StTerm {
             minus: term.minus,
             value,
@@ -88,7 +110,7 @@ fn copy_factors(all: &Items<StFactor>, alloc: Global) -> Result<Items<StFactor>,
 {
     let mut copies = Items::new(alloc);
     for factor in all.as_slice() {
-        let value = factor.value.copied(alloc)?.into_inner();
+        let value = factor.value.copied(alloc)?;
         copies.push(StFactor {
             op: factor.op,
             value,
@@ -103,7 +125,7 @@ fn copy_exprs(all: &Items<StExpr>, alloc: Global) -> Result<Items<StExpr>, Memor
 {
     let mut copies = Items::new(alloc);
     for expr in all.as_slice() {
-        copies.push(expr.copied(alloc)?.into_inner())?;
+        copies.push(expr.copied(alloc)?)?;
     }
     Ok(copies)
 }
