@@ -1,8 +1,8 @@
 #!/usr/bin/env python3
 """Compares how `check` and `generate` judge sources with plain rules, on random sources of which most break a rule.
 
-    tools/compare_refusals.py PROGRAM [SOURCES [SEED]]
-    tools/compare_refusals.py --self-test
+    tools/compare_refusals.py PROGRAM [SOURCES [SEED]] [--short]
+    tools/compare_refusals.py --self-test [--short]
 
 Where rules are broken, what is told is to be one of the refusals of the first phase that has any: tokens, grammar, names, bodies as written, those of definitions too (kinds, uses of channels, arguments, constants, initial locations, what
 is assigned, the definitions of algebraic variables), components, instances among them (alphabets, roles, the number of objects, ranges
@@ -11,7 +11,7 @@ of choices. Then `generate`
 asks that each event has a class. A source that breaks none is accepted. Besides random sources, about half of them with definitions, there
 are the worked examples, some at each limit, and some of which memory is said to be out. The status is 1 where the two differ. The
 rules are in `plain_nets.py`, `plain_invariants.py`, `plain_algebra.py`, `plain_channels.py`, `plain_data.py` and `plain_names.py`; with `--self-test` they are compared with worked examples.
-How deep a source nests is not bounded here.
+How deep a source nests is not bounded here. `--short` leaves out the sources at the limits, which take long.
 """
 import itertools
 import os
@@ -398,12 +398,12 @@ def is_program(text):
     return text.startswith("PROGRAM CifScan\n") and text.rstrip().endswith("END_PROGRAM")
 
 
-def main(program, sources=1000, seed=1):
+def main(program, sources=1000, seed=1, is_short=False):
     choose, differ, notes = random.Random(seed), 0, Counter()
     with tempfile.TemporaryDirectory() as folder:
         tool = Tool(program, folder)
         memory = [(what, text, OUT_OF_MEMORY) for what, text in too_large_to_make()]
-        for what, text, line in all_at_limits() + memory:
+        for what, text, line in [] if is_short else all_at_limits() + memory:
             fault = tool.fault("check", text, {line} if line else set())
             if fault:
                 differ += 1
@@ -416,7 +416,8 @@ def main(program, sources=1000, seed=1):
                 differ += 1
                 print("%r\n  %s" % (text[:4000], "\n  ".join(found)))
     shown = ", ".join("%s %d" % pair for pair in sorted(notes.items(), key=lambda pair: (len(pair[0]), pair[0])))
-    print("%d sources and the worked examples (%s), and those at the limits: %d differences" % (sources, shown, differ))
+    limits = "" if is_short else ", and those at the limits"
+    print("%d sources and the worked examples (%s)%s: %d differences" % (sources, shown, limits, differ))
     return 1 if differ else 0
 
 
@@ -750,18 +751,26 @@ ALGEBRA = [
 ALL_WORKED = WORKED + DATA + DEFINED + ALGEBRA + worked_channels.REFUSED + worked_invariants.REFUSED
 
 
-def self_test():
+def self_test(is_short=False):
     for text, lines, generated in ALL_WORKED:
         verdict = judgement(text)
         assert verdict.lines == lines and (lines or verdict.generated == generated), (text, verdict)
+    print("the rules agree with %d worked examples" % len(ALL_WORKED))
+    if not is_short:
+        test_limits()
+    return 0
+
+
+def test_limits():
     short = [it for it in all_at_limits() if len(it[1]) < 200000]
     for what, text, line in short:
         assert judgement(text).lines == ({line} if line else set()), what
     assert judgement("event e, f; " + crowd([2] * 13 + [1] * 47) + crowd([2923], {0}, "f")).nodes == MOST_NODES
     assert judgement("event e; " + crowd([128, 128])).nodes == 5 * MOST_CHOICES
-    print("the rules agree with %d worked examples and %d sources at limits" % (len(ALL_WORKED), len(short)))
-    return 0
+    print("the rules agree with %d sources at limits" % len(short))
 
 
 if __name__ == "__main__":
-    sys.exit(self_test() if sys.argv[1:] == ["--self-test"] else main(sys.argv[1], *map(int, sys.argv[2:])))
+    words = [it for it in sys.argv[1:] if it != "--short"]
+    is_short = "--short" in sys.argv
+    sys.exit(self_test(is_short) if words == ["--self-test"] else main(words[0], *map(int, words[1:]), is_short=is_short))

@@ -1,0 +1,130 @@
+#!/usr/bin/env python3
+"""The words of a command line, as the program reads them: what is wrong with them, for people.
+
+    tools/words.py reason LINE WORD..
+
+prints the reason of the program's line LINE for these words, where it is that they are no command line, or that a file was not read.
+"""
+import os
+import re
+import stat
+import sys
+
+NO_WORDS = "cif: not a command line"
+# What each command takes behind it: its files, and whether options may follow.
+FILES = {"check": ("FILE",), "generate": ("FILE",), "replay": ("ST", "ROWS")}
+OPTIONS = ("--unc", "--con")
+MOST_ROUNDS = 10_000
+SEE = "cif --help lists the commands"
+
+
+def distance(one, other):
+    """How many letters are to be added, removed or changed to make one word the other."""
+    row = list(range(len(other) + 1))
+    for at, letter in enumerate(one, 1):
+        before, row[0] = row[0], at
+        for to, wanted in enumerate(other, 1):
+            before, row[to] = row[to], min(row[to] + 1, row[to - 1] + 1, before + (letter != wanted))
+    return row[-1]
+
+
+def command_fault(word):
+    """Why a word is no command."""
+    if word in ("--places", "--proved", "-o"):
+        return f"{word} stands once before the command"
+    near = min([*FILES, "explain"], key=lambda it: distance(word.lower(), it))
+    is_near = distance(word.lower(), near) <= 2 or len(word) > 2 and near.startswith(word.lower())
+    return f"did you mean {near}?" if is_near else f"{word} is no command: {SEE}"
+
+
+def options_fault(words):
+    """Why words are no options of `generate`."""
+    seen = set()
+    while words:
+        option, *words = words
+        if option.split("=")[0] in OPTIONS and "=" in option:
+            return f"write {option.replace('=', ' ', 1)}"
+        if option not in OPTIONS:
+            return script_word(option) or f"{option} is no option of generate: it has --unc N and --con N"
+        if option in seen:
+            return f"{option} stands twice"
+        seen.add(option)
+        number, *words = words or [""]
+        if not re.fullmatch("[1-9][0-9]*", number) or int(number) > MOST_ROUNDS:
+            return f"{option} takes a number from 1 to {MOST_ROUNDS}"
+    return None
+
+
+def script_word(word):
+    """Why a word of the script stands in the wrong place."""
+    return f"{word} stands before the command" if word in ("--places", "--proved", "-o") else None
+
+
+def wrong_words(words):
+    """Why the words are no command line; `None` where they are one. Without words the reason is empty."""
+    if any("\udc80" <= letter <= "\udcff" for word in words for letter in word):
+        return "a word is not UTF-8"
+    if not words:
+        return ""
+    command, *words = words
+    if command not in FILES:
+        return command_fault(command)
+    files = FILES[command]
+    if any(re.match("--(unc|con)(=|$)", word) for word in words[: len(files)]) and len(words) > len(files):
+        return "options stand after FILE" if command == "generate" else f"{command} has no options"
+    if len(words) < len(files) or "" in words[: len(files)]:
+        return f"{command} takes {' and '.join(files)}"
+    more = words[len(files) :]
+    if command == "generate":
+        return options_fault(more)
+    if more and more[0].startswith("--"):
+        return script_word(more[0]) or f"{command} has no options"
+    if more:
+        return script_word(more[0]) or f"{command} takes {' and '.join(files)}, and nothing more"
+    return None
+
+
+def unread(file):
+    """Why a file cannot be read; `None` where it seems that it can."""
+    try:
+        kind = os.stat(file).st_mode
+        if stat.S_ISDIR(kind):
+            return "it is a folder"
+        if stat.S_ISREG(kind):
+            os.close(os.open(file, os.O_RDONLY))
+    except (OSError, ValueError) as error:
+        return (getattr(error, "strerror", None) or "no such name").lower()
+    return None
+
+
+def fault(words):
+    """The status and the line of the program for these words, and the reason, where no program is needed to see them. Whether the rows
+    of `replay` are read depends on the program in its first file, so they are not looked at."""
+    why = wrong_words(words)
+    if why is not None:
+        return 2, NO_WORDS, why
+    why = unread(words[1])
+    if why:
+        return 3, f"cif: cannot read {words[1]}", why
+    return None
+
+
+def reason(line, words):
+    """The reason of a line of the program."""
+    if line == NO_WORDS:
+        return wrong_words(words)
+    for file in words[1:]:
+        if line == f"cif: cannot read {file}":
+            return unread(file)
+    return None
+
+
+def main(line, *words):
+    why = reason(line, words)
+    if why:
+        print("".join(letter if letter.isprintable() else "?" for letter in why))
+
+
+if __name__ == "__main__":
+    sys.stdout.reconfigure(errors="replace")
+    main(*sys.argv[2:])
