@@ -7,7 +7,6 @@ Compiles the program and the programs of cases without their proofs, and runs th
 script and of the tools, and the comparisons in short; `all` also runs the groups of cases and the sources at the limits. With `--proved`
 the programs are those that the gate proved and built, and all is run whole. The last line is `N passed, M failed`.
 """
-import os
 import re
 import resource
 import subprocess
@@ -31,8 +30,8 @@ COMPARISONS = [
     ("compare_components", "components", ["50"], 20),
 ]
 SELF_TESTS = [("compare_scans", [], 5), ("compare_refusals", ["--short"], 60)]
-# The environment variable by which a test finds the program.
-PROGRAM_IS = "CIF_PROGRAM"
+# What the usage of a test has that asks the program.
+ASKS = " [PROGRAM]\n"
 COMPILING, CASES, TESTING = 150, 100, 60
 SHOWN_LINES = 30
 
@@ -40,11 +39,10 @@ SHOWN_LINES = 30
 class Command(Task):
     """A command, what it is given, and what it is to write, where that is stored."""
 
-    def __init__(self, name, words, needs=(), cost=1, given=b"", wanted=None, environment=None):
+    def __init__(self, name, words, needs=(), cost=1, given=b"", wanted=None):
         super().__init__(name, needs, cost)
         self.words = [str(it) for it in words]
         self.given, self.wanted = given, wanted
-        self.environment = {**os.environ, **(environment or {})}
         self.fault = ""
 
     def begin(self, slot):
@@ -53,7 +51,7 @@ class Command(Task):
         stdin, out, err = self.files
         stdin.write(self.given)
         stdin.seek(0)
-        return subprocess.Popen(self.words, cwd=TOP, stdin=stdin, stdout=out, stderr=err, env=self.environment)
+        return subprocess.Popen(self.words, cwd=TOP, stdin=stdin, stdout=out, stderr=err)
 
     def end(self, status):
         texts = []
@@ -106,13 +104,13 @@ def cases_of(name, is_proved, is_whole):
 
 
 def tests_of_tools(is_proved):
-    """The unit tests in tools/. Those that ask the program find it by the environment."""
+    """The unit tests in tools/."""
     for file in sorted((TOP / "tools").glob("test_*.py")):
-        if file.name != "test_all.py":
-            asks = PROGRAM_IS in file.read_text()
-            needs = [f"compiling {PROGRAM}"] if asks and not is_proved else []
-            program = {PROGRAM_IS: str(place_of(PROGRAM, is_proved))} if asks else {}
-            yield Command(file.stem, [sys.executable, file], needs, TESTING, environment=program)
+        if file.name == "test_all.py":
+            continue
+        asks = ASKS in file.read_text()
+        needs = [f"compiling {PROGRAM}"] if asks and not is_proved else []
+        yield Command(file.stem, [sys.executable, file] + asks * [place_of(PROGRAM, is_proved)], needs, TESTING)
 
 
 def program_with(call):

@@ -32,9 +32,11 @@ def command_fault(word):
     """Why a word is no command."""
     if word in ("--places", "--proved", "-o"):
         return f"{word} stands once before the command"
-    near = min([*FILES, "explain"], key=lambda it: distance(word.lower(), it))
-    is_near = distance(word.lower(), near) <= 2 or len(word) > 2 and near.startswith(word.lower())
-    return f"did you mean {near}?" if is_near else f"{word} is no command: {SEE}"
+    if word.split("=")[0] in OPTIONS:
+        return "options stand after FILE"
+    names, given = [*FILES, "explain"], word.lower()
+    near = [it for it in names if len(given) > 2 and it.startswith(given) or distance(given, it) <= 2]
+    return f"did you mean {near[0]}?" if near else f"{word} is no command: {SEE}"
 
 
 def options_fault(words):
@@ -50,7 +52,7 @@ def options_fault(words):
             return f"{option} stands twice"
         seen.add(option)
         number, *words = words or [""]
-        if not re.fullmatch("[1-9][0-9]*", number) or int(number) > MOST_ROUNDS:
+        if not re.fullmatch("[1-9][0-9]{0,4}", number) or int(number) > MOST_ROUNDS:
             return f"{option} takes a number from 1 to {MOST_ROUNDS}"
     return None
 
@@ -58,6 +60,17 @@ def options_fault(words):
 def script_word(word):
     """Why a word of the script stands in the wrong place."""
     return f"{word} stands before the command" if word in ("--places", "--proved", "-o") else None
+
+
+def more_fault(command, words):
+    """Why these words do not stand behind a command and its files."""
+    if not words:
+        return None
+    if command == "generate":
+        return options_fault(words)
+    if words[0].startswith("--"):
+        return script_word(words[0]) or f"{command} has no options"
+    return script_word(words[0]) or f"{command} takes {' and '.join(FILES[command])}, and nothing more"
 
 
 def wrong_words(words):
@@ -69,19 +82,14 @@ def wrong_words(words):
     command, *words = words
     if command not in FILES:
         return command_fault(command)
-    files = FILES[command]
-    if any(re.match("--(unc|con)(=|$)", word) for word in words[: len(files)]) and len(words) > len(files):
+    count = len(FILES[command])
+    files, more = words[:count], words[count:]
+    if len(files) < count or "" in files:
+        return f"{command} takes {' and '.join(FILES[command])}"
+    why = more_fault(command, more)
+    if why and any(it.split("=")[0] in OPTIONS for it in files):
         return "options stand after FILE" if command == "generate" else f"{command} has no options"
-    if len(words) < len(files) or "" in words[: len(files)]:
-        return f"{command} takes {' and '.join(files)}"
-    more = words[len(files) :]
-    if command == "generate":
-        return options_fault(more)
-    if more and more[0].startswith("--"):
-        return script_word(more[0]) or f"{command} has no options"
-    if more:
-        return script_word(more[0]) or f"{command} takes {' and '.join(files)}, and nothing more"
-    return None
+    return why
 
 
 def unread(file):
