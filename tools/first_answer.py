@@ -11,7 +11,7 @@ import subprocess
 import sys
 
 import building
-import compile
+import compile_unproved
 import words
 from building import TOP, Stopped, say
 
@@ -34,7 +34,7 @@ def main(count, *given):
         refuse(*found)
     building.end_at_signals()
     try:
-        compile.compile_program("cif_cli")
+        compile_unproved.compile_program("cif_cli")
     except Stopped as why:
         say(str(why))
         return 1

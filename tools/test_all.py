@@ -87,7 +87,7 @@ def place_of(name, is_proved):
 
 
 def compilation(name):
-    return Command(f"compiling {name}", [sys.executable, TOP / "tools/compile.py", name], cost=COMPILING)
+    return Command(f"compiling {name}", [sys.executable, TOP / "tools/compile_unproved.py", name], cost=COMPILING)
 
 
 def cases_of(name, is_proved, is_whole):

@@ -1,11 +1,12 @@
 #!/usr/bin/env python3
 """Compiles programs of this checkout without their proofs.
 
-    tools/compile.py CRATE
+    tools/compile_unproved.py CRATE
 
 `rt try` compiles a program without its proofs and runs it, but keeps no program. So it is given a run that takes long, and the program is
 taken meanwhile. It stands as `crates/CRATE/out/unproved/CRATE` from then on, with a file that says what it is made of.
 """
+import errno
 import os
 import pathlib
 import shutil
@@ -93,16 +94,23 @@ def install(program, name, made_of):
     building.by_script("note_program", str(place), made_of)
 
 
+def make_folder(folder):
+    """Makes the folder of a compiled program, before the minutes that the compiler takes."""
+    try:
+        folder.mkdir(parents=True, exist_ok=True)
+        if not os.access(folder, os.W_OK):
+            raise PermissionError(errno.EACCES, os.strerror(errno.EACCES))
+    except OSError as error:
+        raise Stopped(f"the compiled program cannot be kept: {folder}: {error.strerror}") from error
+
+
 def compile_program(name):
     """Compiles a program, unless one of these sources stands already. One process compiles at a time; others wait, and take what it made."""
     place, made_of = place_of(name), building.sources_sum(name)
     if building.is_fresh(place, made_of):
         return
     building.need_toolchain()
-    try:
-        place.parent.mkdir(parents=True, exist_ok=True)
-    except OSError as error:
-        raise Stopped(f"the compiled program cannot be kept: {place.parent}: {error.strerror}") from error
+    make_folder(place.parent)
     held = building.lock(place.parent, f"another process compiles {name} without its proofs: waiting for it")
     if not building.is_fresh(place, made_of):
         say(f"compiling {name} without its proofs, once: some two minutes")
