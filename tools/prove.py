@@ -108,6 +108,10 @@ class Proof(Task):
         super().__init__(name, uses[name], seconds)
 
     def begin(self, slot):
+        folder = TOP / "crates" / self.name
+        self.held = building.lock(folder, waiting=None)
+        if self.held is None:
+            raise Stopped(f"another rt works in {folder}: start it again when that has ended")
         self.clone = ROOM / str(slot)
         if not self.clone.exists():
             clone(self.clone)
@@ -116,7 +120,7 @@ class Proof(Task):
         here = self.clone / "crates" / self.name
         shutil.rmtree(here / "out", ignore_errors=True)
         (self.clone / BORROWED).write_text(self.name)
-        (TOP / "crates" / self.name / "out").mkdir(exist_ok=True)
+        (folder / "out").mkdir(exist_ok=True)
         move_out(self.name, TOP, self.clone)
         (here / "out").mkdir(exist_ok=True)
         words = ["lib", "--jobs", "1"]
@@ -128,6 +132,7 @@ class Proof(Task):
     def end(self, status):
         move_out(self.name, self.clone, TOP)
         (self.clone / BORROWED).unlink()
+        os.close(self.held)
         return status == 0
 
 
