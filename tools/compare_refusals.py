@@ -402,13 +402,14 @@ def main(program, sources=1000, seed=1, is_short=False):
     choose, differ, notes = random.Random(seed), 0, Counter()
     with tempfile.TemporaryDirectory() as folder:
         tool = Tool(program, folder)
-        memory = [(what, text, OUT_OF_MEMORY) for what, text in too_large_to_make()]
-        for what, text, line in [] if is_short else all_at_limits() + memory:
+        limits = [] if is_short else all_at_limits() + [(what, text, OUT_OF_MEMORY) for what, text in too_large_to_make()]
+        for what, text, line in limits:
             fault = tool.fault("check", text, {line} if line else set())
             if fault:
                 differ += 1
                 print("%s: %s" % (what, fault))
-        for text in itertools.chain([it[0] for it in ALL_WORKED], (made(choose) for _ in range(sources))):
+        make = faulty if is_short else made
+        for text in itertools.chain([it[0] for it in ALL_WORKED], (make(choose) for _ in range(sources))):
             verdict = judgement(text)
             notes.update({line.split()[0] for line in verdict.lines | verdict.generated} or {"none"})
             found = tool.faults(text, verdict)
@@ -416,8 +417,8 @@ def main(program, sources=1000, seed=1, is_short=False):
                 differ += 1
                 print("%r\n  %s" % (text[:4000], "\n  ".join(found)))
     shown = ", ".join("%s %d" % pair for pair in sorted(notes.items(), key=lambda pair: (len(pair[0]), pair[0])))
-    limits = "" if is_short else ", and those at the limits"
-    print("%d sources and the worked examples (%s)%s: %d differences" % (sources, shown, limits, differ))
+    print("%d sources and the worked examples (%s)%s: %d differences" % (
+        sources, shown, "" if is_short else ", and those at the limits", differ))
     return 1 if differ else 0
 
 
