@@ -191,6 +191,9 @@ def main():
     building.end_at_signals()
     try:
         prove()
+    except SystemExit:
+        say("stopped; what is proved so far is kept")
+        raise
     except Stopped as why:
         say(str(why))
         return 1
