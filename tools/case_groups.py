@@ -74,7 +74,7 @@ def part_of(groups, chosen):
 
 
 def parts_of(groups, most):
-    """The groups in at most so many lists with about as much text each."""
+    """The groups in at most `most` lists with about as much text each."""
     whole = sum(len(line) for group in groups for line in group.written)
     parts, size = [[]], 0
     for group in groups:

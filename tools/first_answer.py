@@ -17,7 +17,7 @@ from building import TOP, Stopped, say
 
 
 def refuse(status, line, why):
-    """Ends as the program does; a terminal is told the reason too."""
+    """Ends as the program does; a terminal gets the reason too."""
     if sys.stderr.isatty():
         text = f"{line}\n{why}" if why else line
         line = "\n".join("".join(it if it.isprintable() else "?" for it in part) for part in text.split("\n"))

@@ -137,7 +137,7 @@ class Proof(Task):
 
 
 class Report:
-    """What is told of each crate that ends."""
+    """The line of each crate that ends."""
 
     def __init__(self, tasks):
         self.tasks = tasks

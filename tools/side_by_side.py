@@ -44,7 +44,7 @@ class Tasks:
         return self.chains[task.name]
 
     def pace(self):
-        """How many times their costs the tasks took that are done, those aside that had hardly anything to do."""
+        """Seconds taken per second of cost, of the tasks that are done and had more than a fifth of their cost to do."""
         done = [task for task in self.done if task.seconds > task.cost / 5]
         return sum(task.seconds for task in done) / sum(task.cost for task in done) if len(done) > 2 else 1
 
@@ -79,7 +79,7 @@ class Tasks:
             time.sleep(0.1)
 
     def run(self, report, goes_on):
-        """Runs all tasks; `report(task, is_well)` hears of each that ends. Unless it is to go on, the first that fails ends the run."""
+        """Runs all tasks; calls `report(task, is_well)` as each ends. Unless it `goes_on`, the first that fails ends the run."""
         try:
             self.start_ready()
             while self.running:

@@ -19,7 +19,7 @@ from case_groups import part_of, parts_of, read_groups
 from side_by_side import Task, Tasks
 
 PROGRAM = "cif_cli"
-# The comparisons: what each asks, either the program or the program of cases with this call; its words in short; and its seconds then.
+# The comparisons: the call of the program of cases that each runs, none where it runs the program; its words in short; its seconds then.
 COMPARISONS = [
     ("compare_grammar", None, ["200"], 10),
     ("compare_programs", None, ["50"], 5),
@@ -30,7 +30,7 @@ COMPARISONS = [
     ("compare_components", "components", ["50"], 20),
 ]
 SELF_TESTS = [("compare_scans", [], 5), ("compare_refusals", ["--short"], 60)]
-# What the usage of a test has that asks the program.
+# What the usage of a test has that runs the program.
 ASKS = " [PROGRAM]\n"
 COMPILING, CASES, TESTING = 150, 100, 60
 SHOWN_LINES = 30
