@@ -1,4 +1,4 @@
-"""What all builds in a checkout share: its crates, their locks, the ends of their processes, and what a program is made of."""
+"""What all builds in a checkout share: its programs, locks, the ends of their processes, and what a program is made of."""
 import ctypes
 import fcntl
 import os
@@ -9,7 +9,9 @@ import subprocess
 import sys
 import time
 
-TOP = pathlib.Path(__file__).resolve().parent.parent
+import crates
+from crates import TOP
+
 NEEDS_RT = "the Rattle kit is missing: rt is not on the path (README.md says where it comes from)"
 SUBREAPER = 36
 GIGABYTES = 4
@@ -23,37 +25,13 @@ def say(line):
     print(f"cif: {line}", file=sys.stderr, flush=True)
 
 
-def crates_of(top=TOP):
-    """The crates of crates.txt, each with those that it names, the kit's left out."""
-    uses = {}
-    for line in (top / "crates.txt").read_text().splitlines():
-        head, colon, names = line.partition("#")[0].partition(":")
-        if colon:
-            uses[head.split()[0]] = names.split()
-    return {name: [it for it in names if it in uses] for name, names in uses.items()}
-
-
-def below(uses, name):
-    """The crates that a crate stands on, lowest first, and itself."""
-    found = []
-
-    def visit(it):
-        for used in uses[it]:
-            visit(used)
-        if it not in found:
-            found.append(it)
-
-    visit(name)
-    return found
-
-
 def is_program(name, top=TOP):
     return (top / "crates" / name / "src/main.rt").is_file()
 
 
 def case_programs(top=TOP):
     """The programs that read cases."""
-    return [name for name, names in crates_of(top).items() if "case_text" in names and is_program(name, top)]
+    return [name for name, names in crates.uses(top).items() if "case_text" in names and is_program(name, top)]
 
 
 def cores():

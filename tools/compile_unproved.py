@@ -94,6 +94,15 @@ def install(program, name, made_of):
     building.by_script("note_program", str(place), made_of)
 
 
+def compile_and_install(name, made_of):
+    with tempfile.TemporaryDirectory(prefix="cif-") as room:
+        try:
+            install(compiled(name, pathlib.Path(room)), name, made_of)
+        finally:
+            # (before the folder goes, in which they write)
+            building.end_descendants()
+
+
 def make_folder(folder):
     """Makes the folder of a compiled program, before the minutes that the compiler takes."""
     try:
@@ -115,12 +124,9 @@ def compile_program(name):
     if not building.is_fresh(place, made_of):
         say(f"compiling {name} without its proofs, once: some two minutes")
         try:
-            with tempfile.TemporaryDirectory(prefix="cif-") as room:
-                install(compiled(name, pathlib.Path(room)), name, made_of)
+            compile_and_install(name, made_of)
         except OSError as error:
             raise Stopped(f"the compiled program could not be kept: {error.filename}: {error.strerror}") from error
-        finally:
-            building.end_descendants()
     os.close(held)
 
 

@@ -15,6 +15,7 @@ import sys
 import time
 
 import building
+import crates
 from building import TOP, Stopped, say
 from side_by_side import Task, Tasks
 
@@ -104,7 +105,7 @@ class Proof(Task):
     """The proof of a crate; that of the program also makes it, and has it read an example."""
 
     def __init__(self, name, uses, seconds):
-        self.libraries = building.below(uses, name)[:-1]
+        self.libraries = crates.below(name, uses)
         super().__init__(name, uses[name], seconds)
 
     def begin(self, slot):
@@ -155,8 +156,8 @@ class Report:
 
 def prove_crates():
     """Proves all crates of the program and makes it."""
-    uses, seconds = building.crates_of(), table_of_seconds((TOP / "docs/CONTRIBUTING.md").read_text())
-    proofs = [Proof(name, uses, seconds.get(name, SECONDS)) for name in building.below(uses, PROGRAM)]
+    uses, seconds = crates.uses(), table_of_seconds((TOP / "docs/CONTRIBUTING.md").read_text())
+    proofs = [Proof(name, uses, seconds.get(name, SECONDS)) for name in [*crates.below(PROGRAM, uses), PROGRAM]]
     tasks = Tasks(proofs, building.side_by_side(MOST_SIDE_BY_SIDE))
     say(f"proving {len(proofs)} crates, {tasks.most} side by side, some {minutes(tasks.seconds_left())}; an interrupted run goes on where it stopped")
     report = Report(tasks)

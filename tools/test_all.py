@@ -7,6 +7,7 @@ Compiles the program and the programs of cases without their proofs, and runs th
 script and of the tools, and the comparisons in short; `all` also runs the groups of cases and the sources at the limits. With `--proved`
 the programs are those that the gate proved and built, and all is run whole. The last line is `N passed, M failed`.
 """
+import os
 import re
 import resource
 import subprocess
@@ -165,7 +166,14 @@ def main(*words):
         print("cif: testing the sources without their proofs; nothing is proved by it (bash .ci/run proves)", flush=True)
         building.need_toolchain()
         widen_stack()
-    wanted = tests(is_proved, is_whole)
+    with tempfile.TemporaryDirectory(prefix="cif-") as room:
+        # (so nothing is left of a tool that is ended)
+        os.environ["TMPDIR"] = room
+        return run_tests(tests(is_proved, is_whole))
+
+
+def run_tests(wanted):
+    """Runs the tests and what compiles their programs. The status is 1 where one fails."""
     needed = sorted({need for test in wanted for need in test.needs})
     tasks = Tasks([compilation(it.removeprefix("compiling ")) for it in needed] + wanted, building.side_by_side())
     tasks.run(report, goes_on=True)
