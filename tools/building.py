@@ -85,26 +85,31 @@ def end_at_signals():
     ctypes.CDLL(None).prctl(SUBREAPER, 1, 0, 0, 0)
 
 
-def parents():
-    """The parent of each process that runs."""
-    found = {}
+def processes():
+    """Each process: its number, whether it has ended, and its parent."""
     for process in filter(str.isdigit, os.listdir("/proc")):
         try:
             text = pathlib.Path(f"/proc/{process}/stat").read_text(errors="replace")
         except OSError:
             continue
         state, parent = text.rpartition(")")[2].split()[:2]
-        if state != "Z":
-            found[int(process)] = int(parent)
-    return found
+        yield int(process), state == "Z", int(parent)
 
 
 def descendants(process):
     """The processes that a process started, and those that they started."""
-    up, found = parents(), [process]
+    up = {child: parent for child, has_ended, parent in processes() if not has_ended}
+    found = [process]
     for it in found:
         found += [child for child, parent in up.items() if parent == it]
     return found[1:]
+
+
+def forget_orphans(own):
+    """Lets the processes go that have ended and became children of this one when their parents ended; `own` are its other children."""
+    for process, has_ended, parent in processes():
+        if has_ended and parent == os.getpid() and process not in own:
+            os.waitpid(process, os.WNOHANG)
 
 
 def end_descendants(process=None):

@@ -75,6 +75,7 @@ class Tasks:
                 if status is not None:
                     del self.running[slot]
                     task.seconds = time.monotonic() - begun
+                    building.forget_orphans({it.pid for _, it, _, _ in self.running.values()})
                     return task, task.end(status)
             time.sleep(0.1)
 

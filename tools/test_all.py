@@ -25,7 +25,7 @@ COMPARISONS = [
     ("compare_grammar", None, ["200"], 10),
     ("compare_programs", None, ["50"], 5),
     ("compare_scans", None, ["20"], 60),
-    ("compare_refusals", None, ["100", "--short"], 60),
+    ("compare_refusals", None, ["40", "--short"], 60),
     ("compare_names", "find", ["100"], 20),
     ("compare_data", "value", ["300"], 20),
     ("compare_components", "components", ["50"], 20),
@@ -96,7 +96,7 @@ def cases_of(name, is_proved, is_whole):
     folder = TOP / "crates" / name
     groups = read_groups((folder / "stdin").read_text(), (folder / "stdout").read_text())
     chosen = [it for it in groups if is_whole or not it.is_at_limits]
-    parts = parts_of(chosen, 1 if is_proved else 2 * building.cores())
+    parts = parts_of(chosen, 1 if is_proved else 4 * building.cores())
     for number, part in enumerate(parts, 1):
         given, wanted = part_of(groups, part)
         named = f"cases of {name}" + (f", part {number} of {len(parts)}" if len(parts) > 1 else "")
