@@ -1,10 +1,10 @@
 #!/usr/bin/env python3
 """Tests the sources without proving anything.
 
-    tools/test_all.py [all] [--proved]
+    tools/test_all.py [all|proved]
 
 Compiles the program and the programs of cases without their proofs, and runs the cases against their stored answers, the tests of the
-script and of the tools, and the comparisons in short; `all` also runs the groups of cases and the sources at the limits. With `--proved`
+script and of the tools, and the comparisons in short; `all` also runs the groups of cases and the sources at the limits. With `proved`
 the programs are those that the gate proved and built, and all is run whole. The last line is `N passed, M failed`.
 """
 import os
@@ -155,7 +155,7 @@ def widen_stack():
 
 
 def main(*words):
-    is_proved, is_whole = "--proved" in words, "--proved" in words or "all" in words
+    is_proved, is_whole = "proved" in words, words != ()
     building.end_at_signals()
     if is_proved:
         print("cif: testing the programs that the gate proved", flush=True)
