@@ -22,7 +22,7 @@ class Unread(Exception):
 
 
 def tokens_of(text):
-    """Each token as its kind (a word in capitals, a sign, NAME or NUMBER), its text, and its line; the last has no kind."""
+    """Each token as its kind (a word in capitals, a sign, NAME or NUMBER), its text, its line, and its place; the last has no kind."""
     found, at, line = [], 0, 1
     while at < len(text):
         piece = PIECE.match(text, at)
@@ -30,17 +30,17 @@ def tokens_of(text):
             raise Unread()
         it = piece.group()
         if piece.lastgroup == "word":
-            found.append((it.upper() if it.upper() in WORDS else "NAME", it, line))
+            found.append((it.upper() if it.upper() in WORDS else "NAME", it, line, at))
         elif piece.lastgroup != "blank":
-            found.append(("NUMBER" if piece.lastgroup == "number" else it, it, line))
+            found.append(("NUMBER" if piece.lastgroup == "number" else it, it, line, at))
         line += it.count("\n")
         at = piece.end()
-    return found + [("", "", line)]
+    return found + [("", "", line, at)]
 
 
 class Program:
-    """The name of a program, its variables in the order of declaration, its statements, and `lines`: the first and the last line of each
-    statement by its identity."""
+    """The name of a program, its variables in the order of declaration, its statements, also as text, and `lines`: the first and the last
+    line of each statement by its identity."""
 
     def __init__(self, text):
         self.tokens, self.next, self.lines = tokens_of(text), 0, {}
@@ -48,7 +48,9 @@ class Program:
         self.name, self.variables = self.take("NAME"), []
         while self.is_next(*BLOCKS):
             self.block()
+        begin = self.tokens[self.next][3]
         self.body = self.statements("END_PROGRAM")
+        self.body_text = text[begin:self.tokens[self.next - 1][3]]
         if self.tokens[self.next][0]:
             raise Unread()
 

@@ -44,13 +44,6 @@ class Written:
         """The names of the generator's own variables."""
         return [it.name for it in self.program.variables if it.name.startswith("T")]
 
-    def parts(self):
-        """The name, the lines of declarations and the lines of statements, as they are written."""
-        lines = self.text.splitlines()
-        first = self.program.lines[id(self.program.body[0])][0] if self.program.body else len(lines)
-        last = self.program.lines[id(self.program.body[-1])][1] if self.program.body else first - 1
-        return self.program.name, lines[first - 1:last]
-
 
 def read(file, text):
     try:
