@@ -5,7 +5,7 @@ A parameter of an instance is the argument that the instance gives, in parenthes
 from plain_data import Set
 from plain_expressions import branches_of
 from plain_invariants import ALWAYS, NEEDS
-from plain_names import LITERAL, denoted
+from plain_names import denoted
 from plain_nets import dotted, event_of
 
 WHOLE = ("name", "number", "truth", "paren", "abs", "min", "max", "if", "received")
@@ -17,12 +17,12 @@ def path_of(frame, use):
 
 
 def named(frame, use):
-    """What a name denotes: a path, a literal, or an argument."""
+    """What a name denotes: a path, or an argument."""
     found = denoted(frame, use.name)
     if found.argument:
         text = expression(found.frame, found.argument)
         return text if found.argument.form in WHOLE else f"({text})"
-    return found.slot.name if found.slot.sort == LITERAL else dotted(found.frame, found.slot)
+    return dotted(found.frame, found.slot)
 
 
 def expression(frame, expr):
