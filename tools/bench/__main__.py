@@ -62,7 +62,7 @@ def main(words):
         sys.stderr.buffer.write(fault.line.encode("utf-8", "surrogateescape") + b"\n")
         return fault.status
     try:
-        sys.stdout.buffer.write(text.encode("latin-1", "replace"))
+        sys.stdout.buffer.write(text.encode("utf-8", "replace"))
         sys.stdout.buffer.flush()
     except OSError:
         sys.stderr.write("cif: cannot write\n")

@@ -24,7 +24,7 @@ def of_file(status, file, why):
 
 
 def content(file, most):
-    """The text of a file, a character for each byte."""
+    """The text of a file, a character for each byte, so that places count bytes."""
     try:
         with open(file, "rb") as opened:
             found = opened.read(most + 1)

@@ -7,7 +7,7 @@ from collections import namedtuple
 from plain_nets import automata_in, broken, components_of, names_of, unclassed
 from plain_channels import RECEIVES, SENDS, SYNCS
 from plain_sources import Source
-from plain_tokens import Unread
+from plain_tokens import Unread, lexed
 
 from bench.faults import MOST_SOURCE, SOURCE, content, of_file
 
@@ -120,11 +120,13 @@ class Model:
 
 def read(file, text):
     """The source and its net."""
+    due, net = lexed(text)[1], None
     try:
-        source = MarkedSource(text)
-        due, net = broken(source)
+        if not due:
+            source = MarkedSource(text)
+            due, net = broken(source)
     except (Unread, RecursionError):
-        due, net = True, None
+        due = True
     if due:
         raise of_file(SOURCE, file, f"refused; cif check {file} says why")
     return source, net

@@ -7,11 +7,10 @@ from bench.models import CLASSES
 
 
 class Written:
-    """A program of a source: its text, what is read of it, and for each event with a statement the first and the last line of these."""
+    """A program of a source: what is read of it, and for each event with a statement the first and the last line of these."""
 
     def __init__(self, model, file):
-        self.file, self.text = file, content(file, MOST_PROGRAM)
-        self.program = read(file, self.text)
+        self.file, self.program = file, read(file, as_utf8(content(file, MOST_PROGRAM)))
         if interface(self.program) != wanted_interface(model):
             raise self.other(model)
         loops = [form for form in self.program.body if form[0] == "while"]
@@ -43,6 +42,14 @@ class Written:
     def own_variables(self):
         """The names of the generator's own variables."""
         return [it.name for it in self.program.variables if it.name.startswith("T")]
+
+
+def as_utf8(text):
+    """Bytes as the text that they are in UTF-8, if they are."""
+    try:
+        return text.encode("latin-1").decode("utf-8")
+    except UnicodeDecodeError:
+        return text
 
 
 def read(file, text):
