@@ -582,6 +582,23 @@ class Frames(Bench):
             self.assertNotEqual(of_schema(tree.fromstring(text.replace("<BOOL/>", "<x:BOOL xmlns:x='y'/>") if text == "<BOOL/>" else text)), [])
 
 
+class Pictures(Bench):
+    """The pictures of docs/ are what the commands write."""
+
+    def test_wave(self):
+        self.write("t.csv", compare_scans.CELL)
+        wanted = (TOP / "docs/pictures/cell-wave.svg").read_text()
+        self.assertEqual(self.answer("wave", source("cell"), "t.csv", rows_file("cell"), "--svg"), wanted)
+
+    def test_automata(self):
+        """Graphviz drew the picture, other versions of which place it otherwise: it has all texts."""
+        inner = "".join(tree.parse(TOP / "docs/pictures/lamp-automata.svg").getroot().itertext()).replace("\u00a0", " ")
+        labels = re.findall(r'label="([^"]+)"', self.answer("draw", source("lamp")))
+        texts = {part for label in labels for part in re.split(r"\\[ln]", label) if part}
+        self.assertGreater(len(texts), 10)
+        self.assertEqual({it for it in texts if it not in inner}, set())
+
+
 class Modules(unittest.TestCase):
     def test_own_variables(self):
         for name, what in (("T0_fired", 0), ("T1_rounds", 1), ("T2_done", 2), ("T3_in_range", 3), ("T4_new_a_if", 4), ("T5_sent", 5), ("T6_if", 6)):

@@ -39,7 +39,13 @@ BUILT = [TOP / "crates/cif_cli/out/cif_cli", TOP / "crates/cif_cli/out/unproved/
 GIVEN = os.environ.get("CIF_PROGRAM")
 PROGRAM = pathlib.Path(GIVEN).resolve() if GIVEN else next((it for it in BUILT if it.exists()), None)
 # The pages whose commands are run.
-SHOWN = ["README.md", "docs/TUTORIAL.md", "docs/EXAMPLES.md", "docs/CONTROLLER.md", "docs/LANGUAGE.md", "docs/CONSTRUCTS.md", "docs/REFUSALS.md"]
+SHOWN = ["README.md", "docs/TUTORIAL.md", "docs/EXAMPLES.md", "docs/CONTROLLER.md", "docs/BENCH.md", "docs/LANGUAGE.md", "docs/CONSTRUCTS.md", "docs/REFUSALS.md"]
+# The commands of a page: those of tools/bench, and all others of the program.
+FRONT = """#!/bin/bash
+case $1 in legend | wave | draw | wrap) exec python3 {bench} "$@" ;; esac
+ulimit -S -s 65536 2>/dev/null
+exec {program} "$@"
+"""
 # The most lines of a page.
 LINES = {"README.md": 180, "docs/THEOREM.md": 150}
 
@@ -120,7 +126,7 @@ class Page:
         self.test, self.name, self.folder = test, name, folder
         self.programs, self.sources = [], []
         shutil.copytree(TOP / "examples", folder / "examples")
-        (folder / "cif").write_text(f'#!/bin/bash\nulimit -S -s 65536 2>/dev/null\nexec {shlex.quote(str(PROGRAM))} "$@"\n')
+        (folder / "cif").write_text(FRONT.format(bench=shlex.quote(str(TOP / "tools/bench")), program=shlex.quote(str(PROGRAM))))
         (folder / "cif").chmod(0o755)
         for file in sorted((TOP / "examples").iterdir()):
             (self.sources if file.suffix == ".cif" else self.programs).append(file.read_text())
@@ -208,7 +214,7 @@ class Shown(WithRoom):
                     Page(self, name, pathlib.Path(room)).all()
 
     def test_each_page_has_commands(self):
-        for name in SHOWN[:4]:
+        for name in SHOWN[:5]:
             self.assertIn("console", {it.word for it in blocks_of((TOP / name).read_text())}, name)
 
     def test_constructs(self):
@@ -304,7 +310,7 @@ class Links(unittest.TestCase):
         self.assertEqual([it.name for it in sorted((TOP / "docs").glob("*.md")) if f"(docs/{it.name}" not in readme], [])
 
     def test_files_that_a_reader_writes_are_ignored(self):
-        text = "".join((TOP / it).read_text() for it in [*SHOWN[:4], "docs/SPEED.md"])
+        text = "".join((TOP / it).read_text() for it in [*SHOWN[:5], "docs/SPEED.md"])
         written = set(re.findall(r"> ([\w-]+\.(?:cif|st|csv))\b", text))
         self.assertLessEqual({"lamp.st", "cell.st"}, written)
         ignored = [it.removeprefix("/") for it in (TOP / ".gitignore").read_text().splitlines()]
