@@ -601,8 +601,9 @@ class Pictures(Bench):
 
 class Modules(unittest.TestCase):
     def test_own_variables(self):
-        for name, what in (("T0_fired", 0), ("T1_rounds", 1), ("T2_done", 2), ("T3_in_range", 3), ("T4_new_a_if", 4), ("T5_sent", 5), ("T6_if", 6)):
-            self.assertEqual(next(number for number, (it, _) in enumerate(legend.OWN) if legend.is_own(name, it)), what, name)
+        for name, what in (("T0_fired", 0), ("T1_rounds", 1), ("T2_done", 2), ("T3_in_range", 3), ("T4_new_a_if", 4), ("T4_new_x_done", 4),
+                           ("T4_new", 4), ("T4_new_in_range", 4), ("T4_new_sent", 4), ("T5_sent", 5), ("T6_if", 6)):
+            self.assertEqual([number for number, (it, _) in enumerate(legend.OWN) if legend.is_own(name, it)], [what], name)
 
     def test_fault_is_a_line(self):
         self.assertEqual(Fault(7, "a: b").line, "cif: a: b")

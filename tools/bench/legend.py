@@ -1,5 +1,6 @@
 """`legend`: what each variable of a program is, what its numbers mean, and which edges of the source each event has."""
 import json
+import re
 
 from bench.models import CLASSES, NAMELESS, ROLES, load_classed
 from bench.programs import Written
@@ -47,9 +48,10 @@ class Legend:
 
 
 def is_own(name, pattern):
-    """Whether an own variable is one of those that are written so, such as `.._new_..`."""
-    inner = pattern.strip(".")
-    return pattern == name or pattern.startswith("..") and (inner in name if pattern.endswith("..") else name.endswith(inner))
+    """Whether an own variable is one of those that are written so, such as `.._new_..`. Of a path of signs alone nothing is in its name."""
+    inner = pattern.strip("._")
+    tail = "(_.*)?" if pattern.endswith("..") else ""
+    return pattern == name or pattern.startswith("..") and bool(re.fullmatch(rf"T[0-9]+_{inner}{tail}", name))
 
 
 # ---- a table

@@ -1,4 +1,6 @@
 """A program that `generate` wrote, beside its source: whether it is that of the source, and the statements in which each event is tried."""
+import re
+
 from compare_programs import broken
 from plain_programs import Program, Unread
 
@@ -77,7 +79,7 @@ def assigned(body):
 
 def is_mark(form):
     """Whether a statement clears the mark of an event."""
-    return form[0] == "assign" and form[1].endswith("_done") and form[2] == ("truth", False)
+    return form[0] == "assign" and re.fullmatch("T[0-9]+_done", form[1]) and form[2] == ("truth", False)
 
 
 def end_of_event(body, at, count):
