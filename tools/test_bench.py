@@ -182,9 +182,8 @@ Controllable events, as a round tries them
 
     def test_names(self):
         """JSON has the names of literals and locations, ranges, first values, roles and places."""
-        self.write("a.cif", "enum Mode = idle, busy; input Mode m; event void e; controllable int[0..3] c;\nplant A: disc Mode n = busy; disc bool b; "
-                   "disc int k; location: initial; edge c!k; end plant B: monitor; alphabet; location x; location y: initial; edge c? goto x; end")
-        self.write("a.cif", (self.room / "a.cif").read_text().replace("event void e; ", ""))
+        self.write("a.cif", "enum Mode = idle, busy; input Mode m; controllable int[0..3] c;\nplant A: disc Mode n = busy; disc bool b; disc int k; "
+                   "location: initial; edge c!k; end plant B: monitor; alphabet; location x; location y: initial; edge c? goto x; end")
         found = json.loads(self.answer("legend", "a.cif", "--json"))
         held = {it["path"]: it for it in found["variables"]}
         self.assertEqual((held["m"]["variables"], held["m"]["names"], held["m"]["first"]), (["I0_m", "H0_m"], ["idle", "busy"], 0))

@@ -42,6 +42,7 @@ class Drawing:
 
     def __init__(self, model):
         self.model = model
+        self.held = {it.path: it for it in model.variables()}
 
     def lines(self):
         yield HEAD
@@ -71,9 +72,8 @@ class Drawing:
     def title(self, number, frame):
         """The path of an automaton, its variables with their first values, and what it monitors."""
         party, lines = self.model.net.parties[number], []
-        names = {it.path: it for it in self.model.variables()}
         for one, slot in declared_in([frame], DISC):
-            held = names[dotted(one, slot)]
+            held = self.held[dotted(one, slot)]
             lines.append(f"{held.path}: {self.type_of(held)} = {self.first_of(held)}")
         if party.monitors:
             events = [self.model.net.events[event].path for event in sorted(party.monitors)]
@@ -81,10 +81,14 @@ class Drawing:
         return [party.path] + lines
 
     def type_of(self, held):
-        return f"{held.range[0]} .. {held.range[1]}" if held.kind == "int" else "bool" if held.kind == "bool" else "{" + ", ".join(held.literals) + "}"
+        if held.literals:
+            return "{" + ", ".join(held.literals) + "}"
+        return f"{held.range[0]} .. {held.range[1]}" if held.kind == "int" else "bool"
 
     def first_of(self, held):
-        return held.literals[held.first] if held.literals else ("false", "true")[held.first] if held.kind == "bool" else held.first
+        if held.literals:
+            return held.literals[held.first]
+        return ("false", "true")[held.first] if held.kind == "bool" else held.first
 
     def edge(self, number, frame, edges, name):
         """An arrow for the events of an edge as written. One that leads back comes from its label, which keeps labels apart."""

@@ -48,6 +48,7 @@ class Model:
         self.source, self.net = read(file, text)
         self.frames = components_of(self.source)[0]
         self.automata = automata_in(self.frames)
+        self.names = [[NAMELESS if name is None else name for name in frame.body.automaton.places] for frame in self.automata]
         self.edges = {id(arc): edge for frame, party in zip(self.automata, self.net.parties)
                       for arc, edge in zip(party.arcs, frame.body.automaton.edges)}
         self.lines = [0] + [at + 1 for at, character in enumerate(text) if character == "\n"]
@@ -56,7 +57,7 @@ class Model:
 
     def locations(self, number):
         """The names of the locations of an automaton."""
-        return [NAMELESS if name is None else name for name in self.automata[number].body.automaton.places]
+        return self.names[number]
 
     def location_variables(self):
         parties = self.net.parties
