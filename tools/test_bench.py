@@ -487,6 +487,13 @@ SCHEMA = {
 TC6 = "{http://www.plcopen.org/xml/tc6_0201}"
 
 
+def pattern_of(part):
+    """One place of a list of elements, as a pattern of names with a blank behind each."""
+    if isinstance(part, list):
+        return f"(?:(?:{'|'.join(part)}) )+"
+    return f"(?:{part[:-1]} )?" if part.endswith("?") else f"{part} "
+
+
 def of_schema(element):
     """What an element breaks of the schema."""
     name = element.tag.split("}")[1]
@@ -494,9 +501,7 @@ def of_schema(element):
         return [] if element.tag.startswith("{http://www.w3.org/1999/xhtml}") else ["namespace"]
     attributes, parts = SCHEMA[name]
     names = [it.tag.split("}")[1] for it in element]
-    form = "".join(f"(?:{'|'.join(it)}) *".join(["(?:", ")+"]) if isinstance(it, list) else f"(?:{it.rstrip('?')} ){'?' if it.endswith('?') else ''}"
-                   for it in parts)
-    form = re.sub(r"\) \*\)\+", r") )+", form)
+    form = "".join(map(pattern_of, parts))
     broken = [f"{name} lacks {it}" for it in attributes if it not in element.attrib]
     if not element.tag.startswith(TC6) or not re.fullmatch(form, "".join(it + " " for it in names)):
         broken.append(f"{name} has {names}")

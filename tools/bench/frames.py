@@ -65,7 +65,7 @@ class Frame:
     def call(self, instance, scope):
         """The statements of MAIN."""
         given = [f"{it.parameter} := {it.value.format(scope + it.name)}" for it in self.inputs]
-        yield f"{instance}({', '.join(given)});" if len(given) < 2 else f"{instance}(" + ",\n  ".join([""] + given).lstrip(",") + ");"
+        yield f"{instance}({''.join(given)});" if len(given) < 2 else f"{instance}(" + ",".join("\n  " + it for it in given) + ");"
         for it in self.outputs:
             yield f"{scope}{it.name} := {it.value.format(instance)};"
 
