@@ -42,7 +42,10 @@ _cif_words() {
 # The files with an ending, and the folders.
 _cif_files() {
   compopt -o filenames 2>/dev/null
-  mapfile -t COMPREPLY < <(compgen -f -X "!*.$1" -- "$current" && compgen -d -- "$current" || compgen -d -- "$current")
+  mapfile -t COMPREPLY < <(
+    compgen -f -X "!*.$1" -- "$current"
+    compgen -d -- "$current"
+  )
 }
 
 complete -F _cif cif ./cif

@@ -102,6 +102,15 @@ class Matcher:
         return match.end()
 
 
+def place_line():
+    """A line of `--places`, as tools/explain.py writes it."""
+    with tempfile.TemporaryDirectory() as room:
+        (pathlib.Path(room) / "belt.cif").write_text("plant A:\n  location:\n")
+        ran = subprocess.run([sys.executable, TOP / "tools/explain.py", "place", "cif: belt.cif: 4 NotRead at 11", "check", "belt.cif"], cwd=room,
+                             capture_output=True, text=True, timeout=60, check=True)
+    return ran.stdout
+
+
 class TextMate(unittest.TestCase):
     def coloured(self, name, text, colours):
         matcher, lines = Matcher(grammar(name)["patterns"]), text.splitlines()
@@ -138,8 +147,9 @@ class TextMate(unittest.TestCase):
             self.assertEqual(json.loads((EDITORS / "textmate" / it["path"]).read_text())["scopeName"], it["scopeName"])
         for it in found["languages"]:
             self.assertIn("comments", json.loads((EDITORS / "textmate" / it["configuration"]).read_text()))
-        match = re.match(found["problemMatchers"][0]["pattern"]["regexp"], "a b/belt.cif:24:1: 4 NotRead")
-        self.assertEqual(match.groups(), ("a b/belt.cif", "24", "1", "4", "NotRead"))
+        matcher = re.compile(found["problemMatchers"][0]["pattern"]["regexp"])
+        self.assertEqual(matcher.match("a b/belt.cif:24:1: 4 NotRead").groups(), ("a b/belt.cif", "24", "1", "4", "NotRead"))
+        self.assertEqual(matcher.match(place_line()).groups(), ("belt.cif", "2", "3", "4", "NotRead"))
 
 
 @unittest.skipUnless(shutil.which("vim"), "vim is missing: its files are not tried")
@@ -175,11 +185,11 @@ class Vim(unittest.TestCase):
             self.assertEqual([word for word, group in zip(words, told[1:]) if not group], [])
 
     def test_error_format(self):
-        (self.room / "errors").write_text("cif: belt.cif: 4 NotRead at 556\nbelt.cif:24:1: 4 NotRead\n")
+        (self.room / "errors").write_text("cif: belt.cif: 4 NotRead at 11\n" + place_line())
         lines = ["compiler cif", "cgetfile errors", "let found = map(getqflist(), {_, it -> [bufname(it.bufnr), it.lnum, it.col, it.nr, it.text]})",
                  "call writefile([json_encode(found), &makeprg], 'told')"]
         told = self.vim(lines)
-        self.assertEqual(json.loads(told[0]), [["belt.cif", 24, 1, 4, "NotRead"]])
+        self.assertEqual(json.loads(told[0]), [["belt.cif", 2, 3, 4, "NotRead"]])
         self.assertEqual(told[1], "cif --places check %:S")
 
     def test_smalltalk_is_left(self):
@@ -208,7 +218,9 @@ class Completion(unittest.TestCase):
         self.assertIn("examples", self.complete("cif", "check", "ex"))
 
     def test_each_word_of_the_usage(self):
-        given = self.complete("cif", "") | self.complete("cif", "-") | self.complete("cif", "generate", "a.cif", "-")
+        given = self.complete("cif", "")
+        for command in sorted(given):
+            given |= self.complete("cif", command, "a", "-")
         lines = [it.strip() for it in man_page.usage().splitlines() if it.startswith("  ") and not it.endswith(":")]
         wanted = {re.sub(r"^cif ", "", it).split()[0].rstrip(",") for it in lines}
         self.assertEqual(wanted - given - {"--unproved"}, set())
