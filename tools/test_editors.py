@@ -192,6 +192,14 @@ class Vim(unittest.TestCase):
         self.assertEqual(json.loads(told[0]), [["belt.cif", 2, 3, 4, "NotRead"]])
         self.assertEqual(told[1], "cif --places check %:S")
 
+    def test_page(self):
+        """docs/EDITORS.md has the format, and the line as Vim lists it."""
+        page = (TOP / "docs/EDITORS.md").read_text()
+        (self.room / "errors").write_text("belt.cif:24:1: 4 NotRead\n")
+        told = self.vim(["compiler cif", "cgetfile errors", "copen", "call writefile(getline(1, '$') + [&errorformat], 'told')"])
+        self.assertIn(f"\n{told[0]}\n", page)
+        self.assertIn(f"`{told[1].partition(',')[0]}`", page)
+
     def test_smalltalk_is_left(self):
         self.assertEqual(self.groups("b.st", "Object subclass: #A\n", [])[0], "st")
 
@@ -279,6 +287,13 @@ class Install(unittest.TestCase):
             self.assertEqual(told, (1, "", f"cif: {self.room}/bin/cif is there, and is not of this checkout\n"))
         self.assertEqual((self.room / "bin/cif").read_text(), "mine")
         self.assertEqual(self.files(), ["bin/cif"])
+
+    def test_page(self):
+        """docs/EDITORS.md has all that is put in place."""
+        page = (TOP / "docs/EDITORS.md").read_text()
+        self.install("--prefix", "here")
+        for file in self.files():
+            self.assertIn(f"`{file.removeprefix('here/')}`", page)
 
     def test_wrong_words(self):
         self.assertEqual(self.install("--prefix")[0], 2)
