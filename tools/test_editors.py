@@ -196,7 +196,7 @@ class Vim(unittest.TestCase):
         """docs/EDITORS.md has the format, and the line as Vim lists it."""
         page = (TOP / "docs/EDITORS.md").read_text()
         (self.room / "errors").write_text("belt.cif:24:1: 4 NotRead\n")
-        told = self.vim(["compiler cif", "cgetfile errors", "copen", "call writefile(getline(1, '$') + [&errorformat], 'told')"])
+        told = self.vim(["compiler cif", "let format = &errorformat", "cgetfile errors", "copen", "call writefile([getline(1), format], 'told')"])
         self.assertIn(f"\n{told[0]}\n", page)
         self.assertIn(f"`{told[1].partition(',')[0]}`", page)
 
