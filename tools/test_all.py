@@ -26,11 +26,12 @@ COMPARISONS = [
     ("compare_programs", None, ["50"], 5),
     ("compare_scans", None, ["20"], 60),
     ("compare_refusals", None, ["40", "--short"], 60),
+    ("compare_c", None, ["5"], 20),
     ("compare_names", "find", ["100"], 20),
     ("compare_data", "value", ["300"], 20),
     ("compare_components", "components", ["50"], 20),
 ]
-SELF_TESTS = [("compare_scans", [], 5), ("compare_refusals", ["--short"], 60)]
+SELF_TESTS = [("compare_scans", [], 5), ("compare_refusals", ["--short"], 60), ("compare_c", [], 10)]
 # What the usage of a test has that runs the program.
 ASKS = " [PROGRAM]\n"
 COMPILING, CASES, TESTING = 150, 100, 60
