@@ -14,7 +14,7 @@ _cif() {
     -o) mapfile -t COMPREPLY < <(compgen -f -- "$current") && return ;;
     --unc | --con) return ;;
     --plcopen) _cif_files st && return ;;
-    --test) mapfile -t COMPREPLY < <(compgen -W 'all' -- "$current") && return ;;
+    --test) mapfile -t COMPREPLY < <(compgen -W 'all proved' -- "$current") && return ;;
   esac
   if [ -z "$command" ]; then
     _cif_words check generate replay explain legend wave draw wrap -o --places --proved --prove --test --status --version --help -h

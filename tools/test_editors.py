@@ -229,9 +229,10 @@ class Completion(unittest.TestCase):
         given = self.complete("cif", "")
         for command in sorted(given):
             given |= self.complete("cif", command, "a", "-")
+        given |= self.complete("cif", "--test", "")
         lines = [it.strip() for it in man_page.usage().splitlines() if it.startswith("  ") and not it.endswith(":")]
         wanted = {re.sub(r"^cif ", "", it).split()[0].rstrip(",") for it in lines}
-        self.assertEqual(wanted - given - {"--unproved"}, set())
+        self.assertEqual(wanted - given, set())
 
 
 class Manual(unittest.TestCase):
