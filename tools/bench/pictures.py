@@ -12,7 +12,7 @@ STYLE = """  text { font: 12px "DejaVu Sans Mono", Consolas, Menlo, monospace; f
   .in { fill: #0a5a9c; }
   .grid { stroke: #d8dee4; }
   .rule { stroke: #8c959f; }
-  .low, .high, .box { stroke: #24292f; stroke-width: 1.4; fill: none; }
+  .wave, .box { stroke: #24292f; stroke-width: 1.4; fill: none; }
   .on { fill: #cfe8d5; stroke: none; }
   .box { fill: #f3f6fa; }
   .name { text-anchor: middle; }"""
@@ -57,9 +57,9 @@ class Picture:
             if place % every == 0:
                 yield text(self.x(place + 0.5), self.top(0) + 13, str(scan), "scan")
         yield line_of("grid", self.x(len(scans)), self.top(1) - 4, self.x(len(scans)), bottom)
-        is_parted = any(it.is_input for it in self.table.signals) and not all(it.is_input for it in self.table.signals)
-        if is_parted:
-            y = self.top(1 + sum(it.is_input for it in self.table.signals)) - (LINE - WAVE) / 2
+        inputs = sum(it.is_input for it in self.table.signals)
+        if 0 < inputs < len(self.table.signals):
+            y = self.top(1 + inputs) - (LINE - WAVE) / 2
             yield line_of("rule", EDGE, y, self.x(len(scans)), y)
 
     def signal(self, line, signal):
@@ -80,7 +80,7 @@ class Picture:
             if value:
                 yield f'<rect class="on" x="{number(self.x(begin))}" y="{number(top)}" width="{number(self.step * (end - begin))}" height="{WAVE}"/>'
         if points:
-            yield f'<polyline class="low" points="{" ".join(points)}"/>'
+            yield f'<polyline class="wave" points="{" ".join(points)}"/>'
 
     def box(self, top, begin, end, name):
         """A value from one scan to another one, with its name where there is room, and the whole in a title."""

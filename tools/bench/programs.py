@@ -83,7 +83,7 @@ def is_mark(form):
 
 
 def end_of_event(body, at, count):
-    """The end of the statements of an event with so many choices from a place on, or None where they are others.
+    """The end of the statements from `at` on of an event with `count` choices, or None where they are other statements.
 
     They are one `IF` with a branch for each choice, behind statements that set what it needs; or a mark, and an `IF` for each choice.
     """
