@@ -221,7 +221,7 @@ class Programs(Bench):
                 text = "\n".join(lines[first - 1:last])
                 wanted = {names[it["automaton"]] for it in event["edges"] if "from" in it}
                 self.assertEqual(set(re.findall(r"^ *(L\d+_\w+) := ", text, re.M)), wanted, event)
-                self.assertEqual(text.count("T0_fired := TRUE"), event["choices"])
+                self.assertEqual(len(re.findall("^ *T0_fired := TRUE;", text, re.M)), event["choices"])
 
     def whole_loops(self, found, program):
         """The lines of the events of a class are all of its loop, but for its first and last two."""
@@ -453,6 +453,20 @@ class Drawings(Bench):
         for _ in range(10):
             state = tuple(choose.randint(low, min(high, low + 9)) for low, high in model.net.ranges)
             self.assertEqual(evaluated(again, state), evaluated(guard, state), text)
+
+    def test_forms(self):
+        """Each form of an expression and of an update, in an instance with arguments that need parentheses, and with some that do not."""
+        self.write("a.cif", """enum M = off, on; const int k = 2; input int[0..9] i; controllable int[0..9] h; controllable c; p: D(i + k, not (i = k), on);
+            plant def D(alg int v; alg bool b; alg M m): disc int[-99..99] x; disc bool y; disc M z; location P: initial;
+            edge c when -v < 2 * v - 1, not b or P => z = m do if v = 1, b: x := abs(min(x, v)) elif y: x := max(-x, +k) mod 3 div 1 else x := 0 end,
+            y := if b: true elif y: x >= 0 <=> y else v != 3 end, z := m;
+            edge h!if x > 9: 9 else 0 end goto Q; location Q; end""")
+        text = self.answer("draw", "a.cif").replace("\\n", " ")
+        for part in ("c when -(i + k) < 2 * (i + k) - 1, not (not (i = k)) or p.P => p.z = on do ",
+                     "do if (i + k) = 1, not (i = k): p.x := abs(min(p.x, (i + k))) elif p.y: p.x := max(-p.x, +k) mod 3 div 1 else p.x := 0 end, "
+                     "p.y := if not (i = k): true elif p.y: p.x >= 0 <=> p.y else (i + k) != 3 end, p.z := on",
+                     "h!if p.x > 9: 9 else 0 end"):
+            self.assertIn(part, text)
 
     def test_odd_names(self):
         """Reserved words of Graphviz and signs are quoted."""
