@@ -340,7 +340,7 @@ class Shape(unittest.TestCase):
         part = re.search(r"^## Commands\n(.*?)^## ", (TOP / "README.md").read_text(), re.S | re.M)[1]
         shown = set(re.findall(r"\./cif (\w[\w ]*|--\w+)", part)) | set(re.findall(r"`(-[\w-]+(?: [A-Z]+)?)`", part))
         heads = {re.split(r" {2,}", it.strip())[0] for it in ran.stdout.splitlines() if it.startswith("  ") and not it.endswith(":")}
-        self.assertEqual(sorted(shown), sorted(it.split(",")[0].removeprefix("cif ") for it in heads))
+        self.assertEqual(sorted(shown), sorted(re.split(r",| \[", it)[0].removeprefix("cif ") for it in heads))
 
     def test_definitions(self):
         """What THEOREM shows of definitions and clauses is, line for line, in the specs and in the code of the crates."""
