@@ -1,0 +1,6 @@
+pub mod Splits
+pub mod Decimals
+pub mod Finding
+pub mod Naming
+pub mod Saying
+pub mod Listing
