@@ -8,7 +8,7 @@ use indexmap::IndexMap;
 use std::alloc::Global;
 use std::marker::Model;
 
-/// Numbers by paths, of which none is there twice.
+/// Numbers by path, each path once.
 #[derive(Drop)]
 pub struct Numbers<'a> {
     by_path: IndexMap<&'a [u8], u32>,
@@ -32,7 +32,7 @@ impl<'a> Numbers<'a> {
         }
     }
 
-    /// Gives the path this number, unless it has one.
+    /// Adds the number of a path, unless the path has one.
     pub fn add(&mut self, path: &'a Text, number: u32) -> Result<(), Memory>
         ensures { OnOk result (self.new ≡ (if is_some (number_at self.old path.now) then self.old else self.old ++ (path.now, number) ∷ [])) }
     {

@@ -19,8 +19,8 @@ use cif_net::{Event, Input, Net};
 use std::alloc::Global;
 use std::marker::Model;
 
-/// The numbers of the events and inputs of a net by their paths, of several with one path the lowest. Contracts see the names
-/// by which a simulation tells of the net.
+/// The numbers of a net's events and inputs by path, the lowest where several have one path. Contracts see the names of
+/// the net.
 #[derive(Drop)]
 pub struct Paths<'a> {
     net: &'a Net,
@@ -62,7 +62,8 @@ impl<'a> Paths<'a> {
         self.events.number(path)
     }
 
-    /// What a line of a script does, which stands there without its end. It takes no memory.
+    /// Reads a line of a script, without its line end; `None` if it has none of the three forms or names nothing of that sort.
+    /// It takes no memory.
     pub fn read(&self, line: &[u8]) -> Option<Action>
         ensures { option_map action_of result ≡ read_line self.now line.now }
     {
@@ -74,7 +75,7 @@ impl<'a> Paths<'a> {
         }
     }
 
-    /// What a line does of which this is the first part, and these are the others.
+    /// Reads a line from its first part and the text behind it.
     fn read_word(&self, word: &[u8], rest: &[u8]) -> Option<Action>
         ensures { option_map action_of result ≡ said self.now (word.now ∷ parts_of rest.now) }
     {
@@ -89,7 +90,7 @@ impl<'a> Paths<'a> {
         }
     }
 
-    /// What a line does of which these are the first two parts, and the others.
+    /// Reads a line from its first two parts and the text behind them.
     fn read_value(&self, word: &[u8], name: &[u8], rest: &[u8]) -> Option<Action>
         ensures { option_map action_of result ≡ said self.now (word.now ∷ name.now ∷ parts_of rest.now) }
     {
@@ -101,6 +102,7 @@ impl<'a> Paths<'a> {
         }
     }
 
+    /// Fires the event with this path.
     fn fire(&self, name: &[u8]) -> Option<Action>
         ensures { option_map action_of result ≡ option_map (λ e. fires e.0) (number_of (λ p. p) name.now self.now.events) }
     {
@@ -108,6 +110,7 @@ impl<'a> Paths<'a> {
         Some(Action::Fire { event })
     }
 
+    /// Sets the input with this path to what a word stands for.
     fn set(&self, name: &[u8], value: &[u8]) -> Option<Action>
         ensures { option_map action_of result ≡ option_and_then (set_of value.now) (number_of (λ (v : ValueNames). v.path) name.now self.now.inputs) }
     {

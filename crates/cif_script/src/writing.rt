@@ -16,7 +16,7 @@ use crate::telling::{put_place, put_value};
 use cif_base::{Memory, put_int};
 use cif_net::{Auto, Net, State, Var};
 
-/// Appends the line of the start: the place of each automaton and the value of each variable.
+/// Appends the start line: the location of each automaton and the value of each variable.
 pub fn put_start(into: &mut Vec<u8>, net: &Net, state: &State) -> Result<(), Memory>
     ensures { OnOk result (into.new.items ≡ into.old.items ++ texts.start_line (names_of_net (net_tree net.now)) (state_tree state.now)) }
 {
@@ -27,7 +27,7 @@ pub fn put_start(into: &mut Vec<u8>, net: &Net, state: &State) -> Result<(), Mem
     Ok(())
 }
 
-/// Appends the line of an input that is set.
+/// Appends the line of an input that is set to a value.
 pub fn put_set(into: &mut Vec<u8>, net: &Net, input: u32, value: i64) -> Result<(), Memory>
     ensures { OnOk result (into.new.items ≡ into.old.items ++ texts.set_line (names_of_net (net_tree net.now)) input value) }
 {
@@ -37,7 +37,7 @@ pub fn put_set(into: &mut Vec<u8>, net: &Net, input: u32, value: i64) -> Result<
     Ok(())
 }
 
-/// Appends the line of a step, counted from 1: the event, and what is another after it than before.
+/// Appends the line of step `number`, counted from 1: the event, and each location and value that it changed.
 pub fn put_step(
     into: &mut Vec<u8>,
     net: &Net,
@@ -61,7 +61,7 @@ pub fn put_step(
     Ok(())
 }
 
-/// Appends the path of an input and a value, if there is an input with this number.
+/// Appends the path and value of an input, if it exists.
 fn put_input(into: &mut Vec<u8>, net: &Net, input: u32, value: i64) -> Result<(), Memory>
     ensures { OnOk result (into.new.items ≡ into.old.items ++ texts.input_told (names_of_net (net_tree net.now)) input value) }
 {
@@ -72,7 +72,7 @@ fn put_input(into: &mut Vec<u8>, net: &Net, input: u32, value: i64) -> Result<()
     Ok(())
 }
 
-/// Appends the path of an event, if there is one with this number.
+/// Appends the path of an event, if it exists.
 fn put_event(into: &mut Vec<u8>, net: &Net, event: u32) -> Result<(), Memory>
     ensures { OnOk result (into.new.items ≡ into.old.items ++ texts.event_path (names_of_net (net_tree net.now)) event) }
 {
@@ -82,7 +82,7 @@ fn put_event(into: &mut Vec<u8>, net: &Net, event: u32) -> Result<(), Memory>
     Ok(())
 }
 
-/// Appends the place of each automaton.
+/// Appends the location of each automaton.
 fn put_places(into: &mut Vec<u8>, autos: &[Auto], places: &[u32]) -> Result<(), Memory>
     ensures { OnOk result (into.new.items ≡ into.old.items ++ texts.listed (map texts.place_told (zip (autos_named autos.now) places.now))) }
 {
@@ -104,7 +104,7 @@ fn put_values(into: &mut Vec<u8>, vars: &[Var], values: &[i64]) -> Result<(), Me
     Ok(())
 }
 
-/// Appends the place of each automaton that is in another one than before.
+/// Appends the location of each automaton whose location changed.
 fn put_new_places(
     into: &mut Vec<u8>,
     autos: &[Auto],
@@ -124,7 +124,7 @@ fn put_new_places(
     Ok(())
 }
 
-/// Appends the place of an automaton if it is in another one than before.
+/// Appends the location of an automaton if it changed.
 fn put_new_place(
     into: &mut Vec<u8>,
     auto: &Auto,
@@ -143,7 +143,7 @@ fn put_new_place(
     Ok(())
 }
 
-/// Appends the value of each variable that has another one than before.
+/// Appends the value of each variable whose value changed.
 fn put_new_values(
     into: &mut Vec<u8>,
     vars: &[Var],
@@ -163,7 +163,7 @@ fn put_new_values(
     Ok(())
 }
 
-/// Appends the value of a variable if it has another one than before.
+/// Appends the value of a variable if it changed.
 fn put_new_value(
     into: &mut Vec<u8>,
     var: &Var,
