@@ -326,6 +326,15 @@ class Shape(unittest.TestCase):
         page = crate_table.PAGE.read_text()
         self.assertTrue(page == crate_table.with_table(page), "docs/PROVED.md: run tools/crate_table.py")
 
+    def test_libraries_of_crates(self):
+        """crates.txt lists a library only for crates whose text names it."""
+        found = []
+        for name, libraries in crate_table.listed_crates((TOP / "crates.txt").read_text()).items():
+            files = [it for part in ("src", "specs", "proofs") for it in (TOP / "crates" / name / part).rglob("*.*")]
+            words = set(re.findall(r"\w+", "\n".join(it.read_text() for it in files if it.suffix in (".rt", ".antt"))))
+            found += [f"{name}: {it}" for it in libraries if it not in words]
+        self.assertEqual(found, [])
+
     def test_claims_of_crates(self):
         """PROVED says of each crate what it proves, but for the programs of cases."""
         part = re.search(r"^## Crate by crate\n(.*?)^## ", (TOP / "docs/PROVED.md").read_text(), re.S | re.M)[1]
