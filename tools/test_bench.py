@@ -36,6 +36,7 @@ GIVEN = os.environ.get("CIF_PROGRAM")
 PROGRAM = pathlib.Path(GIVEN).resolve() if GIVEN else next((it for it in BUILT if it.exists()), None)
 EXAMPLES = sorted(it.stem for it in (TOP / "examples").glob("*.cif"))
 TRIALS = 6
+SVG = "{http://www.w3.org/2000/svg}"
 
 
 def rows_file(name):
@@ -328,8 +329,8 @@ class Waves(Bench):
     def picture(self, name, table, rows, wanted):
         """The picture is XML, and has a line for each signal and the names of its values."""
         found = tree.fromstring(self.answer("wave", source(name), table, rows, "--svg").encode("latin-1"))
-        texts = {it.text for it in found.iter("{http://www.w3.org/2000/svg}text")}
-        titles = {it.text for it in found.iter("{http://www.w3.org/2000/svg}title")}
+        texts = {it.text for it in found.iter(SVG + "text")}
+        titles = {it.text for it in found.iter(SVG + "title")}
         model = Model(name, source(name).read_text())
         signals = model.inputs() + model.outputs()
         self.assertLessEqual({it.path for it in signals}, texts)
@@ -360,6 +361,142 @@ class Waves(Bench):
         self.write("none.csv", table[0] + "\n")
         self.assertEqual(read_vcd(self.answer("wave", source("cell"), "none.csv")), {})
         tree.fromstring(self.answer("wave", source("cell"), "none.csv", "--svg").encode())
+
+
+class Cases(Bench):
+    """The tables of `batch`, one after the other, and its cases. The tables of VALUES are those of the worked row for `batch`."""
+    VALUES = "scan,R0_y\n1,1\n2,2\nscan,R0_y\n1,3\n2,3\nscan,R0_y\n1,0\n"
+    GIVEN = "scan,I0_a\n1,1\n2,2\n1,3\n2,3\n1,0\n"
+
+    def setUp(self):
+        super().setUp()
+        self.write("b.cif", "input int[0..9] a; alg int y = a;")
+
+    def wave(self, table, cases=None, *options):
+        files = [self.write("t.csv", table)] + ([] if cases is None else [self.write("c.csv", cases)])
+        return self.answer("wave", "b.cif", *files, *options)
+
+    def fault(self, line, table, cases=None):
+        with self.assertRaises(Fault) as caught:
+            self.wave(table, cases)
+        self.assertEqual((caught.exception.status, caught.exception.line), (10, f"cif: {line}"))
+
+    def test_time_goes_on(self):
+        text = self.wave(self.VALUES, self.GIVEN)
+        self.assertTrue(text.startswith("$comment scans of 3 cases of b: one takes one unit of time $end\n"), text)
+        names = ("case", "scan", "a", "y")
+        wanted = {1: "1111", 2: "1222", 3: "2133", 4: "2233", 5: "3100", 6: "3100"}
+        self.assertEqual(read_vcd(text), {time: dict(zip(names, values)) for time, values in wanted.items()})
+        self.assertEqual(read_vcd(self.wave(self.VALUES))[3], {"case": "2", "scan": "1", "y": "3"})
+
+    def test_gtkwave(self):
+        """GTKWave's own programs give the same values back."""
+        if not shutil.which("vcd2fst") or not shutil.which("fst2vcd"):
+            self.skipTest("GTKWave is not installed")
+        text = self.wave(self.VALUES, self.GIVEN)
+        self.write("a.vcd", text)
+        subprocess.run(["vcd2fst", "a.vcd", "a.fst"], cwd=self.room, capture_output=True, timeout=60, check=True)
+        back = subprocess.run(["fst2vcd", "-f", "a.fst"], cwd=self.room, capture_output=True, text=True, timeout=60, check=True).stdout
+        found = read_vcd(text)
+        self.assertEqual({time: values for time, values in read_vcd(back).items() if time < 6}, {time: found[time] for time in range(1, 6)})
+
+    def test_picture(self):
+        """No value goes on from a case into the next one; each case has its number and numbers its scans from 1."""
+        found = tree.fromstring(self.wave(self.VALUES, self.GIVEN, "--svg"))
+        texts = {word: [it.text for it in found.iter(SVG + "text") if it.get("class", "") == word] for word in ("", "case", "scan", "name")}
+        self.assertEqual(texts[""], ["case", "scan", "y"])
+        self.assertEqual((texts["case"], texts["scan"]), (["1", "2", "3"], ["1", "2", "1", "2", "1"]))
+        self.assertEqual(texts["name"], ["1", "2", "3", "0"] * 2)
+        marks = [float(it.get("x1")) for it in found.iter(SVG + "line") if it.get("class") == "mark"]
+        self.assertEqual(len(marks), 2)
+        boxes = [[float(it.split(",")[0]) for it in one.get("points").split()] for one in found.iter(SVG + "polygon")]
+        self.assertFalse([box for box in boxes for mark in marks if min(box) <= mark <= max(box)])
+        self.assertLessEqual(max(map(max, boxes)), float(found.get("width")))
+        self.write("b.cif", "input int[0..9] a; alg bool y = a > 0;")
+        found = tree.fromstring(self.wave(self.VALUES.replace("2,2", "2,1").replace(",3", ",1"), None, "--svg"))
+        self.assertEqual([it.get("class") for it in found.iter(SVG + "polyline")], ["wave"] * 3)
+
+    def test_cell(self):
+        """The first three scans of the cell, once more as a case of their own."""
+        lines, rows = compare_scans.CELL.splitlines(True), rows_file("cell").read_text().splitlines(True)
+        self.write("t.csv", "".join(lines + lines[:4]))
+        found = read_vcd(self.answer("wave", source("cell"), "t.csv", self.write("c.csv", "".join(rows + rows[1:4]))))
+        self.write("t.csv", "".join(lines))
+        alone = read_vcd(self.answer("wave", source("cell"), "t.csv", rows_file("cell")))
+        for time in range(1, 14):
+            case, scan = divmod(time - 1, 10)
+            wanted = {"case": str(case + 1), "scan": str(scan + 1), **alone[scan + 1]}
+            self.assertEqual(found[time], wanted)
+        self.assertEqual(max(found), 14)
+
+    def test_one_case(self):
+        """One case is what `replay` gives."""
+        table, rows = "scan,R0_y\n1,1\n2,2\n", "scan,I0_a\n1,1\n2,2\n"
+        self.assertEqual(self.wave(table, rows), """\
+$comment scans of b: one takes one unit of time $end
+$timescale 1 ms $end
+$scope module b $end
+$var integer 64 ! a $end
+$var integer 64 " y $end
+$upscope $end
+$enddefinitions $end
+#1
+b1 !
+b1 "
+#2
+b10 !
+b10 "
+#3
+""")
+        self.assertNotIn("case", self.wave(table, rows, "--svg"))
+
+    def test_no_case(self):
+        """Of a cases file without a row `batch` writes nothing."""
+        self.assertEqual(read_vcd(self.wave("", "scan,I0_a\n")), {})
+        tree.fromstring(self.wave("", "scan,I0_a\n", "--svg"))
+        self.fault("t.csv: 44 Header column 1", "")
+        self.fault("c.csv: row 1: scan 1 of case 1 is not in t.csv", "", self.GIVEN)
+
+    def test_names_of_the_source(self):
+        """Where the source has the names of the counters, these are others."""
+        self.write("b.cif", "alg int $case = 7; group scan: alg int x = 8; end")
+        found = read_vcd(self.answer("wave", "b.cif", self.write("t.csv", "scan,R0_case,R1_scan_x\n1,7,8\nscan,R0_case,R1_scan_x\n1,7,8\n")))
+        self.assertEqual(found[2], {"case_": "2", "scan_": "1", "case": "7", "scan.x": "8"})
+
+    def test_files_that_disagree(self):
+        """The first row is named that only one of the files has."""
+        for table, cases, told in (
+                (self.VALUES, "scan,I0_a\n1,1\n2,2\n1,3\n2,3\n", "t.csv: row 5: scan 1 of case 3 is not in c.csv"),
+                (self.VALUES, self.GIVEN + "1,4\n", "c.csv: row 6: scan 1 of case 4 is not in t.csv"),
+                (self.VALUES, self.GIVEN + "2,4\n", "c.csv: row 6: scan 2 of case 3 is not in t.csv"),
+                (self.VALUES, "scan,I0_a\n1,1\n1,3\n2,3\n1,0\n", "t.csv: row 2: scan 2 of case 1 is not in c.csv"),
+                (self.VALUES, "scan,I0_a\n1,1\n2,2\n3,2\n1,3\n2,3\n1,0\n", "c.csv: row 3: scan 3 of case 1 is not in t.csv"),
+                (self.VALUES, "scan,I0_a\n", "t.csv: row 1: scan 1 of case 1 is not in c.csv"),
+                ("scan,R0_y\n1,1\n2,2\n", self.GIVEN, "c.csv: row 3: scan 1 of case 2 is not in t.csv"),
+                ("scan,R0_y\n2,2\n", self.GIVEN, "c.csv: row 1: scan 1 of case 1 is not in t.csv"),
+                ("scan,R0_y\n2,2\n" + self.VALUES[18:], self.GIVEN, "c.csv: row 1: scan 1 of case 1 is not in t.csv")):
+            self.fault(told, table, cases)
+
+    def test_broken_files(self):
+        head = "scan,R0_y\n"
+        for table, told in ((head * 2 + "1,1\n", "case 1 has no scan"), (self.VALUES + head, "case 4 has no scan"),
+                            (head + "1,1\n" + head + "2,1\n", "45 Cell row 2 column 1"), (head + "1,1\n1,1\n", "45 Cell row 2 column 1"),
+                            (head + "1,1\n" + head + "1,x\n", "45 Cell row 2 column 2"), (head + "1,1\nscan,R0_z\n", "45 Cell row 2 column 1")):
+            self.fault(f"t.csv: {told}", table)
+        head = "scan,I0_a\n"
+        for cases, told in (("2,1\n", "48 CaseBoundary row 1"), ("1,1\n2,1\n1,1\n3,1\n", "48 CaseBoundary row 4"), ("1,1\n3,10\n", "45 Cell row 2 column 2"),
+                            ("1,1\n3,1,1\n", "46 RowLength row 2"), ("1,1\n100001,1\n", "45 Cell row 2 column 1"), ("0,1\n", "45 Cell row 1 column 1"),
+                            ("01,1\n", "45 Cell row 1 column 1"), ("1,1\nscan,I0_a\n", "45 Cell row 2 column 1")):
+            self.fault(f"c.csv: {told}", self.VALUES, head + cases)
+
+    def test_most(self):
+        """The rows of all cases are counted, and their headers are not."""
+        self.assertEqual(max(read_vcd(self.wave("scan,R0_y\n1,1\n" * 1001))), 1002)
+        with self.assertRaises(Fault) as caught:
+            self.wave("scan,R0_y\n1,1\n" * 1001, None, "--svg")
+        self.assertIn("at most 1000 scans", caught.exception.line)
+        self.wave("scan,R0_y\n1,1\n" * 1000, None, "--svg")
+        self.fault("t.csv: 47 TooManyRows", "scan,R0_y\n" * 2 + "1,1\n" * 100001)
 
 
 class Numbers(Bench):

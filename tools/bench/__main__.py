@@ -1,12 +1,12 @@
 """Answers `legend`, `wave`, `draw` and `wrap`; the words are those of `cif`.
 
     legend FILE [ST] [--st | --json]            what the variables and the IFs of a program are
-    wave FILE TABLE [ROWS] [--svg]              a table of replay as a VCD file, or as an SVG picture
+    wave FILE TABLE [ROWS] [--svg]              a table of replay, or those of batch, as a VCD file, or as an SVG picture
     draw FILE                                   the automata as a Graphviz file
     wrap FILE [--codesys | --twincat]           a MAIN with stable names that calls the program
     wrap FILE --plcopen ST                      MAIN and the program ST as PLCopen XML
 
-FILE is a source, ST the program that `generate` wrote for it, TABLE what `replay` wrote over ROWS.
+FILE is a source, ST the program that `generate` wrote for it, TABLE what `replay` wrote over ROWS, or `batch` over the cases ROWS.
 """
 import os
 import sys

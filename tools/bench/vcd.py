@@ -1,9 +1,11 @@
 """A table as a VCD file (IEEE 1364, "Value change dump"), for GTKWave and other viewers.
 
-A scan takes one unit of time and begins at its number; the file ends where the last scan does. Names of locations and literals are
-strings, which are an extension of GTKWave. Paths are scopes.
+A scan takes one unit of time and begins at its number; the file ends where the last scan does. Over several cases time goes on, and two
+variables more have the number of the case and that of the scan in it. Names of locations and literals are strings, which are an extension of
+GTKWave. Paths are scopes.
 """
-from bench.tables import shown
+from bench.models import Held
+from bench.tables import Signal, shown
 
 WIDTH = 64
 TYPES = {"bool": "wire 1", "int": f"integer {WIDTH}"}
@@ -49,21 +51,39 @@ def change(number, signal, value):
     return f"s{shown(signal.held, value)} {identifier(number)}"
 
 
+def counter(name, values, signals):
+    """A number that the source has not. Behind its name stands `_` where the source has that too."""
+    taken = {it.held.path.partition(".")[0] for it in signals}
+    while name in taken:
+        name += "_"
+    return Signal(Held("", (), name, "int", None, None, None), False, values)
+
+
+def with_counters(table):
+    """The signals, and before them, where there are several cases, the number of the case and that of the scan."""
+    if len(table.cases) < 2:
+        return table.signals
+    cases = [case for case, (begin, end) in enumerate(table.cases, 1) for _ in range(begin, end)]
+    return [counter("case", cases, table.signals), counter("scan", table.scans, table.signals)] + table.signals
+
+
 def lines_of(table, name):
-    yield f"$comment scans of {name}: one takes one unit of time $end"
+    signals = with_counters(table)
+    cases = f"{len(table.cases)} cases of " if len(table.cases) > 1 else ""
+    yield f"$comment scans of {cases}{name}: one takes one unit of time $end"
     yield "$timescale 1 ms $end"
     yield f"$scope module {name} $end"
-    yield from declarations(tree_of(table.signals))
+    yield from declarations(tree_of(signals))
     yield "$upscope $end"
     yield "$enddefinitions $end"
-    for place, scan in enumerate(table.scans):
-        yield f"#{scan}"
-        for number, signal in enumerate(table.signals):
+    for place in range(len(table.scans)):
+        yield f"#{table.scans[0] + place}"
+        for number, signal in enumerate(signals):
             value = signal.values[place]
             if place == 0 or value != signal.values[place - 1]:
                 yield change(number, signal, value)
     if table.scans:
-        yield f"#{table.scans[-1] + 1}"
+        yield f"#{table.scans[0] + len(table.scans)}"
 
 
 def as_vcd(table, name):

@@ -1,4 +1,4 @@
-"""`wave`: a table of `replay` as a VCD file, or as a picture."""
+"""`wave`: a table of `replay`, or the tables of `batch`, as a VCD file, or as a picture."""
 import os
 import re
 
