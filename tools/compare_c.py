@@ -18,8 +18,9 @@ import sys
 import tempfile
 
 from compare_programs import Endless, Machine, Maker, RowMaker, Stopped, broken, broken_rows, cell_value, first_value
-from compare_scans import MOST_SCANS, Trial, answers, judged, made, made_file, rows_of
+from compare_scans import MOST_SCANS, Trial, answers, made
 from plain_programs import Program
+from random_sources import judged, made_file, rows_of
 
 TOP = os.path.dirname(os.path.dirname(os.path.abspath(__file__)))
 SCANS = 200

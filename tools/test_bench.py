@@ -28,6 +28,7 @@ from bench.tables import Table, shown
 from plain_data import Values
 from plain_expressions import ExpressionReader, evaluated
 from plain_programs import Program
+from random_sources import instances_together
 from plain_tokens import RESERVED
 
 TOP = pathlib.Path(__file__).resolve().parent.parent
@@ -573,7 +574,7 @@ class Drawings(Bench):
         """What is written of a guard means, read at the top of the source, what the guard means in its place."""
         choose, tried = random.Random(4), 0
         while tried < 12:
-            model = Model("random", compare_scans.instances_together(choose))
+            model = Model("random", instances_together(choose))
             values = Values(model.net.values.places)
             for frame, party in zip(model.automata, model.net.parties):
                 for edge, arc in zip(frame.body.automaton.edges, party.arcs):
