@@ -327,11 +327,12 @@ class Shape(unittest.TestCase):
         self.assertTrue(page == crate_table.with_table(page), "docs/PROVED.md: run tools/crate_table.py")
 
     def test_libraries_of_crates(self):
-        """crates.txt lists a library only for crates whose text names it."""
+        """crates.txt lists a library only for crates whose text or edits name it."""
         found = []
         for name, libraries in crate_table.listed_crates((TOP / "crates.txt").read_text()).items():
-            files = [it for part in ("src", "specs", "proofs") for it in (TOP / "crates" / name / part).rglob("*.*")]
-            words = set(re.findall(r"\w+", "\n".join(it.read_text() for it in files if it.suffix in (".rt", ".antt"))))
+            folders = [TOP / "crates" / name / it for it in ("src", "specs", "proofs", "must-fail")] + [TOP / "tools/edits" / name]
+            files = [it for folder in folders for it in folder.rglob("*.*") if it.suffix in (".rt", ".antt", ".edit")]
+            words = set(re.findall(r"\w+", "\n".join(it.read_text() for it in files)))
             found += [f"{name}: {it}" for it in libraries if it not in words]
         self.assertEqual(found, [])
 
