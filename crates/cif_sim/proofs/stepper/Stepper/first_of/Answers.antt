@@ -1,0 +1,34 @@
+use Rattle.std.proofs.Common.{◌≡◌, ◌∙◌, Bool, true, ap, find, length, sym, arith}
+use Rattle.std.specs.List.{range_with_len}
+use Rattle.cif_net.specs.Parts.{class_of}
+use Rattle.cif_net.specs.View.{state_tree}
+use Rattle.cif_net.specs.declared.guarded.Guarded.{Guarded}
+use Rattle.cif_sim.specs.Tried.{has_step_in}
+use Rattle.cif_sim.proofs.Events.{find-later, first-of-class, is-found, not-found}
+use Rattle.cif_sim.proofs.stepper.Stepper.first_of.Goals as goal
+
+pub returns-then-has_step_in-clause-first : goal.returns-then-has_step_in-clause-first
+returns-then-has_step_in-clause-first c =
+    let g = c.args.self.now in
+    let s = state_tree c.args.state.now in
+    is-found (has_step_in g (class_of c.args.class) s) c.events-events.result _ (ap (λ n. find (has_step_in g (class_of c.args.class) s) (range_with_len 0 n)) c.events-events.ensures ∙ first-of-class g (class_of c.args.class) s) c.loop-event.event c.loop-event.invariant.rest
+    c.loop-event-test.true (c.if-has_step_in.ensures.step ∙ ap (λ (x : Guarded). has_step_in x (class_of c.args.class) s c.loop-event.event) c.loop-event.invariant.net)
+
+pub loop-event-preserved : goal.loop-event-preserved
+loop-event-preserved c =
+    let g = c.args.self.now in
+    let s = state_tree c.args.state.now in
+    record {
+      net = c.has_step_in.ensures.net ∙ c.loop-event.invariant.net;
+      rest =
+          find-later (has_step_in g (class_of c.args.class) s) c.loop-event.event c.events-events.result c.loop-event-test.true
+          (sym (c.if-has_step_in.ensures.step ∙ ap (λ (x : Guarded). has_step_in x (class_of c.args.class) s c.loop-event.event) c.loop-event.invariant.net))
+          ∙ c.loop-event.invariant.rest;
+    }
+
+pub returns-clause-first : goal.returns-clause-first
+returns-clause-first c =
+    let g = c.args.self.now in
+    let s = state_tree c.args.state.now in
+    not-found (has_step_in g (class_of c.args.class) s) c.events-events.result _ (ap (λ n. find (has_step_in g (class_of c.args.class) s) (range_with_len 0 n)) c.events-events.ensures ∙ first-of-class g (class_of c.args.class) s) c.loop-event.event c.loop-event.invariant.rest
+    c.loop-event-test.false

@@ -1,0 +1,4 @@
+pub mod Ready
+pub mod Simulated
+pub mod Starts
+pub mod Tried
