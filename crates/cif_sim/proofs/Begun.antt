@@ -1,11 +1,11 @@
 -- The places where the choices of the first events begin.
-use Rattle.std.proofs.Common.{◌≡◌, ℕ, zero, suc, ◌+◌, ◌<◌, ◌≤◌, inl, inr, List, [], ◌∷◌, ◌++◌, length, Some, refl, sym, ap, subst, ◌∙◌, arith, length-append}
+use Rattle.std.proofs.Common.{◌≡◌, ℕ, zero, suc, ◌+◌, ◌≤◌, inl, inr, List, [], ◌∷◌, ◌++◌, length, Some, refl, sym, ap, subst, ◌∙◌, arith, length-append}
 use Rattle.std.specs.Prelude.{slice_get}
 use Rattle.std.proofs.lemmas.Bool.{cases_lt}
 use Rattle.cif_system.specs.System.{System}
 use Rattle.cif_net.specs.declared.guarded.Guarded.{Guarded}
 use Rattle.cif_sim.specs.Starts.{choices_below}
-use Rattle.cif_sim.proofs.Listed.{below-all, below-first, below-suc, meant}
+use Rattle.cif_sim.proofs.Listed.{below-first, meant}
 use Rattle.cif_sim.proofs.Segments.{get-front}
 
 -- those of the events up to number e, and the last of them

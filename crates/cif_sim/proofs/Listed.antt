@@ -1,12 +1,12 @@
 -- The choices of a guarded net by the numbers of their events.
-use Rattle.std.proofs.Common.{◌≡◌, ℕ, suc, ◌+◌, ◌-◌, ◌<◌, ◌≤◌, ◌⊎◌, inl, inr, List, [], length, map, Some, refl, sym, ap, subst, ◌∙◌, arith}
+use Rattle.std.proofs.Common.{◌≡◌, ℕ, suc, ◌+◌, ◌-◌, ◌<◌, ◌≤◌, inl, inr, List, length, map, Some, refl, sym, ap, ◌∙◌, arith}
 use Rattle.std.specs.Prelude.{option_map, slice_get}
 use Rattle.std.proofs.lemmas.Bool.{cases_lt}
 use Rattle.std.proofs.lemmas.Option.{slice_get-map}
 use Rattle.cif_system.specs.System.{System}
 use Rattle.cif_system.specs.Step.{Choice}
 use Rattle.cif_system.specs.Choices.{choices}
-use Rattle.cif_system.proofs.Lists.{map-length, slice_get-below}
+use Rattle.cif_system.proofs.Lists.{map-length}
 use Rattle.cif_model.specs.Listing.{full_choice, full_choices}
 use Rattle.cif_model.specs.Meaning.{event_in, system_of_net}
 use Rattle.cif_net.specs.View.{choice_tree, event_tree, net_tree}

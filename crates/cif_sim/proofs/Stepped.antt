@@ -1,9 +1,9 @@
 -- The first choice of an event that makes a step leads to its first step.
-use Rattle.std.proofs.Common.{◌≡◌, ℕ, suc, ◌+◌, ◌-◌, ◌<◌, ◌≤◌, List, Option, Some, None, refl, sym, ap, subst, ◌∙◌, arith}
+use Rattle.std.proofs.Common.{◌≡◌, ℕ, suc, ◌+◌, ◌<◌, ◌≤◌, List, Option, Some, None, sym, ap, subst, ◌∙◌, arith}
 use Rattle.std.specs.Prelude.{IfSome, length, option_map, slice_get, slice_index_or}
 use Rattle.std.proofs.lemmas.Option.{get_or_from_slice_get}
 use Rattle.cif_system.specs.System.{State}
-use Rattle.cif_system.specs.Choices.{choices, first_step}
+use Rattle.cif_system.specs.Choices.{first_step}
 use Rattle.cif_net.specs.declared.guarded.Guarded.{Guarded}
 use Rattle.cif_fire.specs.Choices.{system_of}
 use Rattle.cif_fire.specs.declared.scratch.Scratch.{Scratch}

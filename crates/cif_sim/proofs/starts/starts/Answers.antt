@@ -1,4 +1,4 @@
-use Rattle.std.proofs.Common.{◌≡◌, ◌≤◌, ◌<◌, ◌∙◌, [], ◌∷◌, ◌++◌, ap, length, arith}
+use Rattle.std.proofs.Common.{◌≤◌, ◌<◌, ◌∙◌, [], ◌∷◌, ◌++◌, ap, length, arith}
 use Rattle.std.specs.Prelude.{slice_get}
 use Rattle.cif_sim.specs.Starts.{choices_below}
 use Rattle.cif_fire.specs.Choices.{system_of}

@@ -1,4 +1,3 @@
-use Rattle.std.proofs.Common.{◌≡◌}
 use Rattle.cif_net.specs.View.{state_tree}
 use Rattle.cif_fire.specs.Working.{IsScratchOf}
 use Rattle.cif_sim.specs.Tried.{NoneMakes}

@@ -1,4 +1,4 @@
-use Rattle.std.proofs.Common.{◌≡◌, ◌<◌, ap, length, subst, sym, arith}
+use Rattle.std.proofs.Common.{◌≡◌, ◌<◌, length, subst, sym}
 use Rattle.std.specs.Prelude.{IfSome, option_map}
 use Rattle.cif_system.specs.Choices.{first_step}
 use Rattle.cif_net.specs.View.{state_tree}

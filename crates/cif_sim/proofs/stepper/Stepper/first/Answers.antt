@@ -1,4 +1,4 @@
-use Rattle.std.proofs.Common.{◌≡◌, ◌∙◌, Bool, true, ap, find, length, sym, arith}
+use Rattle.std.proofs.Common.{◌∙◌, ap, find, sym}
 use Rattle.std.specs.List.{range_with_len}
 use Rattle.cif_net.specs.View.{state_tree}
 use Rattle.cif_net.specs.declared.guarded.Guarded.{Guarded}
