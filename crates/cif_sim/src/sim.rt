@@ -15,7 +15,7 @@ use cif_net::{Class, Guarded, State};
 use std::alloc::Global;
 use std::marker::Model;
 
-/// The value of an input lies outside its range.
+/// Why an input is not set: the value lies outside its range.
 #[derive(Clone, Copy, Debug, PartialEq, Eq)]
 pub enum SetErr {
     OutOfRange { value: i64 },
