@@ -7,9 +7,9 @@ from plain_expressions import GREATEST, LEAST
 from plain_runs import Stop
 
 # How often a line of each kind is made.
-KINDS = {"fire": 60, "set": 30, "empty": 8, "any event": 4, "any value": 2, "bad": 1}
+KINDS = {"fire": 60, "set": 30, "empty": 8, "any event": 4, "any value": 4, "bad": 2}
 # What may stand at the end of a line, and of the last one.
-ENDS, LAST_ENDS = [b"\n"] * 8 + [b"\r\n"], [b"\n", b"\n", b"", b"\r\n", b"\r", b"\n\n", b"\r\r\n"]
+ENDS, LAST_ENDS = [b"\n"] * 8 + [b"\r\n"], [b"\n", b"", b"\r\n", b"\r", b"\n\n"] * 6 + [b"\r\r\n"]
 ODD_NUMBERS = [b"", b"-", b"+1", b"-0", b"00", b"01", b"1_0", b"1.0", b"0x1", b"1e1", b" 1", b"1 ", b"1\r", b"\xb2", b"true", b"One",
                b"9223372036854775808", b"-9223372036854775809", b"99999999999999999999999"]
 ODD_WORDS = [b"set", b"fire", b"Set", b"FIRE", b"set ", b"fire ", b"step", b"start", b"deadlock", b"#", b"//", b" ", b"\t", b"\r", b"\x00",
@@ -39,7 +39,7 @@ class ScriptMaker:
         return b"" if found is None else b"fire " + self.events[found]
 
     def any_event(self):
-        return b"fire " + self.choose.choice(self.events or self.others)
+        return b"fire " + self.choose.choice(self.events) if self.events else b""
 
     def set_within(self):
         """An input and a value of its range."""
@@ -54,7 +54,7 @@ class ScriptMaker:
     def any_value(self):
         """An input and a value that may be out of its range, or none."""
         if not self.inputs:
-            return b"set %s 1" % self.choose.choice(self.others)
+            return self.any_event()
         number = self.choose.randrange(len(self.inputs))
         lo, hi = self.model.net.inputs[number].range
         numbers = [b"%d" % it for it in (lo - 1, hi + 1, LEAST, GREATEST, self.choose.randint(-9, 9))]
@@ -101,11 +101,14 @@ class ScriptMaker:
         return text, state
 
     def event(self, state):
-        """The path of an event, mostly of one without a step, or at times of none."""
+        """The path of an event, mostly of one without a step, more often of one with choices that agree, or at times of none."""
         if not self.events or self.choose.random() < 0.05:
             return self.choose.choice(self.others + self.inputs)
-        blocked = [number for number in range(len(self.events)) if self.model.step(number, state) is None]
-        return self.events[self.choose.choice(blocked)] if blocked and self.choose.random() < 0.8 else self.choose.choice(self.events)
+        numbers = list(range(len(self.events)))
+        blocked = [number for number in numbers if self.model.step(number, state) is None]
+        tried = [number for number in blocked if self.model.agreeing(number, state)]
+        wanted = self.choose.choice([tried, tried, tried, blocked, blocked, numbers])
+        return self.events[self.choose.choice(wanted or blocked or numbers)]
 
     def steps(self):
         """A number of steps."""

@@ -31,7 +31,7 @@ COMPARISONS = [
     ("compare_data", "value", ["300"], 20),
     ("compare_components", "components", ["50"], 20),
 ]
-SELF_TESTS = [("compare_scans", [], 5), ("compare_refusals", ["--short"], 60), ("compare_c", [], 10)]
+SELF_TESTS = [("compare_scans", [], 5), ("compare_runs", ["10"], 15), ("compare_refusals", ["--short"], 60), ("compare_c", [], 10)]
 # What the usage of a test has that runs the program.
 ASKS = " [PROGRAM]\n"
 COMPILING, CASES, TESTING = 150, 100, 60
