@@ -5,3 +5,5 @@ pub mod Events
 pub mod Fitting
 pub mod Begun
 pub mod Stepped
+pub mod Alike
+pub mod Idle

@@ -1,3 +1,4 @@
+pub mod Named
 pub mod Ready
 pub mod Simulated
 pub mod Starts

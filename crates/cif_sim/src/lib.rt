@@ -3,9 +3,11 @@
 
 mod classes;
 mod inputs;
+mod laws;
 mod sim;
 mod starts;
 mod stepper;
 mod tries;
 
+pub use laws::idle_events_stay_idle;
 pub use sim::{NotEnabled, SetErr, Sim};
