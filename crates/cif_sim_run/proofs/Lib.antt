@@ -1,0 +1,9 @@
+pub mod LineLaws
+pub mod FirstLaws
+pub mod Growing
+pub mod Telling
+pub mod Naming
+pub mod Sizes
+pub mod Running
+pub mod FirstRunning
+pub mod Halting

@@ -1,0 +1,89 @@
+//! The actions of lines, made on a simulation.
+
+ghost use Rattle.std.specs.Prelude.{◌≡◌, ◌<◌, length, Some, IfOk, IfSome, OnOk, IfErr};
+ghost use Rattle.cif_net.specs.View.{net_tree};
+ghost use Rattle.cif_fire.specs.Choices.{system_of};
+ghost use Rattle.cif_script.specs.Views.{action_of};
+ghost use Rattle.cif_system.specs.Scan as scan;
+ghost use Rattle.sim_face.specs.Runs.{first_event, next_by};
+ghost use Rattle.sim_face.specs.Script.{fires, read_line, sets};
+ghost use Rattle.sim_face.specs.Simulation.{Meets};
+ghost use Rattle.sim_shown.specs.Nets.{names_of_net};
+ghost use Rattle.cif_sim_run.specs.Halts.{cause};
+ghost use Rattle.cif_sim_run.specs.Left.{IsNamed, Prevents};
+
+use crate::halt::StopWhy;
+use cif_script::{Action, Paths};
+use cif_sim::{NotEnabled, SetErr, Sim};
+
+/// Follows a line of a script.
+pub(crate) fn follow_line(
+    sim: &mut Sim<'_>,
+    paths: &Paths<'_>,
+    line: &[u8],
+) -> Result<Action, StopWhy>
+    requires { paths.now ≡ names_of_net (net_tree sim.old.guarded.plain.net) }
+    ensures net { sim.new.guarded ≡ sim.old.guarded }
+    ensures followed { IfOk result (λ a. (read_line paths.now line.now ≡ Some (action_of a))
+        × (next_by (system_of sim.old.guarded) sim.old.state (action_of a) ≡ Some sim.new.state)) }
+    ensures met { IfErr result (λ why. Meets paths.now (system_of sim.old.guarded) sim.old.state line.now (cause why)) }
+{
+    let Some(action) = paths.read(line) else {
+        return Err(StopWhy::BadLine);
+    };
+    match act(sim, action) {
+        Ok(()) => Ok(action),
+        Err(why) => Err(why),
+    }
+}
+
+/// Makes an action.
+fn act(sim: &mut Sim<'_>, action: Action) -> Result<(), StopWhy>
+    requires { IsNamed (names_of_net (net_tree sim.old.guarded.plain.net)) (action_of action) }
+    ensures net { sim.new.guarded ≡ sim.old.guarded }
+    ensures made { OnOk result (next_by (system_of sim.old.guarded) sim.old.state (action_of action) ≡ Some sim.new.state) }
+    ensures prevented { IfErr result (λ why. Prevents (system_of sim.old.guarded) sim.old.state (action_of action) (cause why)) }
+{
+    match action {
+        Action::Idle => Ok(()),
+        Action::Set { input, value } => set(sim, input, value),
+        Action::Fire { event } => fire(sim, event),
+    }
+}
+
+fn set(sim: &mut Sim<'_>, input: u32, value: i64) -> Result<(), StopWhy>
+    requires { input < length (system_of sim.old.guarded).inputs }
+    ensures net { sim.new.guarded ≡ sim.old.guarded }
+    ensures made { OnOk result (next_by (system_of sim.old.guarded) sim.old.state (sets input value) ≡ Some sim.new.state) }
+    ensures prevented { IfErr result (λ why. Prevents (system_of sim.old.guarded) sim.old.state (sets input value) (cause why)) }
+{
+    match sim.set(input, value) {
+        Ok(()) => Ok(()),
+        Err(SetErr::OutOfRange { value }) => Err(StopWhy::OutOfRange { value }),
+    }
+}
+
+fn fire(sim: &mut Sim<'_>, event: u32) -> Result<(), StopWhy>
+    requires { event < length (system_of sim.old.guarded).events }
+    ensures net { sim.new.guarded ≡ sim.old.guarded }
+    ensures made { OnOk result (next_by (system_of sim.old.guarded) sim.old.state (fires event) ≡ Some sim.new.state) }
+    ensures prevented { IfErr result (λ why. Prevents (system_of sim.old.guarded) sim.old.state (fires event) (cause why)) }
+{
+    match sim.fire(event) {
+        Ok(()) => Ok(()),
+        Err(NotEnabled) => Err(StopWhy::NotEnabled),
+    }
+}
+
+/// Makes the step of the lowest-numbered event that has one; `None` if none has.
+pub(crate) fn step_by_first(sim: &mut Sim<'_>) -> Option<u32>
+    ensures net { sim.new.guarded ≡ sim.old.guarded }
+    ensures first { result ≡ first_event (system_of sim.old.guarded) sim.old.state }
+    ensures made { IfSome result (λ e. sim.new.state ≡ scan.fire (system_of sim.old.guarded) sim.old.state e) }
+{
+    let event = sim.first()?;
+    match sim.fire(event) {
+        Ok(()) => Some(event),
+        Err(NotEnabled) => unreachable!(),
+    }
+}

@@ -1,0 +1,139 @@
+//! The lines of a run, written one at a time.
+
+ghost use Rattle.std.specs.Prelude.{◌≡◌, ◌<◌, ◌≤◌, suc, [], length, IfOk, OnOk, OnErr};
+ghost use Rattle.cif_io.specs.Faults.{Rose};
+ghost use Rattle.cif_io.specs.Written.{grown};
+ghost use Rattle.cif_model.specs.Meaning.{system_of_net};
+ghost use Rattle.cif_net.specs.View.{net_tree, state_tree};
+ghost use Rattle.cif_script.specs.Views.{action_of};
+ghost use Rattle.cif_system.specs.System.{initial};
+ghost use Rattle.sim_face.specs.Simulation.{moment_text, steps_after};
+ghost use Rattle.sim_face.specs.Texts.{start_line, step_line};
+ghost use Rattle.sim_shown.specs.Nets.{names_of_net};
+ghost use Rattle.cif_sim_run.specs.Halts.{GrewByPart};
+ghost use Rattle.cif_sim_run.specs.Left.{IsUpToDate, Shows};
+
+use crate::copying::copy_shown;
+use cif_base::Memory;
+use cif_io::{Sink, SinkErr, put_all};
+use cif_net::{Net, State};
+use cif_script::{Action, put_set, put_start, put_step};
+use std::alloc::Global;
+
+/// Writes the lines of a run: the number of steps so far, and the places and values after the last of them. The inputs in `before`
+/// stay as they are.
+#[derive(Drop)]
+pub(crate) struct LineWriter<'a> {
+    net: &'a Net,
+    before: State,
+    steps: u32,
+    line: Vec<u8>,
+}
+
+impl<'a> LineWriter<'a> {
+    pub(crate) fn new(alloc: Global, net: &'a Net) -> Result<LineWriter<'a>, Memory>
+        ensures net { IfOk result (λ w. w.net.now ≡ net.now) }
+        ensures start { IfOk result (λ w. state_tree w.before ≡ initial (system_of_net (net_tree net.now))) }
+        ensures steps { IfOk result (λ w. w.steps ≡ 0) }
+    {
+        let before = State::initial(alloc, net)?;
+        Ok(LineWriter {
+            net,
+            before,
+            steps: 0,
+            line: Vec::new(alloc),
+        })
+    }
+
+    /// The number of steps so far.
+    pub(crate) fn steps(&self) -> u32
+        ensures { result ≡ self.now.steps }
+    {
+        self.steps
+    }
+
+    /// Writes the start line.
+    pub(crate) fn write_start<O: Sink>(&mut self, out: &mut O) -> Result<(), SinkErr>
+        ensures kept { self.new ≡ record self.old { line = self.new.line } }
+        ensures all { OnOk result (O.written out.new ≡ grown (O.written out.old)
+            (start_line (names_of_net (net_tree self.old.net.now)) (state_tree self.old.before))) }
+        ensures part { OnErr result (GrewByPart (start_line (names_of_net (net_tree self.old.net.now)) (state_tree self.old.before))
+            (O.written out.old) (O.written out.new)) }
+        ensures failed { result ≡ Err SinkErr.Failed → Rose (O.faults out.old) (O.faults out.new) }
+        ensures faults_stay_or_rise { O.faults out.old ≤ O.faults out.new }
+    {
+        self.line.clear();
+        put_start(&mut self.line, self.net, &self.before).map_err(|_| SinkErr::Memory)?;
+        put_all(out, self.line.as_slice())
+    }
+
+    /// Writes the line of an action, if it has one.
+    pub(crate) fn write_action<O: Sink>(
+        &mut self,
+        action: Action,
+        after: &State,
+        out: &mut O,
+    ) -> Result<(), SinkErr>
+        requires places { length self.old.before.locs ≡ length after.now.locs }
+        requires values { length self.old.before.vals ≡ length after.now.vals }
+        requires counted { self.old.steps < 4294967295 }
+        ensures net { self.new.net.now ≡ self.old.net.now }
+        ensures steps { OnOk result (self.new.steps ≡ steps_after self.old.steps (action_of action)) }
+        ensures shown { OnOk result (IsUpToDate (action_of action) (state_tree self.old.before) (state_tree self.new.before) (state_tree after.now)) }
+        ensures all { OnOk result (O.written out.new ≡ grown (O.written out.old)
+            (moment_text (names_of_net (net_tree self.old.net.now)) self.old.steps
+            (record { action = action_of action; before = state_tree self.old.before; after = state_tree after.now }))) }
+        ensures part { OnErr result (GrewByPart (moment_text (names_of_net (net_tree self.old.net.now)) self.old.steps
+            (record { action = action_of action; before = state_tree self.old.before; after = state_tree after.now }))
+            (O.written out.old) (O.written out.new)) }
+        ensures failed { result ≡ Err SinkErr.Failed → Rose (O.faults out.old) (O.faults out.new) }
+        ensures faults_stay_or_rise { O.faults out.old ≤ O.faults out.new }
+    {
+        self.put_action(action, after).map_err(|_| SinkErr::Memory)?;
+        put_all(out, self.line.as_slice())
+    }
+
+    /// Puts the line of an action in the place of the last one.
+    fn put_action(&mut self, action: Action, after: &State) -> Result<(), Memory>
+        requires places { length self.old.before.locs ≡ length after.now.locs }
+        requires values { length self.old.before.vals ≡ length after.now.vals }
+        requires counted { self.old.steps < 4294967295 }
+        ensures net { self.new.net.now ≡ self.old.net.now }
+        ensures steps { OnOk result (self.new.steps ≡ steps_after self.old.steps (action_of action)) }
+        ensures shown { OnOk result (IsUpToDate (action_of action) (state_tree self.old.before) (state_tree self.new.before) (state_tree after.now)) }
+        ensures line { OnOk result (self.new.line.items ≡ moment_text (names_of_net (net_tree self.old.net.now)) self.old.steps
+            (record { action = action_of action; before = state_tree self.old.before; after = state_tree after.now })) }
+    {
+        self.line.clear();
+        match action {
+            Action::Idle => Ok(()),
+            Action::Set { input, value } => put_set(&mut self.line, self.net, input, value),
+            Action::Fire { event } => self.put_fire(event, after),
+        }
+    }
+
+    /// Puts the line of a step behind the empty line.
+    fn put_fire(&mut self, event: u32, after: &State) -> Result<(), Memory>
+        requires empty { self.old.line.items ≡ [] }
+        requires places { length self.old.before.locs ≡ length after.now.locs }
+        requires values { length self.old.before.vals ≡ length after.now.vals }
+        requires counted { self.old.steps < 4294967295 }
+        ensures net { self.new.net.now ≡ self.old.net.now }
+        ensures steps { OnOk result (self.new.steps ≡ suc self.old.steps) }
+        ensures shown { OnOk result (Shows (state_tree self.new.before) (state_tree after.now)) }
+        ensures line { OnOk result (self.new.line.items ≡ step_line (names_of_net (net_tree self.old.net.now)) (suc self.old.steps) event
+            (state_tree self.old.before) (state_tree after.now)) }
+    {
+        self.steps += 1;
+        put_step(
+            &mut self.line,
+            self.net,
+            self.steps,
+            event,
+            &self.before,
+            after,
+        )?;
+        copy_shown(after, &mut self.before);
+        Ok(())
+    }
+}
