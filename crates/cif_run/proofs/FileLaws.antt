@@ -6,7 +6,7 @@ use Rattle.cif_io.specs.declared.files.FileErr.{FileErr}
 use Rattle.cif_io.specs.declared.files.FileErr.TheVariants as file
 use Rattle.cif_run.specs.declared.status.Status.{Status}
 use Rattle.cif_run.specs.declared.ended.Ended.{Ended}
-use Rattle.cif_run.specs.Groups.{Group, done, unread, too_long, unwritten, wanting, judged, group_of}
+use Rattle.cif_run.specs.Groups.{Group, done, unread, too_long, unwritten, wanting, judged, halted, group_of}
 use Rattle.cif_run.specs.Refusals.{read_status_of}
 use Rattle.cif_run.specs.Works.{Failed, FileEnds, Input, IsLonger, Reading, StopsIn, Work}
 
@@ -28,6 +28,7 @@ file_stops w c i e wanting asks h = tt
 file_stops w c i e done asks h = absurd h
 file_stops w c i e unwritten asks h = absurd h
 file_stops w c i e judged asks h = absurd h
+file_stops w c i e (halted s) asks h = absurd h
 
 -- counts from an earlier moment on, and content that was told the same
 pub earlier_ends : (c d : Reading) (i : Input) (limit : ℕ) (g : Group) → d.content i.name ≡ c.content i.name → c.faults i.name ≤ d.faults i.name
@@ -44,3 +45,4 @@ earlier_ends c d i limit wanting same more after most h = tt
 earlier_ends c d i limit done same more after most h = absurd h
 earlier_ends c d i limit unwritten same more after most h = absurd h
 earlier_ends c d i limit judged same more after most h = absurd h
+earlier_ends c d i limit (halted s) same more after most h = absurd h

@@ -16,3 +16,7 @@ code_of (status.StRefused why) = 9
 code_of (status.RowRefused why) = 10
 code_of (status.ScanFault k e) = 11
 code_of (status.Budget k) = 12
+code_of (status.Stopped k why) = 13
+code_of (status.BadTrace log k) = 14
+code_of (status.LogRefused log k) = 15
+code_of status.NoEvent = 16

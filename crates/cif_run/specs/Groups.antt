@@ -16,6 +16,8 @@ pub data Group : Type 0 where
   wanting : Group
   -- the words, or what the files hold, is refused: a command says why
   judged : Group
+  -- the command stopped on its way with this status, after it wrote the text up to there
+  halted : Status → Group
 
 abbrev pub group_of : Status → Group
 group_of status.Done = done
@@ -30,6 +32,10 @@ group_of (status.StRefused why) = judged
 group_of (status.RowRefused why) = judged
 group_of (status.ScanFault k e) = judged
 group_of (status.Budget k) = judged
+group_of (status.Stopped k why) = halted (status.Stopped k why)
+group_of (status.BadTrace log k) = judged
+group_of (status.LogRefused log k) = judged
+group_of status.NoEvent = judged
 
 -- this status, or want of memory
 abbrev pub IsUnlessMemory : Status → Status → Type 0

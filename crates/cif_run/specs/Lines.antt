@@ -1,6 +1,6 @@
 -- The line that is told of each status, on the standard error. A line of a refusal has its number, its name, and each field's
 -- name and value.
-use Rattle.std.specs.Prelude.{ℕ, ℤ, List, [], ◌∷◌, ◌++◌, codes, decimal, slice_get, unwrap_or}
+use Rattle.std.specs.Prelude.{ℕ, ℤ, ◌+◌, Bool, false, ◌==◌, ◌&&◌, List, [], ◌∷◌, ◌++◌, codes, decimal, slice_get, unwrap_or, if◌then◌else◌}
 use Rattle.std.specs.Fmt.{signed_decimal}
 use Rattle.grammar.specs.Pieces.{Text}
 use Rattle.st_read.specs.declared.error.StErr.{StErr}
@@ -19,11 +19,27 @@ use Rattle.cif_run.specs.declared.status.ProfileWhy.{ProfileWhy}
 use Rattle.cif_run.specs.declared.status.ProfileWhy.TheVariants as profile
 use Rattle.cif_run.specs.declared.status.StRefusal.{StRefusal}
 use Rattle.cif_run.specs.declared.status.StRefusal.TheVariants as refusal
+use Rattle.cif_run.specs.declared.status.StopWhy.{StopWhy}
+use Rattle.cif_run.specs.declared.status.StopWhy.TheVariants as stop
 use Rattle.cif_run.specs.declared.ended.Ended.{Ended}
 
 -- a word of the command line, counted from 0
 abbrev pub word : List Text → ℕ → Text
 word words k = unwrap_or (slice_get words k) []
+
+-- the word begins with `--`
+abbrev pub begins_option : Text → Bool
+begins_option [] = false
+begins_option (a ∷ []) = false
+begins_option (a ∷ b ∷ t) = a == 45 && b == 45
+
+-- the place of the word before the first log, of `trace FILE [--unc N] [--con N] LOG {LOG}`
+abbrev pub before_logs : List Text → ℕ
+before_logs words = if begins_option (word words 2) then (if begins_option (word words 4) then 5 else 3) else 1
+
+-- the word of a log, counted from 1
+abbrev pub log_word : List Text → ℕ → Text
+log_word words k = word words (before_logs words + k)
 
 abbrev pub joined : List Text → Text
 joined [] = []
@@ -106,12 +122,22 @@ scan_text variable scan.ZeroDivide = codes "41 ZeroDivide"
 scan_text variable (scan.SubrangeLeft k z) = subrange_text variable z
 scan_text variable scan.Budget = codes "43 Budget"
 
+-- why a script stops at a line
+abbrev pub stop_text : StopWhy → Text
+stop_text (stop.OutOfRange z) = joined (codes "26 OutOfRange value " ∷ signed_decimal z ∷ [])
+stop_text stop.NotEnabled = codes "27 NotEnabled"
+stop_text stop.BadLine = codes "29 BadLine"
+
 -- what is told of a file
 abbrev pub file_line : Text → Text → Text
 file_line name what = joined (codes "cif: " ∷ name ∷ codes ": " ∷ what ∷ codes "\n" ∷ [])
 
+-- what is told of a row, a line or a scan of a file, counted from 1
+abbrev pub place_line : Text → Text → ℕ → Text → Text
+place_line name place k what = joined (codes "cif: " ∷ name ∷ place ∷ decimal k ∷ codes ": " ∷ what ∷ codes "\n" ∷ [])
+
 abbrev pub scan_line : Text → ℕ → Text → Text
-scan_line name k what = joined (codes "cif: " ∷ name ∷ codes ": row " ∷ decimal k ∷ codes ": " ∷ what ∷ codes "\n" ∷ [])
+scan_line name k what = place_line name (codes ": row ") k what
 
 -- a file that may have so many bytes
 abbrev pub too_big_line : Text → ℕ → Text
@@ -131,6 +157,10 @@ line_of words variable limit (status.StRefused why) = file_line (word words 1) (
 line_of words variable limit (status.RowRefused why) = file_line (word words 2) (row_text why)
 line_of words variable limit (status.ScanFault k e) = scan_line (word words 1) k (scan_text variable e)
 line_of words variable limit (status.Budget k) = scan_line (word words 1) k (scan_text variable scan.Budget)
+line_of words variable limit (status.Stopped k why) = place_line (word words 2) (codes ": line ") k (stop_text why)
+line_of words variable limit (status.BadTrace log k) = place_line (log_word words log) (codes ": scan ") k (codes "not legal")
+line_of words variable limit (status.LogRefused log k) = place_line (log_word words log) (codes ": line ") k (codes "53 LogLine")
+line_of words variable limit status.NoEvent = codes "cif: 54 NoEvent\n"
 
 -- the line of a command that ended so
 abbrev pub line_at : List Text → Ended → Text

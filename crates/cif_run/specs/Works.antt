@@ -4,7 +4,7 @@ use Rattle.std.specs.Prelude.{◌≡◌, ℕ, ◌<◌, ◌≤◌, ◌⊎◌, len
 use Rattle.grammar.specs.Pieces.{Text}
 use Rattle.cif_io.specs.Faults.{Rose}
 use Rattle.cif_io.specs.Written.{grown}
-use Rattle.cif_run.specs.Groups.{Group, done, unread, too_long, unwritten, wanting, judged, group_of}
+use Rattle.cif_run.specs.Groups.{Group, done, unread, too_long, unwritten, wanting, judged, halted, group_of}
 use Rattle.cif_run.specs.declared.status.Status.{Status}
 use Rattle.cif_run.specs.declared.ended.Ended.{Ended}
 
@@ -26,10 +26,33 @@ pub record Input : Type 0 where
 pub record Work : Type 1 where
   -- the file is asked for
   pub asks : Input → Type 0
-  -- the text may be written
+  -- the text may be written whole
   pub writes : Text → Type 0
+  -- a beginning of the text may be written
+  pub parts : Text → Type 0
   -- it may end with this status, of the group `judged`, where a variable that the status tells of has this name
   pub ends : Status → Text → Type 0
+  -- it may end with this status, of the group `halted`, after it wrote this text
+  pub halts : Status → Text → Type 0
+  -- what may be written whole has beginnings that may be written
+  pub whole_begins : (text : Text) → writes text → parts text
+  pub halted_begins : (s : Status) (text : Text) → halts s text → parts text
+
+-- a command that writes nothing before its whole text is built: only that text has a beginning that may be written, and it never halts
+abbrev pub whole_work : (Input → Type 0) → (Text → Type 0) → (Status → Text → Type 0) → Work
+whole_work asks writes ends = record {
+  asks = asks;
+  writes = writes;
+  parts = writes;
+  ends = ends;
+  halts = λ s text. ⊥;
+  whole_begins = λ text h. h;
+  halted_begins = λ s text h. absurd h;
+}
+
+-- the work that writes this text alone, whatever it is
+abbrev pub text_work : Text → Work
+text_work text = whole_work (λ i. ⊥) (λ t. t ≡ text) (λ s name. ⊥)
 
 -- what the files of a call hold, and their counts before and after it
 pub record Reading : Type 0 where
@@ -77,6 +100,7 @@ FileEnds c i limit wanting = Unit {0}
 FileEnds c i limit done = ⊥
 FileEnds c i limit unwritten = ⊥
 FileEnds c i limit judged = ⊥
+FileEnds c i limit (halted s) = ⊥
 
 -- ---- how a call ended
 
@@ -88,6 +112,7 @@ StopsIn w c e wanting = Unit {0}
 StopsIn w c e judged = w.ends e.status e.variable
 StopsIn w c e done = ⊥
 StopsIn w c e unwritten = ⊥
+StopsIn w c e (halted s) = ⊥
 
 abbrev pub Stops : Work → Reading → Ended → Type 0
 Stops w c e = StopsIn w c e (group_of e.status)
@@ -97,26 +122,28 @@ abbrev pub GrewByPart : Text → Option Text → Option Text → Type 0
 GrewByPart text old new = (n : ℕ) × (n ≤ length text) × (new ≡ grown old (take n text))
 
 -- what became of the text, by the group of the status
-abbrev pub WroteIn : Text → Writing → Group → Type 0
-WroteIn text o done = o.new ≡ grown o.old text
-WroteIn text o unwritten = Rose o.faults o.faults_after × GrewByPart text o.old o.new
-WroteIn text o wanting = GrewByPart text o.old o.new
-WroteIn text o (unread k) = ⊥
-WroteIn text o (too_long k) = ⊥
-WroteIn text o judged = ⊥
+abbrev pub WroteIn : Work → Text → Writing → Group → Type 0
+WroteIn w text o done = w.writes text × (o.new ≡ grown o.old text)
+WroteIn w text o unwritten = w.parts text × Rose o.faults o.faults_after × GrewByPart text o.old o.new
+WroteIn w text o wanting = w.parts text × GrewByPart text o.old o.new
+WroteIn w text o (halted s) = w.halts s text × (o.new ≡ grown o.old text)
+WroteIn w text o (unread k) = ⊥
+WroteIn w text o (too_long k) = ⊥
+WroteIn w text o judged = ⊥
 
--- A call of a command came to its end: there is no text and nothing was written, or a text that it may write went to the
--- output.
+-- A call of a command came to its end: there is no text and nothing was written, or a text went to the output that it may write so.
 abbrev pub Comes : Work → Reading → Writing → Ended → Type 0
-Comes w c o e = (Stops w c e × (o.new ≡ o.old)) ⊎ ((text : Text) × w.writes text × WroteIn text o (group_of e.status))
+Comes w c o e = (Stops w c e × (o.new ≡ o.old)) ⊎ ((text : Text) × WroteIn w text o (group_of e.status))
 
 -- ---- what the output has
 
--- what the output has, by the group of the status: the text of the command, the beginning of one, or nothing more
+-- what the output has, by the group of the status: the text of the command, the beginning of one, the text up to where it stopped, or
+-- nothing more
 abbrev pub OutputIn : Work → Option Text → Option Text → Group → Type 0
 OutputIn w old new done = (text : Text) × w.writes text × (new ≡ grown old text)
-OutputIn w old new unwritten = (text : Text) × w.writes text × GrewByPart text old new
-OutputIn w old new wanting = (new ≡ old) ⊎ ((text : Text) × w.writes text × GrewByPart text old new)
+OutputIn w old new unwritten = (text : Text) × w.parts text × GrewByPart text old new
+OutputIn w old new wanting = (new ≡ old) ⊎ ((text : Text) × w.parts text × GrewByPart text old new)
+OutputIn w old new (halted s) = (text : Text) × w.halts s text × (new ≡ grown old text)
 OutputIn w old new (unread k) = new ≡ old
 OutputIn w old new (too_long k) = new ≡ old
 OutputIn w old new judged = new ≡ old

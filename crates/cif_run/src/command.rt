@@ -1,7 +1,8 @@
 //! A command over files, and its run: nothing goes to the output before the whole text is built.
 
 ghost use Rattle.std.specs.Prelude.{◌≡◌, ◌≤◌, ℕ, List, Option, IfOk, IfErr};
-ghost use Rattle.cif_run.specs.Works.{Work, Comes, Stops, reading, writing};
+ghost use Rattle.cif_run.specs.Groups.{group_of};
+ghost use Rattle.cif_run.specs.Works.{Work, Comes, Stops, WroteIn, reading, text_work, writing};
 
 use crate::ended::Ended;
 use crate::status::Status;
@@ -23,7 +24,22 @@ pub trait Command {
         ensures most_stays_or_rises { (n : List ℕ) → F.most files.old n ≤ F.most files.new n };
 }
 
+/// Writes a text that is built, up to what is told on the standard error.
+pub fn put_text<O: Sink>(alloc: Global, text: Vec<u8>, out: &mut O) -> Ended
+    ensures wrote { WroteIn (text_work text.items) text.items
+        (writing (O.written out.old) (O.written out.new) (O.faults out.old) (O.faults out.new)) (group_of result.status) }
+    ensures out_faults_stay_or_rise { O.faults out.old ≤ O.faults out.new }
+{
+    let status = match put_all(out, text.as_slice()) {
+        Ok(()) => Status::Done,
+        Err(SinkErr::Failed) => Status::WriteFault,
+        Err(SinkErr::Memory) => Status::Memory,
+    };
+    Ended::plain(alloc, status)
+}
+
 /// Runs a command, up to what is told on the standard error.
+#[tactic(auto, using(crate::proofs::CallLaws::put_comes))]
 pub fn run<C: Command, F: Files, O: Sink>(
     alloc: Global,
     command: &C,
@@ -38,14 +54,8 @@ pub fn run<C: Command, F: Files, O: Sink>(
     ensures most_stays_or_rises { (n : List ℕ) → F.most files.old n ≤ F.most files.new n }
     ensures out_faults_stay_or_rise { O.faults out.old ≤ O.faults out.new }
 {
-    let text = match command.text(alloc, files) {
-        Ok(text) => text,
-        Err(ended) => return ended,
-    };
-    let status = match put_all(out, text.as_slice()) {
-        Ok(()) => Status::Done,
-        Err(SinkErr::Failed) => Status::WriteFault,
-        Err(SinkErr::Memory) => Status::Memory,
-    };
-    Ended::plain(alloc, status)
+    match command.text(alloc, files) {
+        Ok(text) => put_text(alloc, text, out),
+        Err(ended) => ended,
+    }
 }

@@ -8,8 +8,8 @@ mod reading;
 mod status;
 mod telling;
 
-pub use command::{Command, run};
+pub use command::{Command, put_text, run};
 pub use ended::Ended;
 pub use reading::read_file;
-pub use status::{ProfileWhy, Refusal, StRefusal, Status, code};
+pub use status::{ProfileWhy, Refusal, StRefusal, Status, StopWhy, code};
 pub use telling::report;

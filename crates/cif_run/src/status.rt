@@ -84,6 +84,17 @@ pub enum StRefusal {
     Check(StCheckErr),
 }
 
+/// Why a script stops at a line.
+#[derive(Clone, Copy, Debug, PartialEq, Eq)]
+pub enum StopWhy {
+    /// The value is outside the range of the input that the line sets.
+    OutOfRange { value: i64 },
+    /// The event has no step from the state reached.
+    NotEnabled,
+    /// The line has none of the forms of a script's line, or its name or value denotes nothing of that sort.
+    BadLine,
+}
+
 /// How a call of the tool ends. `word` is the number of a word of the command line, counted from 0.
 #[derive(Clone, Copy, Debug, PartialEq, Eq)]
 pub enum Status {
@@ -111,6 +122,14 @@ pub enum Status {
     ScanFault { row: u32, fault: ScanErr },
     /// The scan of that row, counted from 1, takes more loop turns than a scan has.
     Budget { row: u32 },
+    /// The script stops at that line, counted from 1. What it wrote before stands in the output.
+    Stopped { line: u32, why: StopWhy },
+    /// That scan of that log is not legal, both counted from 1.
+    BadTrace { log: u32, scan: u32 },
+    /// That line of that log is refused, both counted from 1.
+    LogRefused { log: u32, line: u32 },
+    /// No event has the path.
+    NoEvent,
 }
 
 /// The exit code of a status.
@@ -130,5 +149,9 @@ pub fn code(status: &Status) -> u8
         Status::RowRefused { .. } => 10,
         Status::ScanFault { .. } => 11,
         Status::Budget { .. } => 12,
+        Status::Stopped { .. } => 13,
+        Status::BadTrace { .. } => 14,
+        Status::LogRefused { .. } => 15,
+        Status::NoEvent => 16,
     }
 }

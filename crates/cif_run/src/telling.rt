@@ -1,6 +1,6 @@
 //! The line that is told of a status on the standard error.
 
-ghost use Rattle.std.specs.Prelude.{◌≡◌, ◌≤◌, map, string_bytes, IfOk};
+ghost use Rattle.std.specs.Prelude.{◌≡◌, ◌≤◌, codes, map, string_bytes, IfOk};
 ghost use Rattle.std.specs.Fmt.{signed_decimal};
 ghost use Rattle.cif_io.specs.Faults.{Rose};
 ghost use Rattle.cif_run.specs.Groups.{IsUnlessMemory};
@@ -8,7 +8,7 @@ ghost use Rattle.cif_run.specs.Tells.{Tells};
 ghost use Rattle.cif_run.specs.Lines as lines;
 
 use crate::ended::Ended;
-use crate::status::{ProfileWhy, Refusal, StRefusal, Status};
+use crate::status::{ProfileWhy, Refusal, StRefusal, Status, StopWhy};
 use cif_base::{Memory, Text, put_int};
 use cif_io::{Sink, SinkErr, put_all};
 use plc_rows::RowErr;
@@ -18,13 +18,44 @@ use st_scan::ScanErr;
 use std::alloc::Global;
 
 /// A word of the command line, counted from 0.
-fn word(words: &[String], k: u32) -> &[u8]
+fn word(words: &[String], k: usize) -> &[u8]
     ensures { result.now ≡ lines.word (map string_bytes words.now) k }
 {
-    match words.get(k as usize) {
+    match words.get(k) {
         Some(word) => word.as_bytes(),
         None => b"",
     }
+}
+
+/// Whether the word begins with `--`.
+fn begins_option(word: &[u8]) -> bool
+    ensures { result ≡ lines.begins_option word.now }
+{
+    match word {
+        [first, second, ..] => *first == b'-' && *second == b'-',
+        [] | [_] => false,
+    }
+}
+
+/// The place of the word before the first log: that of FILE, or of the number of the last option.
+fn before_logs(words: &[String]) -> usize
+    ensures { result ≡ lines.before_logs (map string_bytes words.now) }
+{
+    if !begins_option(word(words, 2)) {
+        1
+    } else if !begins_option(word(words, 4)) {
+        3
+    } else {
+        5
+    }
+}
+
+/// The word of a log, counted from 1.
+fn log_word(words: &[String], log: u32) -> &[u8]
+    ensures { result.now ≡ lines.log_word (map string_bytes words.now) log }
+{
+    let before = before_logs(words);
+    word(words, before + log as usize)
 }
 
 /// The texts one after the other.
@@ -212,6 +243,20 @@ fn scan_text(alloc: Global, variable: &[u8], error: ScanErr) -> Result<Text, Mem
     }
 }
 
+/// Why a script stops at a line.
+fn stop_text(alloc: Global, why: StopWhy) -> Result<Text, Memory>
+    ensures { IfOk result (λ text. text ≡ lines.stop_text why) }
+{
+    match why {
+        StopWhy::OutOfRange { value } => {
+            let value = decimal_text(alloc, value)?;
+            joined(alloc, &[b"26 OutOfRange value ", value.as_slice()])
+        }
+        StopWhy::NotEnabled => Text::from_slice(alloc, b"27 NotEnabled"),
+        StopWhy::BadLine => Text::from_slice(alloc, b"29 BadLine"),
+    }
+}
+
 /// What is told of a file.
 fn file_line(alloc: Global, name: &[u8], what: &[u8]) -> Result<Text, Memory>
     ensures { IfOk result (λ line. line ≡ lines.file_line name.now what.now) }
@@ -219,23 +264,43 @@ fn file_line(alloc: Global, name: &[u8], what: &[u8]) -> Result<Text, Memory>
     joined(alloc, &[b"cif: ", name, b": ", what, b"\n"])
 }
 
-/// What is told of a row.
-fn scan_line(alloc: Global, name: &[u8], row: u32, what: &[u8]) -> Result<Text, Memory>
-    ensures { IfOk result (λ line. line ≡ lines.scan_line name.now row what.now) }
+/// What is told of a row, a line or a scan of a file, counted from 1.
+fn place_line<'a>(
+    alloc: Global,
+    name: &'a [u8],
+    place: &'a [u8],
+    number: u32,
+    what: &'a [u8],
+) -> Result<Text, Memory>
+    ensures { IfOk result (λ line. line ≡ lines.place_line name.now place.now number what.now) }
 {
-    let row = decimal_text(alloc, row as i64)?;
+    let number = decimal_text(alloc, number as i64)?;
     joined(
         alloc,
-        &[
-            b"cif: ",
-            name,
-            b": row ",
-            row.as_slice(),
-            b": ",
-            what,
-            b"\n",
-        ],
+        &[b"cif: ", name, place, number.as_slice(), b": ", what, b"\n"],
     )
+}
+
+/// What is told of the scan of a row that ends in a fault.
+fn fault_line(
+    alloc: Global,
+    words: &[String],
+    variable: &[u8],
+    row: u32,
+    fault: ScanErr,
+) -> Result<Text, Memory>
+    ensures { IfOk result (λ line. line ≡ lines.scan_line (lines.word (map string_bytes words.now) 1) row (lines.scan_text variable.now fault)) }
+{
+    let what = scan_text(alloc, variable, fault)?;
+    place_line(alloc, word(words, 1), b": row ", row, what.as_slice())
+}
+
+/// What is told of a script that stops.
+fn stop_line(alloc: Global, words: &[String], line: u32, why: StopWhy) -> Result<Text, Memory>
+    ensures { IfOk result (λ text. text ≡ lines.place_line (lines.word (map string_bytes words.now) 2) (codes ": line ") line (lines.stop_text why)) }
+{
+    let what = stop_text(alloc, why)?;
+    place_line(alloc, word(words, 2), b": line ", line, what.as_slice())
 }
 
 /// A file that may have so many bytes.
@@ -270,11 +335,11 @@ fn line(
         Status::Usage => Text::from_slice(alloc, b"cif: not a command line\n"),
         Status::ReadFault { word: k } => joined(
             alloc,
-            &[b"cif: cannot read ", word(words, k), b"\n"],
+            &[b"cif: cannot read ", word(words, k as usize), b"\n"],
         ),
         Status::WriteFault => Text::from_slice(alloc, b"cif: cannot write\n"),
         Status::Memory => Text::from_slice(alloc, b"cif: out of memory\n"),
-        Status::TooBig { word: k } => too_big_line(alloc, word(words, k), limit),
+        Status::TooBig { word: k } => too_big_line(alloc, word(words, k as usize), limit),
         Status::Refused { why } => {
             let what = refusal_text(alloc, variable, why)?;
             file_line(alloc, word(words, 1), what.as_slice())
@@ -291,14 +356,16 @@ fn line(
             let what = row_text(alloc, why)?;
             file_line(alloc, word(words, 2), what.as_slice())
         }
-        Status::ScanFault { row, fault } => {
-            let what = scan_text(alloc, variable, fault)?;
-            scan_line(alloc, word(words, 1), row, what.as_slice())
+        Status::ScanFault { row, fault } => fault_line(alloc, words, variable, row, fault),
+        Status::Budget { row } => fault_line(alloc, words, variable, row, ScanErr::Budget),
+        Status::Stopped { line, why } => stop_line(alloc, words, line, why),
+        Status::BadTrace { log, scan } => {
+            place_line(alloc, log_word(words, log), b": scan ", scan, b"not legal")
         }
-        Status::Budget { row } => {
-            let what = scan_text(alloc, variable, ScanErr::Budget)?;
-            scan_line(alloc, word(words, 1), row, what.as_slice())
+        Status::LogRefused { log, line } => {
+            place_line(alloc, log_word(words, log), b": line ", line, b"53 LogLine")
         }
+        Status::NoEvent => Text::from_slice(alloc, b"cif: 54 NoEvent\n"),
     }
 }
 
