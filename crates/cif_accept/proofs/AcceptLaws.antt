@@ -10,7 +10,7 @@ use Rattle.cif_run.specs.declared.status.Refusal.{Refusal}
 use Rattle.cif_run.specs.declared.ended.Ended.{Ended}
 use Rattle.cif_run.specs.Groups.{group_of, IsUnlessMemory}
 use Rattle.cif_run.specs.Works.{Comes, Content, Failed, Holds, Input, IsLonger, Overlong, Reading, StopsIn, Unread, Work, Writing}
-use Rattle.cif_run.proofs.CallLaws.{IsWithin, answers, came_how, ended_so, finished}
+use Rattle.cif_run.proofs.CallLaws.{IsWhole, IsWithin, answers, came_whole, ended_so, finished}
 use Rattle.cif_source.specs.Source.{Source}
 use Rattle.cif_front.specs.Loads.{ReadsAsSource}
 use Rattle.cif_accept.specs.Refused.{HasTooMany, IsRefused}
@@ -41,7 +41,9 @@ pub silent_within : (content : Content) (file : Text) (P : Source → Text → T
 silent_within content file P E = record {
   asks = λ i h. h;
   writes = λ text h. absurd h.2;
+  parts = λ text h. absurd h.2;
   ends = λ s name h. elim h [ inl x ↦ inl x | inr x ↦ absurd x.2 ];
+  halts = λ s text h. absurd h;
 }
 
 -- ---- the clauses
@@ -66,6 +68,9 @@ module _ (file : Text) (P : Source → Text → Type 0) (E : CommandEnds) (c : R
     (came : Comes (source_work c.content file P E) c o e) (r : Status) (same : IsUnlessMemory r e.status) where
   abbrev work : Work
   work = source_work c.content file P E
+
+  whole : IsWhole work
+  whole = record { parts = λ text h. h; never = λ s text h. h }
 
   pub refused : TellsItsOwn E → (why : Refusal) → r ≡ status.Refused why → SourceRefused c.content file why
   refused own why q = elim (ended_so work c o e came r same (status.Refused why) (λ z. cc) refl q) [
@@ -98,7 +103,7 @@ module _ (file : Text) (P : Source → Text → Type 0) (E : CommandEnds) (c : R
     )
 
     pub longer_is_too_big : source_limit < length bytes → IsUnlessMemory r (status.TooBig 1)
-    longer_is_too_big more = came_how work c o e came r same (IsUnlessMemory r (status.TooBig 1)) (λ k h. absurd (read k h))
+    longer_is_too_big more = came_whole work c o e came r same whole (IsUnlessMemory r (status.TooBig 1)) (λ k h. absurd (read k h))
         (λ k is h. answers work c o e came r same (status.TooBig 1) (is ∙ ap (λ n. status.TooBig n) (long k h).0))
         (λ h. elim h [
           | inl x ↦ elim (refused_as c.content file e.status e.variable x) [
@@ -120,7 +125,7 @@ module _ (file : Text) (P : Source → Text → Type 0) (E : CommandEnds) (c : R
       pub other_text_is_refused : ((t : Source) → ReadsAsSource bytes t → ⊥)
           → ((why : Refusal) × (r ≡ status.Refused why)) ⊎ ((count : ℕ) × (r ≡ status.OutsideProfile (profile.TooManyChoices count))) ⊎ (r ≡ status.Memory)
       other_text_is_refused none =
-          came_how work c o e came r same (((why : Refusal) × (r ≡ status.Refused why)) ⊎ ((count : ℕ) × (r ≡ status.OutsideProfile (profile.TooManyChoices count))) ⊎ (r ≡ status.Memory))
+          came_whole work c o e came r same whole (((why : Refusal) × (r ≡ status.Refused why)) ⊎ ((count : ℕ) × (r ≡ status.OutsideProfile (profile.TooManyChoices count))) ⊎ (r ≡ status.Memory))
           (λ k h. absurd (read k h))
           (λ k is h. absurd (not_long k h))
           (λ h. elim h [
@@ -146,14 +151,14 @@ module _ (file : Text) (P : Source → Text → Type 0) (E : CommandEnds) (c : R
         -- a source that breaks no rule has its text, or the command tells of it
         pub of_source : (B : Type 0) → (E t e.status e.variable → B) → ((text : Text) → P t text → (Rose o.faults o.faults_after → ⊥) → IsUnlessMemory r status.Done → B)
             → (Rose o.faults o.faults_after → ⊥) → (r ≡ status.Memory → B) → B
-        of_source B ends wrote quiet memory = came_how work c o e came r same B
+        of_source B ends wrote quiet memory = came_whole work c o e came r same whole B
             (λ k h. absurd (read k h))
             (λ k is h. absurd (not_long k h))
             (λ h. elim h [
               | inl x ↦ absurd (not_refused x)
               | inr x ↦ ends (subst (λ u. E u e.status e.variable) (this x.0 x.1) x.2)
             ])
-            (λ text h w. wrote text (subst (λ u. P u text) (this h.0 h.1) h.2) quiet (finished work c o e came r same quiet text e.status refl w))
+            (λ text h w. wrote text (subst (λ u. P u text) (this h.0 h.1) h.2) quiet (finished work c o e came r same quiet whole.never text e.status refl w))
             memory
 
         pub source_is_done : (Rose o.faults o.faults_after → ⊥) → ((s : Status) (name : Text) → E t s name → ⊥) → IsUnlessMemory r status.Done
@@ -161,7 +166,7 @@ module _ (file : Text) (P : Source → Text → Type 0) (E : CommandEnds) (c : R
 
         -- what has no text is told by the command, whether the output fails or not
         pub told_of : (B : Type 0) → (E t e.status e.variable → B) → ((text : Text) → P t text → ⊥) → (r ≡ status.Memory → B) → B
-        told_of B ends none memory = came_how work c o e came r same B
+        told_of B ends none memory = came_whole work c o e came r same whole B
             (λ k h. absurd (read k h))
             (λ k is h. absurd (not_long k h))
             (λ h. elim h [

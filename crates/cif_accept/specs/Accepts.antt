@@ -5,7 +5,7 @@ use Rattle.cif_run.specs.declared.status.Status.{Status}
 use Rattle.cif_run.specs.declared.status.Status.TheVariants as status
 use Rattle.cif_run.specs.declared.status.ProfileWhy.TheVariants as profile
 use Rattle.cif_run.specs.declared.status.Refusal.{Refusal}
-use Rattle.cif_run.specs.Works.{Content, Holds, Input, Work}
+use Rattle.cif_run.specs.Works.{Content, Holds, Input, Work, whole_work}
 use Rattle.cif_net.specs.declared.guarded.Guarded.{Guarded}
 use Rattle.cif_net.specs.View.{net_tree}
 use Rattle.cif_front.specs.Loads.{Stands}
@@ -63,11 +63,10 @@ no_ends t s name = ⊥
 
 -- a command that may write these texts of the source in this file, and end so
 abbrev pub source_work : Content → Text → (Source → Text → Type 0) → CommandEnds → Work
-source_work content file P E = record {
-  asks = λ i. i ≡ source_input file;
-  writes = λ text. (t : Source) × SourceIs content file t × P t text;
-  ends = λ s name. FileRefused content file s name ⊎ ((t : Source) × SourceIs content file t × E t s name);
-}
+source_work content file P E = whole_work
+    (λ i. i ≡ source_input file)
+    (λ text. (t : Source) × SourceIs content file t × P t text)
+    (λ s name. FileRefused content file s name ⊎ ((t : Source) × SourceIs content file t × E t s name))
 
 -- the same of one that writes none
 abbrev pub silent_work : Content → Text → Work

@@ -19,7 +19,7 @@ use Rattle.cif_run.specs.declared.status.StRefusal.{StRefusal}
 use Rattle.cif_run.specs.declared.ended.Ended.{Ended}
 use Rattle.cif_run.specs.Groups.{group_of, IsUnlessMemory}
 use Rattle.cif_run.specs.Works.{Comes, Content, Failed, Holds, Input, IsLonger, Reading, Unread, Work, WroteIn, Writing}
-use Rattle.cif_run.proofs.CallLaws.{came_how, ended_so, finished, written}
+use Rattle.cif_run.proofs.CallLaws.{IsWhole, came_whole, ended_so, finished, written}
 use Rattle.cif_run.proofs.CallLaws as call
 use Rattle.cif_replay.specs.Words.{Replay}
 use Rattle.cif_replay.specs.Replaying.{AllEnd, AreRowsRefused, ComesTo, IsRowRefused, IsStRefused, IsTableFor, Reads, StopsAt, status_of_scan}
@@ -41,6 +41,9 @@ ended_how content x B _ name h a b c d = absurd h
 module _ (x : Replay) (c : Reading) (o : Writing) (e : Ended) (came : Comes (replay_work x c.content) c o e) (r : Status) (same : IsUnlessMemory r e.status) where
   abbrev work : Work
   work = replay_work x c.content
+
+  whole : IsWhole work
+  whole = record { parts = λ text h. h; never = λ s text h. h }
 
   answer : (t : Status) → e.status ≡ t → IsUnlessMemory r t
   answer = call.answers work c o e came r same
@@ -83,7 +86,7 @@ module _ (x : Replay) (c : Reading) (o : Writing) (e : Ended) (came : Comes (rep
 
     pub longer_program_is_too_big : st_limit < length st → IsUnlessMemory r (status.TooBig 1)
     longer_program_is_too_big more =
-        came_how work c o e came r same (IsUnlessMemory r (status.TooBig 1))
+        came_whole work c o e came r same whole (IsUnlessMemory r (status.TooBig 1))
         (λ k h. elim h.1 [ inl a ↦ absurd (not_first h.0 a h.3) | inr a ↦ not_short (at_first Reads a.1).0 ])
         (λ k is h. elim h.1 [
           | inl a ↦ answer (status.TooBig 1) (is ∙ ap (λ n. status.TooBig n) (sym h.2 ∙ ap (λ (i : Input). i.word) a))
@@ -106,7 +109,7 @@ module _ (x : Replay) (c : Reading) (o : Writing) (e : Ended) (came : Comes (rep
     pub other_program_is_refused : length st ≤ st_limit → ((p : Program) → ReadsAsProgram st p → ⊥)
         → ((why : StRefusal) × (r ≡ status.StRefused why)) ⊎ (r ≡ status.Memory)
     other_program_is_refused short none =
-        came_how work c o e came r same Refused
+        came_whole work c o e came r same whole Refused
         (λ k h. elim h.1 [ inl a ↦ absurd (not_first h.0 a h.3) | inr a ↦ absurd (let q = (at_first Reads a.1).1 in none q.0 q.1) ])
         (λ k is h. elim h.1 [
           | inl a ↦ let q = long_first h.0 a h.3 in absurd (omega (arith, q, short))
@@ -149,7 +152,7 @@ module _ (x : Replay) (c : Reading) (o : Writing) (e : Ended) (came : Comes (rep
 
       pub longer_rows_are_too_big : Reads st → rows_limit < length rows → IsUnlessMemory r (status.TooBig 2)
       longer_rows_are_too_big reads more =
-          came_how work c o e came r same (IsUnlessMemory r (status.TooBig 2))
+          came_whole work c o e came r same whole (IsUnlessMemory r (status.TooBig 2))
           (λ k h. absurd (no_file k h))
           (λ k is h. elim h.1 [
             | inl a ↦ let q = long_first h.0 a h.3 in absurd (omega (arith, q, fits))
@@ -172,10 +175,10 @@ module _ (x : Replay) (c : Reading) (o : Writing) (e : Ended) (came : Comes (rep
             → ((why : RowErr) → e.status ≡ status.RowRefused why → AreRowsRefused st rows why → B)
             → ((k : ℕ) (f : ScanErr) → e.status ≡ status.ScanFault k f → (f ≡ scan.Budget → ⊥) → StopsAt st rows k (stopped f) → B)
             → ((k : ℕ) → e.status ≡ status.Budget k → StopsAt st rows k OutOfTurns → B)
-            → ((text : Text) → IsTableFor st rows text → WroteIn text o (group_of e.status) → B)
+            → ((text : Text) → IsTableFor st rows text → WroteIn work text o (group_of e.status) → B)
             → B
         both {B = B} m a b d t =
-            came_how work c o e came r same B (λ k h. absurd (no_file k h))
+            came_whole work c o e came r same whole B (λ k h. absurd (no_file k h))
             (λ k is h. elim h.1 [
               | inl q ↦ let z = long_first h.0 q h.3 in absurd (omega (arith, z, fits))
               | inr q ↦ let z = long_second h.0 q.0 h.3 in absurd (omega (arith, z, short))
@@ -232,4 +235,4 @@ module _ (x : Replay) (c : Reading) (o : Writing) (e : Ended) (came : Comes (rep
               (λ why is h. absurd (rows_not_refused p rows rs why are (of_this (λ z. IsRowRefused z rows why) h.0 h.3 h.2)))
               (λ j f is nb h. absurd (ended_stops_none p (start_memory p) rs j (stopped f) all (comes j (stopped f) h) (stopped_stops f)))
               (λ j is h. absurd (ended_stops_none p (start_memory p) rs j OutOfTurns all (comes j OutOfTurns h) out_of_turns_stops))
-              (λ text h w. finished work c o e came r same still text e.status refl w)
+              (λ text h w. finished work c o e came r same still whole.never text e.status refl w)

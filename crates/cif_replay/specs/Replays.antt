@@ -6,7 +6,7 @@ use Rattle.st_scan.specs.Endings.{stopped}
 use Rattle.st_scan.specs.declared.error.ScanErr.TheVariants as scan
 use Rattle.cif_run.specs.declared.status.Status.{Status}
 use Rattle.cif_run.specs.declared.status.Status.TheVariants as status
-use Rattle.cif_run.specs.Works.{Content, Holds, Input, Work}
+use Rattle.cif_run.specs.Works.{Content, Holds, Input, Work, whole_work}
 use Rattle.cif_replay.specs.Words.{Replay as Asked}
 use Rattle.cif_replay.specs.Replaying.{AreRowsRefused, IsStRefused, IsTableFor, Reads, StopsAt}
 use Rattle.cif_replay.specs.Ends.{IsNamedBy}
@@ -46,11 +46,10 @@ ReplayEnds content r _ name = ⊥
 
 -- The rows are asked for only where the file before them reads as a program.
 abbrev pub replay_work : Asked → Content → Work
-replay_work r content = record {
-  asks = λ i. (i ≡ st_input r) ⊎ ((i ≡ rows_input r) × OfFirst content r Reads);
-  writes = λ text. OfBoth content r (λ st rows. IsTableFor st rows text);
-  ends = ReplayEnds content r;
-}
+replay_work r content = whole_work
+    (λ i. (i ≡ st_input r) ⊎ ((i ≡ rows_input r) × OfFirst content r Reads))
+    (λ text. OfBoth content r (λ st rows. IsTableFor st rows text))
+    (ReplayEnds content r)
 
 -- what is asked for, as the code holds it
 abbrev pub replay_of : Replay → Asked

@@ -42,14 +42,22 @@ so_of words k q is P a asked h =
 
 -- what the command does, the tool does, and the other way round
 pub within_tool : (words : List Text) (content : Content) (a : Asked) → IsAsked words a → IsWithin (work_of a.command a.request content) (tool_work words content)
-within_tool words content a is = record { asks = λ i h. (a, is, h); writes = λ text h. (a, is, h); ends = λ s name h. inl (a, is, h) }
+within_tool words content a is = record {
+  asks = λ i h. (a, is, h);
+  writes = λ text h. (a, is, h);
+  parts = λ text h. (a, is, h);
+  ends = λ s name h. inl (a, is, h);
+  halts = λ s text h. (a, is, h);
+}
 
 pub of_tool : (words : List Text) (content : Content) (k : Command) (q : Request k) → IsFor k words q → IsWithin (tool_work words content) (work_of k q content)
 of_tool words content k q is = record {
   asks = λ i h. so_of words k q is (λ j p. (work_of j p content).asks i) h.0 h.1 h.2;
   writes = λ text h. so_of words k q is (λ j p. (work_of j p content).writes text) h.0 h.1 h.2;
+  parts = λ text h. so_of words k q is (λ j p. (work_of j p content).parts text) h.0 h.1 h.2;
   ends = λ s name h. elim h [
     | inl x ↦ so_of words k q is (λ j p. (work_of j p content).ends s name) x.0 x.1 x.2
     | inr x ↦ absurd (x.1 (record { command = k; request = q }) is)
   ];
+  halts = λ s text h. so_of words k q is (λ j p. (work_of j p content).halts s text) h.0 h.1 h.2;
 }

@@ -17,7 +17,7 @@ use Rattle.cif_run.specs.declared.status.StRefusal.{StRefusal}
 use Rattle.cif_run.specs.declared.ended.Ended.{Ended}
 use Rattle.cif_run.specs.Groups.{judged, group_of, IsUnlessMemory}
 use Rattle.cif_run.specs.Works.{Comes, Content, Reading, StopsIn, Writing}
-use Rattle.cif_run.proofs.CallLaws.{answers, came_how, ended_so, within_comes}
+use Rattle.cif_run.proofs.CallLaws.{answers, came_how, ended_so, within_comes, wrote_begins}
 use Rattle.cif_source.specs.Source.{Source}
 use Rattle.cif_front.specs.Loads.{ReadsAsSource}
 use Rattle.cif_accept.specs.Accepts.{CommandEnds, SourceHasTooMany, SourceIs, SourceRefused, no_ends, source_limit, source_work}
@@ -99,7 +99,7 @@ module _ (words : List Text) (c : Reading) (o : Writing) (e : Ended) (came : Com
         | inl a ↦ absurd (none a.0 a.1)
         | inr a ↦ answers (tool_work words c.content) c o e came r same status.Usage a.0
       ])
-      (λ text h w. absurd (none h.0 h.1))
+      (λ text h. let a = wrote_begins (tool_work words c.content) o text (group_of e.status) h in absurd (none a.0 a.1))
       (λ m. inr m)
 
   -- ---- a source

@@ -28,7 +28,11 @@ abbrev pub tool_work : List Text → Content → Work
 tool_work words content = record {
   asks = λ i. (a : Asked) × IsAsked words a × (work_of a.command a.request content).asks i;
   writes = λ text. (a : Asked) × IsAsked words a × (work_of a.command a.request content).writes text;
+  parts = λ text. (a : Asked) × IsAsked words a × (work_of a.command a.request content).parts text;
   ends = λ s name. ((a : Asked) × IsAsked words a × (work_of a.command a.request content).ends s name) ⊎ ((s ≡ status.Usage) × NoCommand words);
+  halts = λ s text. (a : Asked) × IsAsked words a × (work_of a.command a.request content).halts s text;
+  whole_begins = λ text h. (h.0, h.1, (work_of h.0.command h.0.request content).whole_begins text h.2);
+  halted_begins = λ s text h. (h.0, h.1, (work_of h.0.command h.0.request content).halted_begins s text h.2);
 }
 
 -- ---- a source
