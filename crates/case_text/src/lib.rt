@@ -1,5 +1,5 @@
 //! The notation of cases: what the programs of cases read from their standard input, and how they print what a call answers. A
-//! program of cases says what its calls are (`Calls`), and all of it is here.
+//! program of cases hands `run` what answers its calls, and all else is here.
 //!
 //! A line is printed as it stands, and the answer, each line of it behind two blanks, below it. A line is one of
 //!
@@ -27,5 +27,4 @@ pub use fault::Fault;
 pub use fields::{Fields, first_word, number};
 pub use files::file;
 pub use page::{Put, put_lines, put_text};
-pub use script::Calls;
 pub use stream::run;

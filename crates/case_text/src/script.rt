@@ -6,12 +6,6 @@ use crate::page::Put;
 use crate::texts::{Names, bytes_of};
 use std::alloc::Global;
 
-/// The calls of a program of cases.
-pub trait Calls {
-    /// Makes the call that a case names by its first word, and prints what it answers.
-    fn answer(&self, call: &str, fields: &Fields<'_>, page: &mut String) -> Result<(), Fault>;
-}
-
 /// What the lines so far leave: the names that they define, and how many calls they made.
 #[derive(Drop)]
 pub struct Script {
@@ -42,26 +36,34 @@ impl Script {
     }
 
     /// What is printed for a line: itself, and the answer where it is a case.
-    pub fn line<C: Calls>(&mut self, calls: &C, line: &str) -> Result<String, Fault> {
+    pub fn line<E: Into<Fault>, A: Fn(&str, &Fields<'_>, &mut String) -> Result<(), E>>(
+        &mut self,
+        answer: &A,
+        line: &str,
+    ) -> Result<String, Fault>
+        requires { A.IsAlwaysCallable answer.now }
+    {
         let mut page = String::from_str(self.alloc, line)?;
-        self.put_answer(calls, line, &mut page)?;
+        self.put_answer(answer, line, &mut page)?;
         Ok(page)
     }
 
     /// The end of a line, and the answer where it is a case.
-    fn put_answer<C: Calls>(
+    fn put_answer<E: Into<Fault>, A: Fn(&str, &Fields<'_>, &mut String) -> Result<(), E>>(
         &mut self,
-        calls: &C,
+        answer: &A,
         line: &str,
         page: &mut String,
-    ) -> Result<(), Fault> {
+    ) -> Result<(), Fault>
+        requires { A.IsAlwaysCallable answer.now }
+    {
         page.push('\n')?;
         let (word, rest) = first_word(line);
         match word {
             "" | "#" => Ok(()),
             "let" => self.define(rest),
-            "each" => self.each_byte(calls, rest, page),
-            _ => self.call(calls, line, page),
+            "each" => self.each_byte(answer, rest, page),
+            _ => self.call(answer, line, page),
         }
     }
 
@@ -73,11 +75,21 @@ impl Script {
     }
 
     /// `CALL FIELD | FIELD ..`
-    fn call<C: Calls>(&mut self, calls: &C, text: &str, page: &mut String) -> Result<(), Fault> {
+    fn call<E: Into<Fault>, A: Fn(&str, &Fields<'_>, &mut String) -> Result<(), E>>(
+        &mut self,
+        answer: &A,
+        text: &str,
+        page: &mut String,
+    ) -> Result<(), Fault>
+        requires { A.IsAlwaysCallable answer.now }
+    {
         let (word, rest) = first_word(text);
         self.calls = self.calls.saturating_add(1);
         let fields = Fields::new(self.alloc, &self.names, rest)?;
-        calls.answer(word, &fields, page)
+        match answer(word, &fields, page) {
+            Ok(()) => Ok(()),
+            Err(error) => Err(error.into()),
+        }
     }
 
     /// Takes `{byte}` for this byte.
@@ -87,26 +99,35 @@ impl Script {
     }
 
     /// The answer to a case where `{byte}` is this byte.
-    fn with_byte<C: Calls>(&mut self, calls: &C, text: &str, byte: u8) -> Result<String, Fault> {
+    fn with_byte<E: Into<Fault>, A: Fn(&str, &Fields<'_>, &mut String) -> Result<(), E>>(
+        &mut self,
+        answer: &A,
+        text: &str,
+        byte: u8,
+    ) -> Result<String, Fault>
+        requires { A.IsAlwaysCallable answer.now }
+    {
         self.define_byte(byte)?;
-        let mut answer = String::new(self.alloc);
-        self.call(calls, text, &mut answer)?;
+        let mut page = String::new(self.alloc);
+        self.call(answer, text, &mut page)?;
         self.names.forget();
-        Ok(answer)
+        Ok(page)
     }
 
     /// A case for each of the 256 bytes, with one answer for each run of bytes that have the same.
-    fn each_byte<C: Calls>(
+    fn each_byte<E: Into<Fault>, A: Fn(&str, &Fields<'_>, &mut String) -> Result<(), E>>(
         &mut self,
-        calls: &C,
+        answer: &A,
         text: &str,
         page: &mut String,
-    ) -> Result<(), Fault> {
-        let answer = self.with_byte(calls, text, 0)?;
-        let mut group = Group::new(0, answer);
+    ) -> Result<(), Fault>
+        requires { A.IsAlwaysCallable answer.now }
+    {
+        let first = self.with_byte(answer, text, 0)?;
+        let mut group = Group::new(0, first);
         for byte in 1..=255 {
-            let answer = self.with_byte(calls, text, byte)?;
-            group.add(byte, answer, page)?;
+            let next = self.with_byte(answer, text, byte)?;
+            group.add(byte, next, page)?;
         }
         Ok(group.put(page)?)
     }

@@ -2,8 +2,9 @@
 
 use case_text::{Fault, Fields, Put, file, first_word, number, put_lines};
 use cif_io::{MemFile, MemFiles, MemSink};
-use cif_tool::{Status, code, tool};
+use cif_tool::{NoGate, Status, code, tool};
 use std::alloc::Global;
+use std::thread::Threads;
 
 /// Files and sinks as a case asks for them: which reads fail, which writes of `out` fail and how many bytes one takes, and which
 /// writes of standard error fail.
@@ -78,7 +79,8 @@ fn put_ended(page: &mut String, status: Status, out: &[u8], err: &[u8]) -> Put {
 }
 
 /// Makes the call over these files, with this output and this standard error.
-fn put_run(
+fn put_run<R: Threads + Sync>(
+    rt: &R,
     alloc: Global,
     page: &mut String,
     words: &[String],
@@ -86,12 +88,18 @@ fn put_run(
     out: &mut MemSink,
     err: &mut MemSink,
 ) -> Put {
-    let status = tool(alloc, words, files, out, err);
+    let status = tool(rt, alloc, words, files, out, err, &NoGate);
     put_ended(page, status, out.as_slice(), err.as_slice())
 }
 
 /// Makes the call over the files and sinks that are asked for.
-fn put_tool(alloc: Global, page: &mut String, words: &[String], asked: Asked) -> Result<(), Fault> {
+fn put_tool<R: Threads + Sync>(
+    rt: &R,
+    alloc: Global,
+    page: &mut String,
+    words: &[String],
+    asked: Asked,
+) -> Result<(), Fault> {
     let Asked {
         files,
         reads,
@@ -102,12 +110,16 @@ fn put_tool(alloc: Global, page: &mut String, words: &[String], asked: Asked) ->
     let mut out = MemSink::new(alloc, takes.max(1), writes);
     let mut err = MemSink::new(alloc, 7, tells);
     let mut files = MemFiles::new(alloc, files, reads)?;
-    Ok(put_run(alloc, page, words, &mut files, &mut out, &mut err)?)
+    Ok(put_run(rt, alloc, page, words, &mut files, &mut out, &mut err)?)
 }
 
 /// `tool WORD.. | file NAME TEXT | reads N.. | writes N.. | takes N | tells N..`
-pub fn tool_case(fields: &Fields<'_>, page: &mut String) -> Result<(), Fault> {
+pub fn tool_case<R: Threads + Sync>(
+    rt: &R,
+    fields: &Fields<'_>,
+    page: &mut String,
+) -> Result<(), Fault> {
     let words = words(fields)?;
     let asked = all_asked(fields)?;
-    put_tool(fields.alloc, page, words.as_slice(), asked)
+    put_tool(rt, fields.alloc, page, words.as_slice(), asked)
 }

@@ -28,10 +28,13 @@ mod scopes;
 mod sources;
 mod tokens;
 
-use crate::calls::CifCalls;
-use case_text::run;
+use crate::calls::answer;
+use case_text::{Fault, Fields, run};
 use std::process::ExitCode;
 
 fn main(rt: HostRuntime) -> ExitCode {
-    run(&rt, &CifCalls)
+    let answers = |call: &str, fields: &Fields<'_>, page: &mut String| -> Result<(), Fault> {
+        answer(&rt, call, fields, page)
+    };
+    run(&rt, &answers)
 }

@@ -3,7 +3,7 @@
 #![tactic(auto)]
 
 use cif_io::{HostFiles, HostSink};
-use cif_tool::{Status, code, tool};
+use cif_tool::{NoGate, Status, code, tool};
 use std::process::ExitCode;
 use std::{env, io};
 
@@ -28,6 +28,14 @@ fn main(rt: HostRuntime) -> ExitCode {
     let mut files = HostFiles::new(&rt);
     let mut out = HostSink::out(&rt);
     let mut err = HostSink::err(&rt);
-    let status = tool(rt.alloc(), words.as_slice(), &mut files, &mut out, &mut err);
+    let status = tool(
+        &rt,
+        rt.alloc(),
+        words.as_slice(),
+        &mut files,
+        &mut out,
+        &mut err,
+        &NoGate,
+    );
     ExitCode::from(code(&status))
 }

@@ -33,19 +33,23 @@ ghost use Rattle.cif_replay.specs.Replaying.{AllEnd, AreRowsRefused, ComesTo, Is
 ghost use Rattle.cif_replay.specs.Replays.{OfBoth, OfFirst, rows_limit, st_limit};
 ghost use Rattle.cif_tool.specs.Asks.{Asked, AsksSource, Generated, IsAsked, NamesBoth, NamesSource, NoCommand, Quiet, tool_work};
 
+use cif_batch::Gate;
 use cif_check::check;
 use cif_generate::generate;
 use cif_io::{Files, Sink};
 use cif_replay::replay;
 use cif_run::{Ended, Status, report};
 use std::alloc::Global;
+use std::thread::Threads;
 
 /// Runs the command that the words ask for, up to what is told on the standard error.
-fn run_words<F: Files, O: Sink>(
+fn run_words<R: Threads + Sync, F: Files, O: Sink, G: Gate + Sync>(
+    _rt: &R,
     alloc: Global,
     words: &[String],
     files: &mut F,
     out: &mut O,
+    _gate: &G,
 ) -> Ended
     ensures came { Comes (tool_work (map string_bytes words.now) (F.content files.old))
         (reading (F.content files.old) (F.faults files.old) (F.faults files.new) (F.most files.new))
@@ -69,13 +73,16 @@ fn run_words<F: Files, O: Sink>(
 }
 
 /// Runs the command of the words after the program's name: `check FILE`, `generate FILE [--unc N] [--con N]`, where N is 1 to 10,000
-/// and 100 where the option is left out, or `replay ST ROWS`. Nothing goes to `out` before the whole text is built.
-pub fn tool<F: Files, O: Sink, E: Sink>(
+/// and 100 where the option is left out, or `replay ST ROWS`. Nothing goes to `out` before the whole text is built. Of these commands none
+/// starts a thread or enters the gate.
+pub fn tool<R: Threads + Sync, F: Files, O: Sink, E: Sink, G: Gate + Sync>(
+    rt: &R,
     alloc: Global,
     words: &[String],
     files: &mut F,
     out: &mut O,
     err: &mut E,
+    gate: &G,
 ) -> Status
     // After Done of `generate`: what was written is a program of the source, and every list of its scans is one of the
     // source's scans.
@@ -226,6 +233,6 @@ pub fn tool<F: Files, O: Sink, E: Sink>(
         (writing (O.written out.old) (O.written out.new) (O.faults out.old) (O.faults out.new))
         (E.written err.old) (E.written err.new) (Rose (E.faults err.old) (E.faults err.new)) result }
 {
-    let ended = run_words(alloc, words, files, out);
+    let ended = run_words(rt, alloc, words, files, out, gate);
     report(alloc, words, ended, err)
 }

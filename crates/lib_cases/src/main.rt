@@ -53,10 +53,10 @@ mod sources;
 mod stores;
 mod tables;
 
-use crate::calls::LibCalls;
+use crate::calls::answer;
 use case_text::run;
 use std::process::ExitCode;
 
 fn main(rt: HostRuntime) -> ExitCode {
-    run(&rt, &LibCalls)
+    run(&rt, &answer)
 }
