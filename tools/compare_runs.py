@@ -59,7 +59,7 @@ def is_number_of_steps(word):
 
 @functools.lru_cache(maxsize=1000)
 def lines_due(text):
-    """The lines of which a refused source is told one."""
+    """The refusals of which a source has one, as lines; none of a source that breaks no rule."""
     return judgement(text).lines
 
 
@@ -183,7 +183,7 @@ def worked_trials(has_why):
             yield Trial(words, files), Answer(status, out.encode(), line.encode())
     if has_why:
         for text, script, event, reasons in worked_runs.WHY:
-            yield why_trial(text, script, event), Answer(0, worked_runs.reasons_told(text, reasons).encode(), b"")
+            yield why_trial(text, script, event), Answer(0, worked_runs.reasons_written(text, reasons).encode(), b"")
         for text, script, event, status, line in worked_runs.UNEXPLAINED:
             yield why_trial(text, script, event), Answer(status, b"", f"cif: {line}\n".encode())
 
@@ -226,16 +226,17 @@ def compared(folder, choose, sources, has_why, notes):
     """Compares the worked and the random trials, and returns how many differ."""
     differ = 0
     for trial, one in worked_trials(has_why):
-        differ += is_told(trial, fault(folder, trial, [one]))
+        differ += is_fault(trial, fault(folder, trial, [one]))
     for _ in range(sources):
         for trial in trials(choose, has_why, notes):
             answers = wanted(trial)
             noted_answer(answers[0], notes)
-            differ += is_told(trial, fault(folder, trial, answers))
+            differ += is_fault(trial, fault(folder, trial, answers))
     return differ
 
 
-def is_told(trial, fault):
+def is_fault(trial, fault):
+    """Whether there is a fault, which is written."""
     if fault:
         print("%s %s\n  %s" % (trial.words, {name: content[:4000] for name, content in trial.files.items()}, fault))
     return bool(fault)
@@ -342,7 +343,7 @@ def self_test(sources=SCANNED, seed=3):
         assert reasons_in(Simulator, *it) == [reason for reason, *_ in reasons], it
     for text, state, event, reasons in worked_runs.IN_STATES:
         shown = Simulator(text).reasons_shown(reasons_in(Simulator, text, state, event))
-        assert shown == worked_runs.reasons_told(text, reasons), (text, state)
+        assert shown == worked_runs.reasons_written(text, reasons), (text, state)
     for make in WRONG:
         assert differs(make), make.__name__
     print("the simulator agrees with %d worked examples, and %d wrong ones do not" % (

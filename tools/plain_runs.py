@@ -263,7 +263,7 @@ class Reasons(Steps):
 
 
 class Shown(Reasons):
-    """The lines that tell of a run."""
+    """The lines of a run."""
 
     def location_shown(self, number, place):
         return self.automata[number].places[place] or "*"
@@ -364,10 +364,10 @@ class Simulator(Shown):
         out = self.start_line(state)
         for number, line in enumerate(self.lines_of(script), 1):
             try:
-                state, count, told = self.obeyed(line, state, count)
+                state, count, written = self.obeyed(line, state, count)
             except Stop as stop:
                 return state, out, f"line {number}: {stop}"
-            out += told
+            out += written
         return state, out, None
 
     # commands

@@ -2,6 +2,8 @@
 
 A piece of a source stands for the place where it begins; it is there once.
 """
+import pathlib
+
 from plain_runs import BLOCKS, BREAKS, EXCLUDED, LEAVES, MOST_BYTES, NO_RECEIVER, NO_ROLE, NO_SENDER
 
 TURNS = "plant A: uncontrollable u; controllable c; location x: initial; edge u goto y; location y: edge c goto x; end"
@@ -19,6 +21,7 @@ FRAMES = ("controllable e, f; alg bool k = true; p: D(e, k); q: D(f, not k); aut
 KNOB = "input int[0..3] k;"
 KINDS = ("enum T = r, g; input T c; input bool b; automaton a: event e; disc T v = g; disc bool w; disc int[-3..3] n = -2; location: "
          "initial; edge e do v := c, w := b, n := -n; end")
+CELL = (pathlib.Path(__file__).parent.parent / "examples/cell.cif").read_text()
 SWITCHED = "p: M(); automaton def M(): input bool i; event e; location: initial; edge e when i; end"
 
 # ---- a source, the most steps, and what `simulate FILE --first N` writes
@@ -26,7 +29,7 @@ SWITCHED = "p: M(); automaton def M(): input bool i; event e; location: initial;
 FIRST = [
     (TURNS, 3, "start A=x\nstep 1 A.u A=y\nstep 2 A.c A=x\nstep 3 A.u A=y\n"),
     (TURNS, 0, "start A=x\n"),
-    # a deadlock is told where fewer steps were made than asked for, and not after the last one
+    # a deadlock is written where fewer steps were made than N, and not after step N
     ("", 0, "start\n"),
     ("", 2, "start\ndeadlock\n"),
     (WATCH % "false", 1, "start A=p B=* B.n=0\nstep 1 e A=q\n"),
@@ -58,10 +61,10 @@ FIRST = [
     ("controllable e; automaton A: location: initial; edge e; end automaton B: monitor e; disc int[0..5] n = 5; location: initial; edge e do "
      "n := n + 1; end", 1, "start A=* B=* B.n=5\ndeadlock\n"),
     ("event e; automaton B: monitor e; location x: initial; location y: edge e; end", 2, "start B=x\nstep 1 e\nstep 2 e\n"),
-    # a value that is assigned and stays is not told, nor is a place that an edge leads back to
+    # a value that is assigned and stays is left out, and so is a place that an edge leads back to
     ("automaton a: event e; disc int[0..9] x = 3, y; location z: initial; edge e do x := 3, y := y + 1 goto z; end", 2,
      "start a=z a.x=3 a.y=0\nstep 1 a.e a.y=1\nstep 2 a.e a.y=2\n"),
-    # a sent value has the range of its channel, and a state invariant is asked of the state after
+    # a sent value has the range of its channel, and a state invariant holds after the step
     ("event int[0..3] m; automaton S: location: initial; edge m!4; edge m!3; end automaton R: disc int[0..9] v; location: initial; edge m? do "
      "v := ?; end", 1, "start S=* R=* R.v=0\nstep 1 m R.v=3\n"),
     ("automaton a: event e; disc int[0..9] n; location: initial; edge e do n := n + 1; end invariant a.n <= 2; requirement a.e needs a.n < 2;",
@@ -72,6 +75,7 @@ FIRST = [
      "start g.a=* g.a.b=false\nstep 1 g.a.e g.a.b=true\n"),
     ("automaton $plant: event $edge; location $end: initial; edge $edge; end", 1, "start plant=end\nstep 1 plant.edge\n"),
     (KINDS, 1, "start a=* a.v=g a.w=false a.n=-2\nstep 1 a.e a.v=r a.n=2\n"),
+    (CELL, 5, "start start=Off stop=Off part=Off motor=Off lamp=Off Run=Idle Run.count=0\ndeadlock\n"),
 ]
 
 # ---- a source, a script, what `simulate FILE SCRIPT` writes, and where it stops
@@ -79,13 +83,15 @@ FIRST = [
 BAD, OFF = "29 BadLine", "27 NotEnabled"
 UP, DOWN = "step 1 A.u A=y\n", "step 2 A.c A=x\n"
 MIXED = "start a=* a.v=g a.w=false a.n=-2\n"
+SHIFT = ("set i_start true\nfire start.u_on\nfire motor.c_on\nset i_start false\nset i_part true\nfire start.u_off\nfire part.u_on\n"
+         "fire motor.c_off\n")
 
 SCRIPTS = [
     (KNOB, "", "start\n", None),
     (KNOB, "\n", "start\n", None),
     (KNOB, "\r", "start\n", None),
     (KNOB, "\n\n\r\n\n", "start\n", None),
-    # a set input is told also where it keeps its value
+    # a set input is written also where it keeps its value
     (KNOB, "set k 2\nset k 2\nset k 0", "start\nset k=2\nset k=2\nset k=0\n", None),
     (KNOB, "set k 2\nset k 7\n", "start\nset k=2\n", "line 2: 26 OutOfRange value 7"),
     (KNOB, "set k 3\nset k 4\nset k 0\n", "start\nset k=3\n", "line 2: 26 OutOfRange value 4"),
@@ -120,8 +126,11 @@ SCRIPTS = [
     ("input int[-5..-2] n; input int m;", "set n -5\nset m -2147483648\nset m 2147483648", "start\nset n=-5\nset m=-2147483648\n",
      "line 3: 26 OutOfRange value 2147483648"),
     ("input int[-5..-2] n;", "set n -2\nset n -1", "start\nset n=-2\n", "line 2: 26 OutOfRange value -1"),
-    # with a script a deadlock is not told
+    # a script writes no deadlock
     (WATCH % "false", "fire e\n", "start A=p B=* B.n=0\nstep 1 e A=q\n", None),
+    (CELL, SHIFT, "start start=Off stop=Off part=Off motor=Off lamp=Off Run=Idle Run.count=0\nset i_start=true\nstep 1 start.u_on start=On "
+     "Run=Busy\nstep 2 motor.c_on motor=On\nset i_start=false\nset i_part=true\nstep 3 start.u_off start=Off\nstep 4 part.u_on part=On "
+     "Run.count=1\nstep 5 motor.c_off motor=Off\n", None),
     ("group g: input bool k; end input bool k;", "set g.k true\nset k true\nset .k true", "start\nset g.k=true\nset k=true\n", "line 3: " + BAD),
 ]
 
@@ -143,10 +152,10 @@ BAD_LINES = [
         "fire a.v", "set T r", "set r r", "set c ", "set b ", "fire e"]),
 ]
 
-# ---- a source, a script, an event, and its reasons: each with the numbers of its things, and how it is told
+# ---- a source, a script, an event, and its reasons: each with the numbers of its things, and its line
 
 EXCHANGE = "event int[0..3] m; automaton S: %slocation: initial; edge m!%s; end automaton R: %slocation: initial; edge m? do %s; end"
-TELLING = "event void m; automaton S: location a: initial; %send automaton R: location a: initial; %send"
+EMPTY_HANDS = "event void m; automaton S: location a: initial; %send automaton R: location a: initial; %send"
 CHOOSING = ("automaton a: event e; disc int[0..3] x%s, y; location: initial; edge e do if x = 1: x := 9 else y := 7, x := 2 end; end")
 NESTED = ("automaton a: event e; disc int[0..3] w%s, x, y, z; location: initial; edge e do if w = 1: if x = 1: x := 9 else y := 9 end, z := 1 "
           "elif w = 2: x := 3 else if w = 0: y := 1, z := 7 end end, w := 8; end")
@@ -164,7 +173,10 @@ WHY = [
     (TURNS, "", "A.u", ENABLED),
     (TURNS, "", "A.c", [((BLOCKS, 0), "blocks A")]),
     (TURNS, "fire A.u", "A.c", ENABLED),
-    # an event in no role, of a channel too: nothing else is told of parties
+    (CELL, SHIFT, "motor.c_on", [((EXCLUDED, 0), "excluded", "Run.Busy and not part.On")]),
+    (CELL, SHIFT, "lamp.c_on", [((EXCLUDED, 2), "excluded", "full;\nrequirement lamp.c_off")]),
+    (CELL, SHIFT, "part.u_on", [((BLOCKS, 2), "blocks part")]),
+    # an event in no role, a channel too: no other reason names parties
     ("event e;", "", "e", [((NO_ROLE,), "no automaton takes part")]),
     ("event void m;", "", "m", [((NO_ROLE,), "no automaton takes part")]),
     ("event int m; plant m needs false;", "", "m", [((NO_ROLE,), "no automaton takes part"), ((EXCLUDED, 0), "excluded", "false")]),
@@ -179,9 +191,9 @@ WHY = [
     ("event e; automaton a: monitor e; location x: initial; location y: edge e; end automaton b: alphabet e; location: initial; end", "", "e",
      [((BLOCKS, 1), "blocks b")]),
     # channels
-    (TELLING % ("location b: edge m!; ", "edge m?; "), "", "m", [((NO_SENDER,), "no sender")]),
-    (TELLING % ("edge m!; ", "location b: edge m?; "), "", "m", [((NO_RECEIVER,), "no receiver")]),
-    (TELLING % ("edge m! when false; ", "edge m? when 1 > 2; "), "", "m", [((NO_SENDER,), "no sender"), ((NO_RECEIVER,), "no receiver")]),
+    (EMPTY_HANDS % ("location b: edge m!; ", "edge m?; "), "", "m", [((NO_SENDER,), "no sender")]),
+    (EMPTY_HANDS % ("edge m!; ", "location b: edge m?; "), "", "m", [((NO_RECEIVER,), "no receiver")]),
+    (EMPTY_HANDS % ("edge m! when false; ", "edge m? when 1 > 2; "), "", "m", [((NO_SENDER,), "no sender"), ((NO_RECEIVER,), "no receiver")]),
     ("event void m; automaton W: location: initial; edge m; end", "", "m", [((NO_SENDER,), "no sender"), ((NO_RECEIVER,), "no receiver")]),
     ("event void m; automaton S: location: initial; edge m!; end", "", "m", [((NO_RECEIVER,), "no receiver")]),
     ("event void m; automaton S: location a: initial; location b: edge m!; end automaton R: location: initial; edge m?; end invariant m needs "
@@ -220,6 +232,9 @@ WHY = [
     (NESTED % " = 1", "", "a.e", [((LEAVES, 0, 0, 1), "leaves", "y := 9", "a.y"), ((LEAVES, 0, 0, 6), "leaves", "w := 8", "a.w")]),
     (NESTED % " = 2", "", "a.e", [((LEAVES, 0, 0, 6), "leaves", "w := 8", "a.w")]),
     (NESTED % " = 3", "", "a.e", [((LEAVES, 0, 0, 6), "leaves", "w := 8", "a.w")]),
+    # the place of a name is that of its `$` or its first dot, and the path has neither
+    ("automaton $a: event e; disc int[0..3] $if, x; location: initial; edge e do $if := 9, .a.x := 8; end", "", "a.e",
+     [((LEAVES, 0, 0, 0), "leaves", "$if := 9", "a.if"), ((LEAVES, 0, 0, 1), "leaves", ".a.x := 8", "a.x")]),
     # an edge of several events is one for each
     ("automaton a: event e, f; disc int[0..3] x = 3; location: initial; edge f, e do x := x + 1; end", "", "a.e",
      [((LEAVES, 0, 1, 0), "leaves", "x := x", "a.x")]),
@@ -230,7 +245,7 @@ WHY = [
     # each value once, whatever other automata do beside it
     ("event e; automaton a: disc int[0..3] x; location: initial; edge e do x := -1; end automaton b: location: initial; edge e; edge e; end", "",
      "e", [((LEAVES, 0, 0, 0), "leaves", "x := -1", "a.x")]),
-    # a choice that would leave is told of although no other one agrees, and none of an edge that a blocked event has
+    # a blocked event has no choice that agrees, and so no value that leaves
     ("event e; automaton a: disc int[0..3] x; location: initial; edge e do x := -1; end automaton b: alphabet e; location: initial; end", "", "e",
      [((BLOCKS, 1), "blocks b")]),
     # state invariants, each by another choice, in choices whose values are in range
@@ -251,7 +266,7 @@ WHY = [
 IN_STATES = [
     # the first edge leaves, and the second breaks
     (PAIR, (0, 0, 7, 1), "e", [((LEAVES, 0, 0, 0), "leaves", "x := x + 3", "a.x"), ((BREAKS, 0), "breaks", "a.x + b.y")]),
-    # no choice has all values in range, so nothing is told of the invariant
+    # no choice has all values in range, so the invariant is no reason
     (PAIR, (0, 0, 9, 9), "e", [((LEAVES, 0, 0, 0), "leaves", "x := x + 3", "a.x"), ((LEAVES, 0, 1, 0), "leaves", "x := x + 1", "a.x"),
                                ((LEAVES, 1, 0, 0), "leaves", "y := y + 1", "b.y")]),
     # the invariant is false already, and stays so, or is mended
@@ -346,10 +361,10 @@ def place_of(text, piece):
     return text.index(piece)
 
 
-def reasons_told(text, reasons):
+def reasons_written(text, reasons):
     """The lines of reasons as they are worked."""
     lines = []
-    for _, *told in reasons:
-        words = [told[0]] if len(told) == 1 else [told[0], str(place_of(text, told[1]))] + told[2:]
+    for _, word, *more in reasons:
+        words = [word] + [str(place_of(text, piece)) for piece in more[:1]] + more[1:]
         lines.append(" ".join(words) + "\n")
     return "".join(lines) or "enabled\n"

@@ -85,7 +85,7 @@ class NobodyAgrees(Simulator):
 
 
 class InvariantBefore(Simulator):
-    """State invariants are asked of the state before the step."""
+    """State invariants hold before the step."""
 
     def broken(self, state, taken):
         return super().broken(state, taken._replace(after=state))
@@ -156,15 +156,15 @@ class HighestFirst(Simulator):
 
 
 class DeadlockAtOnce(Simulator):
-    """A deadlock is told after as many steps as were asked for, too."""
+    """A deadlock is written after step N, too."""
 
     def simulated_first(self, most):
         answer = super().simulated_first(most + 1)
         return answer if answer.out.endswith(b"deadlock\n") else super().simulated_first(most)
 
 
-class DeadlockUntold(Simulator):
-    """A deadlock is not told."""
+class DeadlockLeftOut(Simulator):
+    """A deadlock is not written."""
 
     def simulated_first(self, most):
         answer = super().simulated_first(most)
@@ -182,16 +182,16 @@ class SetsCounted(Simulator):
     """A set input counts as a step."""
 
     def obeyed(self, line, state, count):
-        after, made, told = super().obeyed(line, state, count)
-        return after, made + told.startswith("set "), told
+        after, made, written = super().obeyed(line, state, count)
+        return after, made + written.startswith("set "), written
 
 
 class EmptyCounted(Simulator):
     """An empty line counts as a step."""
 
     def obeyed(self, line, state, count):
-        after, made, told = super().obeyed(line, state, count)
-        return after, made + (told == ""), told
+        after, made, written = super().obeyed(line, state, count)
+        return after, made + (written == ""), written
 
 
 class EmptyLeftOut(Simulator):
@@ -327,15 +327,15 @@ class FirstInput(Simulator):
 
 
 class UnchangedLeftOut(Simulator):
-    """An input that is set to the value that it has is not told."""
+    """An input that is set to the value that it has is left out."""
 
     def obeyed(self, line, state, count):
-        after, made, told = super().obeyed(line, state, count)
-        return after, made, told if after != state or not told.startswith("set ") else ""
+        after, made, written = super().obeyed(line, state, count)
+        return after, made, written if after != state or not written.startswith("set ") else ""
 
 
-class AllTold(Simulator):
-    """A step tells of all objects."""
+class AllWritten(Simulator):
+    """A step writes all objects."""
 
     def changed(self, before, after):
         return list(self.objects(after))
@@ -349,15 +349,15 @@ class VariablesFirst(Simulator):
         return found[count:] + found[:count]
 
 
-class PlacesTold(Simulator):
-    """A location is told by its number."""
+class PlacesWritten(Simulator):
+    """A location is written as its number."""
 
     def location_shown(self, number, place):
         return str(place)
 
 
-class NumbersTold(Simulator):
-    """A literal is told by its number."""
+class NumbersWritten(Simulator):
+    """A literal is written as its number."""
 
     def value_of(self, kind, value):
         return super().value_of(kind if kind == "bool" else "int", value)
@@ -380,8 +380,8 @@ class LeavesWithoutSent(Simulator):
         return found | {(number, edge, write.number) for number, edge, write in taken.writes if not self.is_in_range(write)}
 
 
-class SentUntold(Simulator):
-    """A sent value out of range is not told."""
+class SentLeftOut(Simulator):
+    """A sent value out of range is no reason."""
 
     def leaving(self, taken, event):
         return super().leaving(taken, event) if self.is_in_channel(taken.sent, event) else set()
@@ -423,21 +423,21 @@ class NumberedAsTaken(Simulator):
 
 
 class BreaksBefore(Simulator):
-    """The invariants that are told are false before the step."""
+    """The invariants among the reasons are false before the step."""
 
     def breaking(self, state, taken):
         return super().breaking(state, taken._replace(after=state))
 
 
 class BreaksFirst(Simulator):
-    """Of the invariants that a choice breaks the first is told."""
+    """Of the invariants that a choice breaks the first is a reason."""
 
     def breaking(self, state, taken):
         return super().breaking(state, taken)[:1]
 
 
 class BreaksOutOfRange(Simulator):
-    """Invariants are told of choices whose values leave their ranges, too."""
+    """Choices whose values leave their ranges break invariants, too."""
 
     def reasons(self, event, state):
         found = super().reasons(event, state)
@@ -446,7 +446,7 @@ class BreaksOutOfRange(Simulator):
         return [it for it in found if it[0] != "Breaks"] + sorted(more)
 
 
-class FirstChoiceTold(Simulator):
+class FirstChoiceTried(Simulator):
     """Values and invariants are those of the first choice that agrees."""
 
     def tried(self, event, state):
@@ -469,7 +469,7 @@ class LacksByEdges(Simulator):
 
 
 class MonitorsBlock(Simulator):
-    """Who monitors the event is told to block it."""
+    """An automaton that monitors the event may block it."""
 
     def blocks(self, number, event, state):
         return SYNCS in self.roles[event][number] and not self.ready(number, event, state)
@@ -485,21 +485,21 @@ class BlocksByPlace(Simulator):
 
 
 class SendersBlock(Simulator):
-    """Who sends or receives and cannot is told to block the event."""
+    """An automaton that sends or receives and cannot blocks the event."""
 
     def blocks(self, number, event, state):
         return bool(self.roles[event][number]) and not self.monitors(number, event) and not self.ready(number, event, state)
 
 
 class FirstReason(Simulator):
-    """One reason is told."""
+    """The first reason is the only one."""
 
     def reasons(self, event, state):
         return super().reasons(event, state)[:1]
 
 
 class ReasonsOfSteps(Simulator):
-    """Reasons are told also where another choice makes a step."""
+    """An event that has a step has reasons, too."""
 
     def reasons(self, event, state):
         found = super().reasons(event, state)
@@ -510,8 +510,8 @@ class ReasonsOfSteps(Simulator):
         return sorted(leaves) + sorted(breaks)
 
 
-class NamesTold(Simulator):
-    """A value that leaves its range is told with the path of its variable as the edge writes it."""
+class ShortPaths(Simulator):
+    """A value that leaves its range has the last part of its path."""
 
     def value_shown(self, number, edge, value):
         place, path = super().value_shown(number, edge, value).split(" ")
@@ -534,7 +534,7 @@ class ScriptFirst(Simulator):
         return super().explained(script, self.events[0].path.encode() if stop and self.events else path, name)
 
 
-class RunTold(Simulator):
+class RunWritten(Simulator):
     """The lines of the run are written before the reasons."""
 
     def explained(self, script, path, name="script"):
@@ -546,11 +546,11 @@ WRONG_STEPS = [
     InSequence, EarlierParties, LastChoice, FirstChoiceAlone, ReceiversFirst, MonitorStays, MonitorMayStay, MonitorBlocks, NobodyAgrees,
     InvariantBefore, Unbounded, BelowTheLast, SentUnbounded, NeedsDisables, FirstEventAlone, StaysUnmoved]
 WRONG_RUNS = [
-    DeadlockAfterLowest, HighestFirst, DeadlockAtOnce, DeadlockUntold, FromZero, SetsCounted, EmptyCounted, EmptyLeftOut, LinesFromZero,
+    DeadlockAfterLowest, HighestFirst, DeadlockAtOnce, DeadlockLeftOut, FromZero, SetsCounted, EmptyCounted, EmptyLeftOut, LinesFromZero,
     ReturnKept, ReturnsDropped, LastReturnKept, BlanksDropped, FormFirst, StartLeftOut, TrimmedNames, LastPart, Pythonic, Places, TruthsFirst,
-    OutOfRangeIsBad, SetUnbounded, FirstInput, UnchangedLeftOut, AllTold, VariablesFirst, PlacesTold, NumbersTold]
+    OutOfRangeIsBad, SetUnbounded, FirstInput, UnchangedLeftOut, AllWritten, VariablesFirst, PlacesWritten, NumbersWritten]
 WRONG_REASONS = [
-    ExclusionsInAgreement, LeavesWithoutSent, SentUntold, SentUncounted, NumberedByBranch, NumberedAsTaken, BreaksBefore, BreaksFirst,
-    BreaksOutOfRange, FirstChoiceTold, LacksWithoutRole, LacksByEdges, MonitorsBlock, BlocksByPlace, SendersBlock, FirstReason, ReasonsOfSteps,
-    NamesTold, ScriptLeftOut, ScriptFirst, RunTold]
+    ExclusionsInAgreement, LeavesWithoutSent, SentLeftOut, SentUncounted, NumberedByBranch, NumberedAsTaken, BreaksBefore, BreaksFirst,
+    BreaksOutOfRange, FirstChoiceTried, LacksWithoutRole, LacksByEdges, MonitorsBlock, BlocksByPlace, SendersBlock, FirstReason, ReasonsOfSteps,
+    ShortPaths, ScriptLeftOut, ScriptFirst, RunWritten]
 WRONG = WRONG_STEPS + WRONG_RUNS + WRONG_REASONS
