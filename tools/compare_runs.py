@@ -13,7 +13,9 @@ With `--self-test` the simulator is compared with worked examples, each of some 
 runs that fire what a scan fires, in its order, have to end as the scan does. `--without-why` leaves `why` out. The status is 1 where
 something differs, and where the program does not have a command that is compared.
 """
+import contextlib
 import functools
+import io
 import random
 import sys
 import tempfile
@@ -25,7 +27,7 @@ from plain_runs import MOST_BYTES, MOST_STEPS, Answer, Simulator, decimal
 from random_scripts import ScriptMaker
 from random_sources import MAKERS, judged, made_file, rows_of
 from run_programs import Folder
-from wrong_runs import WRONG
+from wrong_runs import WRONG, FromZero
 
 USAGE = Answer(2, b"", b"cif: not a command line\n")
 # The words of a command line, and its files by their names.
@@ -336,6 +338,33 @@ def test_scans(sources, seed):
     print("%d steps of %d random sources are those of their scans" % (count, sources))
 
 
+class Played:
+    """A simulator in the place of a program and its folder. Where the source is refused, `check` says `checked`, if that is given."""
+
+    def __init__(self, make, checked=None):
+        self.make, self.checked, self.files = make, checked, {}
+
+    def clear(self):
+        self.files = {}
+
+    def write(self, name, content):
+        self.files[name] = content
+
+    def run(self, *words):
+        if words[0] == "check":
+            return self.checked or self.run("simulate", words[1], "--first", "0")
+        return wanted(Trial(list(words), self.files), self.make)[0]
+
+
+def test_comparison(sources, seed):
+    """The comparison finds nothing between a simulator and itself, a wrong simulator, and a refusal that is another one for `check`."""
+    assert compared(Played(Simulator), random.Random(seed), sources, True, Counter()) == 0
+    with contextlib.redirect_stdout(io.StringIO()) as out:
+        for player in (Played(FromZero), Played(Simulator, Answer(7, b"", b"cif: source: 4 NotRead at 0\n"))):
+            assert compared(player, random.Random(seed), sources, True, Counter()) > 0
+    assert "wanted Answer(status=0, out=b'start A=x\\nstep 1 A.u A=y\\n" in out.getvalue() and "check gives" in out.getvalue()
+
+
 def self_test(sources=SCANNED, seed=3):
     for trial, one in worked_trials(True):
         assert wanted(trial) == [one], (trial.words, trial.files.get("source"), trial.files.get("script"), wanted(trial), one)
@@ -348,6 +377,7 @@ def self_test(sources=SCANNED, seed=3):
         assert differs(make), make.__name__
     print("the simulator agrees with %d worked examples, and %d wrong ones do not" % (
         sum(1 for _ in worked_trials(True)) + len(worked_runs.IN_STATES), len(WRONG)))
+    test_comparison(sources // 5, seed)
     test_scans(sources, seed)
     return 0
 
