@@ -242,7 +242,7 @@ class Reasons(Steps):
         """The place and the path of a value of an edge: the sent value and the event, or the assigned name and the variable."""
         written, arc = self.automata[number].edges[edge], self.parties[number].arcs[edge]
         found = [] if arc.sent is None else [(written.use.sent.at, self.events[arc.event].path)]
-        for one, other in zip(updates_in(written.updates), updates_in(arc.updates), strict=True):
+        for one, other in zip(updates_in(written.updates), updates_in(arc.updates)):
             found.append((one.target.at, self.net.variables[other.target - len(self.parties)].path))
         return "%d %s" % found[value]
 
