@@ -115,8 +115,7 @@ def of_model(choose, text, has_why, notes):
     for _ in range(FIRSTS):
         yield Trial(["simulate", "source", "--first", str(maker.steps())], {"source": source})
     for _ in range(EVENTS if has_why else 0):
-        script, state = maker.script()
-        event = maker.event(state)
+        script, event = maker.explained()
         noted_reasons(model, script, event, notes)
         yield Trial(["why", "source", "script", event.decode()], {"source": source, "script": script})
 

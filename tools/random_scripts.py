@@ -6,15 +6,17 @@ line that says nothing. What stands behind that is as random as what stands befo
 from plain_expressions import GREATEST, LEAST
 from plain_runs import Stop
 
-# How often a line of each kind is made.
-KINDS = {"fire": 60, "set": 30, "empty": 8, "any event": 4, "any value": 4, "bad": 2}
+# How often a line of each kind is made, and which may stop a script.
+KINDS = {"fire": 60, "set": 30, "empty": 8, "any event": 4, "any value": 8, "bad": 2}
+STOPPING = ("any event", "any value", "bad")
 # What may stand at the end of a line, and of the last one.
 ENDS, LAST_ENDS = [b"\n"] * 8 + [b"\r\n"], [b"\n", b"", b"\r\n", b"\r", b"\n\n"] * 6 + [b"\r\r\n"]
 ODD_NUMBERS = [b"", b"-", b"+1", b"-0", b"00", b"01", b"1_0", b"1.0", b"0x1", b"1e1", b" 1", b"1 ", b"1\r", b"\xb2", b"true", b"One",
                b"9223372036854775808", b"-9223372036854775809", b"99999999999999999999999"]
 ODD_WORDS = [b"set", b"fire", b"Set", b"FIRE", b"set ", b"fire ", b"step", b"start", b"deadlock", b"#", b"//", b" ", b"\t", b"\r", b"\x00",
              b"\xff\xfe", b"set  ", b"now", b"setfire"]
-MOST_LINES, MOST_FIRST = 14, 12
+MOST_FIRST, MOST_TRIES = 12, 4
+LENGTHS = [0, 1, 2, 3, 5, 8, 14, 25]
 
 
 def bytes_of(paths):
@@ -79,8 +81,9 @@ class ScriptMaker:
         return self.choose.choice([b"fire ", b"set ", b""]) + name + self.choose.choice([b"", b" 1", b" true"]) if change == "name" else (
             self.choose.choice(ODD_WORDS))
 
-    def line(self, state):
-        kind = self.choose.choices(list(KINDS), list(KINDS.values()))[0]
+    def line(self, state, stops):
+        kinds = [kind for kind in KINDS if stops or kind not in STOPPING]
+        kind = self.choose.choices(kinds, [KINDS[kind] for kind in kinds])[0]
         if kind == "fire":
             return self.fire(state)
         return {"set": self.set_within, "any event": self.any_event, "any value": self.any_value, "bad": self.bad,
@@ -88,27 +91,33 @@ class ScriptMaker:
 
     # ---- scripts
 
-    def script(self):
-        """A script, and the state in which its last line is made."""
+    def script(self, stops=True):
+        """A script, which may stop, and the state that it reaches where it does not."""
         state, count, text = self.model.initial(), 0, b""
-        for left in reversed(range(self.choose.choice([0, 1, 2, 3, 5, 8, MOST_LINES]))):
-            line = self.line(state)
-            text += line + self.choose.choice(ENDS if left else LAST_ENDS)
+        for left in reversed(range(self.choose.choice(LENGTHS))):
+            line = self.line(state, stops)
+            text += line + self.choose.choice(ENDS if left or not stops else LAST_ENDS)
             try:
                 state, count, _ = self.model.obeyed(line, state, count)
             except Stop:
                 pass
         return text, state
 
-    def event(self, state):
-        """The path of an event, mostly of one without a step, more often of one with choices that agree, or at times of none."""
-        if not self.events or self.choose.random() < 0.05:
-            return self.choose.choice(self.others + self.inputs)
-        numbers = list(range(len(self.events)))
-        blocked = [number for number in numbers if self.model.step(number, state) is None]
-        tried = [number for number in blocked if self.model.agreeing(number, state)]
-        wanted = self.choose.choice([tried, tried, tried, blocked, blocked, numbers])
-        return self.events[self.choose.choice(wanted or blocked or numbers)]
+    def explained(self):
+        """A script and the path of an event to explain in the state that it reaches: often one that has choices that agree and no step, or
+        another one without a step, or any event, or at times none."""
+        for _ in range(self.choose.choice([1, MOST_TRIES])):
+            script, state = self.script(self.choose.random() < 0.15)
+            tried = [number for number in range(len(self.events)) if self.is_tried(number, state)]
+            if tried:
+                return script, self.events[self.choose.choice(tried)]
+        blocked = [path for number, path in enumerate(self.events) if self.model.step(number, state) is None]
+        wanted = self.choose.choice([blocked] * 12 + [self.events] * 6 + [self.others + self.inputs])
+        return script, self.choose.choice(wanted or self.events or self.others)
+
+    def is_tried(self, number, state):
+        """Whether the event has choices that agree and no step."""
+        return self.model.step(number, state) is None and bool(self.model.agreeing(number, state))
 
     def steps(self):
         """A number of steps."""
