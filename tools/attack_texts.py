@@ -1,0 +1,405 @@
+"""Makes hostile texts for `attack.py`: sources, programs and rows, whole, mutated and of forms that grow.
+
+All is bytes, and each text depends on nothing but the choices of one random.Random and the corpus.
+"""
+import random
+import re
+
+import compare_programs
+import compare_refusals
+import compare_scans
+import stack_need
+from building import TOP
+from plain_tokens import RESERVED
+
+TOKEN = re.compile(rb"\$?[A-Za-z_]\w*|\d+|:=|<=>|<=|>=|<>|!=|=>|\.\.|\(\*|\*\)|/\*|\*/|//|\s+|.", re.S)
+ST_WORDS = """ABS AND BOOL DO ELSE ELSIF END_IF END_PROGRAM END_VAR END_WHILE FALSE IF LINT MAX MIN MOD NOT OR PROGRAM SEL THEN TRUE VAR VAR_INPUT
+    VAR_OUTPUT WHILE XOR CONSTANT""".split()
+KEYWORDS = {word.encode() for word in [*RESERVED, *ST_WORDS]}
+NUMBERS = [b"0", b"1", b"2", b"100", b"2147483647", b"2147483648", b"4294967295", b"4294967296", b"9223372036854775807", b"9223372036854775808",
+           b"18446744073709551615", b"18446744073709551616", b"9" * 40, b"9" * 5000, b"00", b"01", b"1.5", b"1e9", b"16#FF", b"1_000", b"-1", b"- 1",
+           b"-2147483648", b"-9223372036854775808", b"1..2"]
+# Bytes that are no text, and signs that open what has an end.
+ODD = [b"\0", b"\0" * 9, b"\xff", b"\xfe\xff", b"\xc0\x80", b"\xed\xa0\x80", b"\xf4\x90\x80\x80", b"\xc3", b"\xc3\xa4", b"\xef\xbb\xbf", b"\xf0\x9f\x92\xa1",
+       b"\r", b"\r\n", b"\n\r", b"\t", b"\v", b"\f", b"\x1b[2J", b"\x7f", b"\x85", b"\xa0", b'"', b"'", b"\\", b"`", b"$", b"$$", b"@", b"#", b"%", b"?",
+       b"/*", b"*/", b"/*/", b"(*", b"*)", b"(*)", b"//", b"{", b"}", b";", b",", b".", b"..", b"=", b":=", b"->", b"[", b"]"]
+COUNTS = [0, 1, 2, 3, 10, 62, 63, 64, 65, 99, 100, 101, 102, 199, 255, 256, 257, 399, 400, 401, 402, 1000, 4000]
+NAME_SIZES = [39, 40, 41, 255, 256, 1000, 20000]
+MOST = 1 << 16
+
+
+def extreme(choose, is_great=False):
+    """A count at a limit; a great one now and then."""
+    return choose.choice([10000, 30000, 100000]) if is_great and choose.random() < 0.04 else choose.choice(COUNTS)
+
+
+# ---- mutations: of the choices, a text and another text
+
+def span(choose, text, most=None):
+    """Two places in a text, mostly near each other."""
+    size = min(len(text), most or choose.choice([1, 4, 20, 100, 1000]))
+    begin = choose.randint(0, len(text))
+    return begin, min(len(text), begin + choose.randint(0, size))
+
+
+def flip(choose, text, other):
+    changed = bytearray(text)
+    for _ in range(choose.choice([1, 1, 1, 2, 8]) if text else 0):
+        changed[choose.randrange(len(text))] ^= 1 << choose.randrange(8)
+    return bytes(changed)
+
+
+def overwrite(choose, text, other):
+    changed = bytearray(text)
+    for _ in range(choose.choice([1, 1, 2, 5]) if text else 0):
+        changed[choose.randrange(len(text))] = choose.randrange(256)
+    return bytes(changed)
+
+
+def cut(choose, text, other):
+    begin, end = span(choose, text)
+    return text[:begin] + text[end:]
+
+
+def cut_end(choose, text, other):
+    return text[:choose.randint(0, len(text))]
+
+
+def repeat(choose, text, other):
+    begin, end = span(choose, text)
+    return text[:begin] + text[begin:end] * choose.choice([2, 2, 3, 10, 100]) + text[end:]
+
+
+def insert_odd(choose, text, other):
+    at = choose.randint(0, len(text))
+    return text[:at] + choose.choice(ODD) * choose.choice([1, 1, 1, 2, 101, 1000]) + text[at:]
+
+
+def splice(choose, text, other):
+    """The beginning of one text and the end of another one."""
+    return text[:choose.randint(0, len(text))] + other[choose.randint(0, len(other)):]
+
+
+def insert_piece(choose, text, other):
+    at, (begin, end) = choose.randint(0, len(text)), span(choose, other)
+    return text[:at] + other[begin:end] + text[at:]
+
+
+def line_ends(choose, text, other):
+    return text.replace(b"\n", choose.choice([b"\r\n", b"\r", b"\n\n", b"", b" ", b"\0"]))
+
+
+def tokens_of(text):
+    return TOKEN.findall(text)
+
+
+def sort_of(token):
+    """Whether a token is a blank, a number, a reserved word, a name or a sign."""
+    if token.isspace():
+        return "blank"
+    if token[:1].isdigit():
+        return "number"
+    if token[:1].isalpha() or token[:1] in (b"_", b"$"):
+        return "word" if token in KEYWORDS or token.upper() in KEYWORDS else "name"
+    return "sign"
+
+
+def places_of(tokens, sort):
+    return [at for at, token in enumerate(tokens) if sort_of(token) == sort]
+
+
+def exchange(choose, text, other):
+    """A token in the place of another one of its sort, of the same text or of another one."""
+    tokens = tokens_of(text)
+    sort = choose.choice(["name", "name", "name", "name", "name", "number", "number", "word", "sign"])
+    places = places_of(tokens, sort)
+    if not places:
+        return text
+    others = tokens if choose.random() < 0.8 else tokens_of(other)
+    found = [others[at] for at in places_of(others, sort)] or [b"x"]
+    for _ in range(choose.choice([1, 1, 1, 2, 4])):
+        tokens[choose.choice(places)] = choose.choice(found)
+    return b"".join(tokens)
+
+
+def move_tokens(choose, text, other):
+    """Tokens swapped, left out, doubled or put elsewhere."""
+    tokens = tokens_of(text)
+    for _ in range(choose.choice([1, 1, 2, 6]) if len(tokens) > 1 else 0):
+        one, two, way = choose.randrange(len(tokens)), choose.randrange(len(tokens)), choose.randrange(4)
+        if way == 0:
+            tokens[one], tokens[two] = tokens[two], tokens[one]
+        elif way == 1:
+            tokens[one] = b" "
+        elif way == 2:
+            tokens.insert(two, b" " + tokens[one] + b" ")
+        else:
+            tokens[one] = choose.choice([*sorted(KEYWORDS), *ODD])
+    return b"".join(tokens)
+
+
+def extreme_numbers(choose, text, other):
+    tokens = tokens_of(text)
+    places = places_of(tokens, "number")
+    for at in choose.sample(places, min(len(places), choose.choice([1, 1, 2, 3]))):
+        tokens[at] = choose.choice(NUMBERS if choose.random() < 0.5 else NUMBERS[:5])
+    return b"".join(tokens)
+
+
+def long_names(choose, text, other):
+    """A name in place of one, at one place or at all."""
+    tokens = tokens_of(text)
+    places = places_of(tokens, "name")
+    if not places:
+        return text
+    at = choose.choice(places)
+    name = choose.choice([b"n", b"_", b"Zz_", b"a.b.", b"$end."]) * choose.choice(NAME_SIZES)
+    name = name[:MOST].rstrip(b".")
+    if choose.random() < 0.3:
+        tokens[at] = name
+    else:
+        old = tokens[at]
+        tokens = [name if token == old else token for token in tokens]
+    return b"".join(tokens)
+
+
+def move_pieces(choose, text, other):
+    """Pieces up to a semicolon or a colon swapped, left out, doubled, or taken from another text."""
+    pieces = re.findall(rb"[^;:]*[;:]|[^;:]+$", text)
+    others = re.findall(rb"[^;:]*[;:]", other)
+    for _ in range(choose.choice([1, 1, 2, 5]) if len(pieces) > 1 else 0):
+        one, two, way = choose.randrange(len(pieces)), choose.randrange(len(pieces)), choose.randrange(4)
+        if way == 0:
+            pieces[one], pieces[two] = pieces[two], pieces[one]
+        elif way == 1:
+            pieces[one] = b""
+        elif way == 2:
+            pieces.insert(two, pieces[one])
+        elif others:
+            pieces.insert(two, choose.choice(others))
+    return b"".join(pieces)
+
+
+NESTS = [(b"(", b")"), (b"not (", b")"), (b"NOT ", b""), (b"not ", b""), (b"- ", b""), (b"-(", b")"), (b"if true: ", b" else x end"), (b"SEL(TRUE, x, ", b")"),
+         (b"min(1, ", b")"), (b"MIN(1, ", b")"), (b"abs(", b")"), (b"ABS(", b")"), (b"IF TRUE THEN ", b" END_IF;"), (b"WHILE TRUE DO ", b" END_WHILE;"),
+         (b"group g: ", b" end "), (b"/*", b"*/"), (b"(*", b"*)"), (b"[", b"]"), (b"{", b"}"), (b"x + ", b""), (b"true and ", b""), (b"a.", b"")]
+
+
+def nest(choose, text, other):
+    """A token or a piece in many signs that open and close, not always as many of both."""
+    tokens = tokens_of(text)
+    if not tokens:
+        return text
+    at, (opens, closes), depth = choose.randrange(len(tokens)), choose.choice(NESTS), extreme(choose, True)
+    ends = depth if choose.random() < 0.8 else extreme(choose)
+    tokens[at] = opens * depth + tokens[at] + closes * ends
+    return b"".join(tokens)
+
+
+GENTLE = [exchange, exchange, exchange, extreme_numbers, move_pieces, move_pieces]
+ROUGH = [flip, overwrite, cut, cut_end, repeat, insert_odd, splice, insert_piece, line_ends, move_tokens, long_names, nest]
+
+
+def mutated(choose, text, pick):
+    """A text with some changes; `pick` gives another text."""
+    for _ in range(choose.choice([0, 0, 1, 1, 1, 1, 2, 2, 3])):
+        text = choose.choice(GENTLE if choose.random() < 0.7 else ROUGH)(choose, text, pick(choose))
+    return text[:16 * MOST]
+
+
+def blank(choose):
+    """A text without tokens, or of random bytes."""
+    return choose.choice([b"", b" ", b"\n", b"\0", b"\xff", b"\xef\xbb\xbf", b"\r\n" * 100, b"\0" * 4096, b" " * MOST, choose.randbytes(choose.randint(1, 2000))])
+
+
+# ---- sources
+
+def doubling(choose, count):
+    """Each thing is twice the one before."""
+    way = choose.randrange(6)
+    if way == 0:
+        return "alg int v0 = 1; " + "".join(f"alg int v{k} = v{k - 1} + v{k - 1}; " for k in range(1, count)) + "plant A: controllable c; location: initial; edge c when v0 = 1; end"
+    if way == 1:
+        return "".join(f"const int c{k} = {f'c{k - 1} + c{k - 1}' if k else 1}; " for k in range(count))
+    if way == 2:
+        return compare_refusals.doubled(count)
+    if way == 3:
+        return compare_refusals.summed(count, choose.choice(["true", f"v{count} > 0"]))
+    if way == 4:
+        return compare_refusals.sum_passed_on(count, choose.choice(["true", "v >= 0"]))
+    return compare_refusals.negation_passed_on(count)
+
+
+def many(choose, count):
+    """Many of one thing."""
+    forms = [
+        ("input bool i%d; ", ""), ("event e%d; ", ""), ("controllable c%d; ", ""), ("const int k%d = 1; ", ""), ("type t%d = int[0..1]; ", ""),
+        ("group g%d: end ", ""), ("plant p%d: location: initial; end ", ""), ("enum e%d = l%d; ", ""), ("plant x: location l%d: initial; end ", ""),
+        ("location l%d; edge e; ", "event e; plant a: location: initial; %send"), ("disc int[0..1] d%d; ", "plant a: %slocation: initial; end"),
+        ("edge e; ", "controllable e; plant a: location: initial; %send"), ("edge e when d do d := d; ", "controllable e; plant a: disc bool d; location: initial; %send"),
+        ("plant p%d: location: initial; edge e; end ", "controllable e; %s"), ("a%d: D(); ", "plant def D(): controllable c; location: initial; edge c; end %s"),
+        ("requirement invariant a.d < 9; ", "plant a: disc int[0..3] d; location: initial; end %s"), ("requirement a.c needs a.d; ", "plant a: controllable c; disc bool d; location: initial; edge c; end %s"),
+    ]
+    form, frame = choose.choice(forms)
+    text = "".join(form.replace("%d", str(k)) for k in range(count))
+    return frame % text if frame else text
+
+
+def listed(choose, count):
+    """Long lists, sums and names."""
+    way, join = choose.randrange(7), choose.choice([" + ", " * ", " - ", " and ", " or ", " = ", " => ", ", ", ".", " mod ", " div "])
+    terms = join.join([choose.choice(["1", "2147483647", "true", "a", "a.d", "-1", "x"])] * max(count, 1))
+    return [f"alg int v = {terms};", f"invariant {terms};", f"enum t = {terms};", f"event {', '.join(f'e{k}' for k in range(count + 1))};",
+            f"const int[0..{terms}] k = 1;", f"plant a: disc int[0..{terms}] d; location: initial; end",
+            f"controllable c; plant a: disc int[-2147483648..2147483647] d; location: initial; edge c when {terms} do d := {terms}; end"][way]
+
+
+def crowd(choose, count):
+    """Events with many choices."""
+    factors = [choose.choice([1, 2, 3, 16, 128]) for _ in range(choose.choice([1, 2, 3, 7, 14, 40]))]
+    return choose.choice(["controllable e; ", "event e; ", "uncontrollable e; "]) + compare_refusals.crowd(factors)
+
+
+def nested_source(choose, count):
+    return choose.choice(list(stack_need.sources(min(count, 5000)).values()))
+
+
+GROWING = [doubling, doubling, many, many, listed, listed, crowd, nested_source]
+
+
+class Texts:
+    """The texts from which others are made: those of examples and documents, random ones, and programs, which `generate` writes."""
+
+    def __init__(self, seed, generate):
+        self.seed, self.made = seed, {}
+        examples = [it.read_bytes() for it in sorted((TOP / "examples").glob("*.cif"))]
+        shown = [block.encode() for page in sorted((TOP / "docs").glob("*.md")) for block in re.findall(r"^```cif\n(.*?)^```$", page.read_text(), re.S | re.M)]
+        wrong = re.findall(r"^### .*?\n(.*?)^>>> ", (TOP / "tools/wrong_sources.txt").read_text(), re.S | re.M)
+        self.sources = examples * 4 + shown + [it.encode() for it in wrong]
+        self.generate, self.programs = generate, {}
+
+    def random_source(self, number):
+        """A random source, which may break rules; one for each number."""
+        if number not in self.made:
+            if len(self.made) > 100:
+                self.made.clear()
+            choose = random.Random(f"{self.seed} source {number}")
+            self.made[number] = (compare_refusals.made(choose) if choose.random() < 0.6 else compare_scans.automata_together(
+                choose, True, choose.random() < 0.6, ("input", "alg", "channel", "invariant"))).encode("utf-8", "replace")
+        return self.made[number]
+
+    def source(self, choose, number):
+        """A hostile source."""
+        way = choose.random()
+        if way < 0.03:
+            return blank(choose)
+        if way < 0.15:
+            text = choose.choice(GROWING)(choose, extreme(choose, True)).encode()
+            return text if way < 0.11 else mutated(choose, text, self.other_source)
+        text = self.random_source(number // 25) if way < 0.55 else choose.choice(self.sources)
+        return mutated(choose, text, self.other_source)
+
+    def other_source(self, choose):
+        return choose.choice(self.sources)
+
+    def other_program(self, choose):
+        """A program that is in examples/, or that is generated for a source there or a random one."""
+        number = choose.randrange(24)
+        if number not in self.programs:
+            made = choose_source(number, self.sources, self.random_source)
+            self.programs[number] = made and self.generate(made) or (TOP / "examples/tank.st").read_bytes()
+        return self.programs[number]
+
+    def program(self, choose):
+        """A hostile program."""
+        way = choose.random()
+        if way < 0.03:
+            return blank(choose)
+        if way < 0.15:
+            text = grown_program(choose, extreme(choose, True)).encode()
+            return text if way < 0.11 else mutated(choose, text, self.other_program)
+        text = compare_programs.Maker(choose).program()[0].encode() if way < 0.6 else self.other_program(choose)
+        return mutated(choose, text, self.other_program)
+
+
+# ---- programs
+
+def choose_source(number, sources, random_source):
+    """A source for a program, another one for each number; none for some."""
+    return None if number < 3 else sources[number - 3] if number < 12 else random_source(number)
+
+
+def grown_program(choose, count):
+    """Programs of many parts, nested ones, and ones that compute at the ends of 64 bits."""
+    great, way = "9223372036854775807", choose.randrange(7)
+    if way == 0:
+        return choose.choice(list(stack_need.programs(min(count, 5000)).values()))
+    if way == 1:
+        return f"PROGRAM p {''.join(f'VAR x{k}: LINT := {k}; END_VAR ' for k in range(count))}END_PROGRAM"
+    if way == 2:
+        sign = choose.choice(["+", "-", "*", "/", "MOD", "AND", "OR", "XOR", "=", "<", "&", "<>"])
+        term = choose.choice(["x", "1", great, "b", "0", "-1"])
+        return f"PROGRAM p VAR x: LINT; b: BOOL; END_VAR x := {f' {sign} '.join([term] * max(count, 1))}; END_PROGRAM"
+    if way == 3:
+        step = choose.choice(["x := x + 1;", "x := x * 2 + 1;", "x := -x - 1;", f"x := {great} - x;", "x := 1 / x;", "x := x MOD 0;", "b := NOT b;", "x := ABS(x);"])
+        return f"PROGRAM p VAR x: LINT := {choose.choice(['0', '1', great, '-' + great])}; b: BOOL; END_VAR {step * count} END_PROGRAM"
+    if way == 4:
+        loop = choose.choice(["WHILE TRUE DO %s END_WHILE;", "WHILE x < 1000 DO x := x + 1; %s END_WHILE;", "WHILE b DO %s END_WHILE;"])
+        return f"PROGRAM p VAR x: LINT; b: BOOL; END_VAR {loop % choose.choice(['', loop % '', 'x := x + 1;'])} END_PROGRAM"
+    if way == 5:
+        low, high = choose.choice(["0", "-" + great, great, "-1"]), choose.choice(["0", great, "-1", "3"])
+        return f"PROGRAM p VAR_INPUT i: LINT ({low} .. {high}); END_VAR VAR_OUTPUT o: LINT ({low} .. {high}) := {high}; END_VAR o := i{choose.choice(['', ' + 1', ' * i', ' / i'])}; END_PROGRAM"
+    return f"PROGRAM p VAR_INPUT {' '.join(f'i{k}: BOOL;' for k in range(count))} END_VAR END_PROGRAM"
+
+
+def inputs_of(text):
+    """The names of the inputs of a program, and the least value of each, or FALSE."""
+    found = []
+    for block in re.findall(rb"VAR_INPUT(.*?)END_VAR", text, re.S | re.I):
+        for name, kind, low in re.findall(rb"(\w+)\s*:\s*(BOOL|LINT)\s*(?:\(\s*(-?\s*\d+))?", block, re.I):
+            found.append((name, b"FALSE" if kind.upper() == b"BOOL" else low.replace(b" ", b"") or b"0"))
+    return found
+
+
+def plain_rows(text, scans):
+    """Rows that a program takes: its inputs stay at their least values."""
+    inputs = inputs_of(text)
+    lines = [b",".join([b"scan"] + [name for name, _ in inputs])]
+    lines += [b",".join([b"%d" % scan] + [value for _, value in inputs]) for scan in range(1, scans + 1)]
+    return b"\n".join(lines) + b"\n"
+
+
+CELLS = [b"TRUE", b"true", b"True", b"1", b"0", b"01", b"-0", b"-1", b"2", b" 1", b"", b'"1"', b'"TRUE', b'""', b"9223372036854775807", b"9223372036854775808",
+         b"-9223372036854775808", b"-9223372036854775809", b"9" * 1000, b"x" * 20000, b"\0", b"\xff", b"1\r", b'1"1', b"'1'", b"scan"]
+
+
+def some_rows(choose, text):
+    """Rows with cells of all sorts."""
+    inputs = inputs_of(text)
+    names = [b"scan"] + [name for name, _ in inputs]
+    if choose.random() < 0.3:
+        choose.shuffle(names)
+    rows = [names]
+    for scan in range(1, choose.choice([0, 1, 1, 2, 3, 10]) + 1):
+        rows.append([b"%d" % scan if name == b"scan" else choose.choice([dict(inputs)[name], b"1", b"TRUE", b"3"]) for name in names])
+    for _ in range(choose.choice([0, 0, 0, 1, 1, 2])):
+        row = choose.choice(rows)
+        if row and choose.random() < 0.7:
+            row[choose.randrange(len(row))] = choose.choice(CELLS)
+        elif row:
+            row.insert(choose.randrange(len(row)), choose.choice(CELLS + names))
+    return choose.choice([b"\n", b"\n", b"\n", b"\r\n", b"\r", b"\n\n"]).join(map(b",".join, rows)) + choose.choice([b"\n", b"", b"\n\n"])
+
+
+def rows(choose, text):
+    """A hostile table of rows for a program."""
+    way = choose.random()
+    if way < 0.03:
+        return blank(choose)
+    if way < 0.04:
+        count = choose.choice([1, 1000, 100000, 100001]) if choose.random() < 0.3 else 1000
+        return b"scan\n" + b"".join(b"%d\n" % scan for scan in range(1, count + 1))
+    found = plain_rows(text, choose.choice([0, 1, 2, 5])) if way < 0.4 else some_rows(choose, text)
+    if way > 0.75:
+        found = mutated(choose, found, lambda _: found)
+    return found
