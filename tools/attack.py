@@ -4,9 +4,10 @@
     tools/attack.py PROGRAM [--count N] [--seed S] [--first K] [--minutes M] [check|generate|replay|words ..]
 
 For each of the commands there are N attacks (1,000), from number K (1) on, or as many as M minutes allow; `words` are command lines. An
-attack is made of the seed and its number alone. Each run has 10 seconds of the processor and 512 MB of memory, and is judged:
+attack is made of the seed and its number alone. Each run has 10 seconds of the processor (60 where the program checks its memory) and 512
+MB of memory, and is judged:
 
-- no signal and no hang; a status of the table in docs/REFUSALS.md, and one line on standard error of the form that is shown there for
+- it ends, and by no signal; a status of the table in docs/REFUSALS.md, and one line on standard error of the form that is shown there for
   it; no line and an output with status 0, and no output with the others but 4 and 5
 - `check` and `generate` refuse the same sources with the same line; what `generate` writes is replayed
 - a second run writes the same bytes; a full or closed output gives status 4, and a closed standard error changes no status
@@ -28,7 +29,7 @@ from collections import Counter
 import words as command_lines
 from attack_texts import Texts, plain_rows, rows
 from building import TOP
-from limited_runs import SECONDS, Ended, Program
+from limited_runs import Ended, Program
 
 KEPT = TOP / "out/attack"
 FILES = {"check": ["a.cif"], "generate": ["a.cif"], "replay": ["a.st", "rows.csv"]}
@@ -43,9 +44,15 @@ def forms():
     page = (TOP / "docs/REFUSALS.md").read_text()
     for number, name, part in re.findall(r"^## (\d+) (\w+)\n(.*?)(?=^## |\Z)", page, re.S | re.M):
         shown = re.search(rf"^cif: [^ ]+: (?:row \d+: )?{number} {name}(.*)$", part, re.M)[1].split()
-        fields = "".join(rf" {name} ({r'-?[0-9]+' if re.fullmatch('-?[0-9]+', value) else '[^ ]+'})" for name, value in zip(shown[::2], shown[1::2]))
+        fields = "".join(f" {field} {form_of(field, value)}" for field, value in zip(shown[::2], shown[1::2]))
         found[int(number)] = re.compile(f"{number} {name}{fields}".encode())
     return found
+
+
+def form_of(field, value):
+    """What stands in the place of a value that is shown."""
+    number = "(?:0|[1-9][0-9]*)"
+    return f"-?{number}" if field == "value" else number if value.isdigit() else "[^ ]+"
 
 
 FORMS = forms()
@@ -84,7 +91,7 @@ def judged(command, files, ended):
     """What is wrong with the end of a run, or None."""
     status, out, err = ended
     if status is None:
-        return f"no end after {SECONDS} seconds of the processor, or none at all"
+        return "no end"
     if status < 0:
         return f"signal {-status}"
     if command not in MAY:

@@ -202,8 +202,8 @@ ROUGH = [flip, overwrite, cut, cut_end, repeat, insert_odd, splice, insert_piece
 
 def mutated(choose, text, pick):
     """A text with some changes; `pick` gives another text."""
-    for _ in range(choose.choice([0, 0, 1, 1, 1, 1, 2, 2, 3])):
-        text = choose.choice(GENTLE if choose.random() < 0.7 else ROUGH)(choose, text, pick(choose))
+    for _ in range(choose.choice([0, 0, 1, 1, 1, 1, 2, 3])):
+        text = choose.choice(GENTLE if choose.random() < 0.75 else ROUGH)(choose, text, pick(choose))
     return text[:16 * MOST]
 
 
@@ -344,7 +344,8 @@ def grown_program(choose, count):
         step = choose.choice(["x := x + 1;", "x := x * 2 + 1;", "x := -x - 1;", f"x := {great} - x;", "x := 1 / x;", "x := x MOD 0;", "b := NOT b;", "x := ABS(x);"])
         return f"PROGRAM p VAR x: LINT := {choose.choice(['0', '1', great, '-' + great])}; b: BOOL; END_VAR {step * count} END_PROGRAM"
     if way == 4:
-        loop = choose.choice(["WHILE TRUE DO %s END_WHILE;", "WHILE x < 1000 DO x := x + 1; %s END_WHILE;", "WHILE b DO %s END_WHILE;"])
+        is_endless = choose.random() < 0.1
+        loop = choose.choice(["WHILE TRUE DO %s END_WHILE;"] if is_endless else ["WHILE x < 1000 DO x := x + 1; %s END_WHILE;", "WHILE b DO %s END_WHILE;"])
         return f"PROGRAM p VAR x: LINT; b: BOOL; END_VAR {loop % choose.choice(['', loop % '', 'x := x + 1;'])} END_PROGRAM"
     if way == 5:
         low, high = choose.choice(["0", "-" + great, great, "-1"]), choose.choice(["0", great, "-1", "3"])

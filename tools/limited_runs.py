@@ -6,7 +6,9 @@ import select
 import signal
 from collections import namedtuple
 
-SECONDS, MEGABYTES, STACK = 10, 512, 64 << 20
+# Of the processor. (A program with checks of its memory makes the 1,000,000 turns of a scan in more than ten.)
+SECONDS, SECONDS_WITH_CHECKS = 10, 60
+MEGABYTES, STACK = 512, 64 << 20
 
 # How a run ended: its status, negative for a signal and None for a hang, its standard output and standard error.
 Ended = namedtuple("Ended", "status out err")
@@ -18,6 +20,7 @@ class Program:
     def __init__(self, file):
         self.file = os.path.abspath(file)
         self.checks_memory = b"__asan_init" in pathlib.Path(file).read_bytes()
+        self.seconds = SECONDS_WITH_CHECKS if self.checks_memory else SECONDS
         self.environment = dict(os.environ)
         self.outlets = [os.memfd_create(name) for name in ("out", "err")]
         if self.checks_memory:
@@ -47,19 +50,20 @@ class Program:
     def end(self, process):
         """The status of a process; it is ended where it does not end, be it that it runs or that it waits."""
         try:
-            resource.prlimit(process, resource.RLIMIT_CPU, (SECONDS, SECONDS + 5))
+            resource.prlimit(process, resource.RLIMIT_CPU, (self.seconds, self.seconds + 5))
         except ProcessLookupError:
             pass
         ends, before = select.poll(), None
         handle = os.pidfd_open(process)
         ends.register(handle, select.POLLIN)
-        while not ends.poll(SECONDS * 1000):
+        while not ends.poll(min(self.seconds, SECONDS) * 1000):
             state = state_of(process)
             if state == before and state[0] != "R":
                 os.kill(process, signal.SIGKILL)
             before = state
         os.close(handle)
         status = os.waitstatus_to_exitcode(os.waitpid(process, 0)[1])
+        # (the limit of the processor, or ended above)
         return None if status in (-signal.SIGXCPU, -signal.SIGKILL) else status
 
 

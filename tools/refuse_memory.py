@@ -6,7 +6,7 @@
 Each command is run with files of its own, with and without a fault. Its requests for memory are counted; then it is run once for each of
 them, in which that one is refused, and once in which it and all behind it are. Such a run ends as the untouched one does, or with status 5:
 standard output then has the beginning of the untouched one, and standard error the beginning of the line of want of memory, or of that
-of the untouched run. A run goes on for 10 seconds of the processor at the most. With --most only M requests of each command are taken: the
+of the untouched run. A run has 10 seconds of the processor, with checks 60. With --most only M requests of each command are taken: the
 first ones, and others at equal distances.
 
 PROGRAM is the proved one or the one compiled without proofs, of which the second one has an allocator of its own and checks its accesses to
@@ -23,7 +23,7 @@ import tempfile
 from collections import Counter
 
 from building import TOP
-from limited_runs import SECONDS, Program
+from limited_runs import Program
 
 EXAMPLES = TOP / "examples"
 REFUSES = "refuse_memory.so"
@@ -142,7 +142,7 @@ def fault_of(ended, untouched):
     if ended == untouched:
         return None
     if ended.status is None:
-        return f"no end after {SECONDS} seconds of the processor, or none at all"
+        return "no end"
     if ended.status != 5:
         return f"signal {-ended.status}" if ended.status < 0 else f"status {ended.status}"
     if not untouched.out.startswith(ended.out):

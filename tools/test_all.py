@@ -4,8 +4,9 @@
     tools/test_all.py [all|proved]
 
 Compiles the program and the programs of cases without their proofs, and runs the cases against their stored answers, the tests of the
-script and of the tools, and the comparisons in short; `all` also runs the groups of cases and the sources at the limits. With `proved`
-the programs are those that the gate proved and built, and all is run whole. The last line is `N passed, M failed`.
+script and of the tools, the comparisons and some hostile inputs in short; `all` also runs the groups of cases and the sources at the
+limits, and refuses memory. With `proved` the programs are those that the gate proved and built, and all but hostile inputs and refused
+memory is run whole. The last line is `N passed, M failed`.
 """
 import os
 import re
@@ -31,6 +32,8 @@ COMPARISONS = [
     ("compare_data", "value", ["300"], 20),
     ("compare_components", "components", ["50"], 20),
 ]
+# The tools that make it hard for the program: their words in short, none where that is left out, and whole; their seconds then.
+HOSTILE = [("attack", ["--count", "25"], ["--count", "250"], 20), ("refuse_memory", None, ["--most", "30"], 120)]
 SELF_TESTS = [("compare_scans", [], 5), ("compare_runs", ["10"], 15), ("compare_refusals", ["--short"], 60), ("compare_c", [], 10)]
 # What the usage of a test has that runs the program.
 ASKS = " [PROGRAM]\n"
@@ -136,8 +139,17 @@ def self_tests(is_whole):
         yield Command(f"{tool} --self-test", words + ([] if is_whole else short), cost=cost)
 
 
+def hostile(is_whole):
+    for tool, short, whole, cost in HOSTILE:
+        words = whole if is_whole else short
+        if words is not None:
+            program = place_of(PROGRAM, False)
+            yield Command(tool, [sys.executable, TOP / "tools" / f"{tool}.py", program] + words, [f"compiling {PROGRAM}"], cost)
+
+
 def tests(is_proved, is_whole):
     found = [it for name in building.case_programs() for it in cases_of(name, is_proved, is_whole)]
+    found += [] if is_proved else hostile(is_whole)
     return [*found, *tests_of_tools(is_proved), *comparisons(is_proved), *self_tests(is_whole)]
 
 
