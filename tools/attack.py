@@ -20,6 +20,7 @@ import os
 import pathlib
 import random
 import re
+import shlex
 import signal
 import sys
 import tempfile
@@ -66,6 +67,8 @@ MEMORY = b"cif: out of memory\n"
 
 def refused(status, files, line):
     """What is wrong with the line of a refusal or fault."""
+    if ABOUT[status] >= len(files):
+        return f"status {status} of a file that was not given"
     file = os.fsencode(files[ABOUT[status]])
     head = rb"cif: " + re.escape(file) + rb": " + (rb"row ([1-9]\d*): " if status in (11, 12) else rb"")
     number = re.match(head + rb"(\d+) ", line, re.S)
@@ -259,16 +262,15 @@ def keep(attack, program, seed):
     for file, text in attack.files.items():
         (folder / file).write_bytes(text)
     fault, given = attack.fault
-    words = [os.fsdecode(it) for it in given]
-    shown = " ".join(repr(it) if not re.fullmatch(r"[\w./-]+", it, re.A) else it for it in words)
+    shown = shlex.join(given)
     yield f"FOUND  {attack.command}, seed {seed}, number {attack.number}: {fault}"
     yield f"       (cd {folder} && {program.file} {shown[:2000]})".encode("utf-8", "backslashreplace").decode()
     yield f"       tools/attack.py {program.file} --seed {seed} --first {attack.number} --count 1 {attack.command}"
 
 
 def attack_all(program, texts, asked, told):
-    """Attacks one after the other, of the commands in turn; the number of findings."""
-    end, found = time.monotonic() + asked.minutes * 60, 0
+    """Attacks one after the other, of the commands in turn."""
+    end = time.monotonic() + asked.minutes * 60
     for number in range(asked.first, asked.first + asked.count):
         if asked.minutes and time.monotonic() > end:
             break
@@ -278,19 +280,18 @@ def attack_all(program, texts, asked, told):
             told[command].update([reason(attack.last)])
             told["runs"].update([command] * attack.runs)
             if attack.fault:
-                found += 1
+                told["found"].update([command])
                 print("\n".join(keep(attack, program, asked.seed)), flush=True)
-    return found
 
 
-def report(asked, told, seconds, found):
+def report(asked, told, seconds):
     for command in asked.commands:
         parts = sorted(told[command].items(), key=lambda it: (it[0][:6] != "status", int(re.search(r"-?\d+|$", it[0])[0] or 0)))
         shown = ", ".join(f"{name}: {count}" for name, count in parts)
         print(f"{command}: {told[command].total()} attacks in {told['runs'][command]} runs; {shown}")
     total = told["runs"].total()
     print(f"seed {asked.seed}, from number {asked.first} on; {total} runs in {seconds:.0f} s, {total / max(seconds, 0.001):.0f} a second")
-    print(f"{found} findings")
+    print(f"{told['found'].total()} findings")
 
 
 def parsed(given):
@@ -299,9 +300,11 @@ def parsed(given):
     for name, first in (("count", 1000), ("seed", 1), ("first", 1)):
         parser.add_argument(f"--{name}", type=int, default=first)
     parser.add_argument("--minutes", type=float, default=0)
-    parser.add_argument("commands", nargs="*", choices=[*ATTACKS, []], default=[])
-    asked = parser.parse_args(given)
+    parser.add_argument("commands", nargs="*")
+    asked = parser.parse_intermixed_args(given)
     asked.commands = asked.commands or ATTACKS
+    if not set(asked.commands) <= set(ATTACKS):
+        parser.error("no command of these: " + " ".join(asked.commands))
     return asked
 
 
@@ -312,18 +315,18 @@ def ask_for_interrupt(*_):
 def main(*given):
     asked, began = parsed(given), time.monotonic()
     program = Program(asked.program)
-    told, found = {command: Counter() for command in [*ATTACKS, "runs"]}, 0
+    told = {name: Counter() for name in [*ATTACKS, "runs", "found"]}
     signal.signal(signal.SIGTERM, ask_for_interrupt)
     with tempfile.TemporaryDirectory(prefix="cif-") as folder:
         os.chdir(folder)
         try:
-            found = attack_all(program, Texts(asked.seed, lambda text: generated(program, text)), asked, told)
+            attack_all(program, Texts(asked.seed, lambda text: generated(program, text)), asked, told)
         except KeyboardInterrupt:
             print("ended early", flush=True)
         signal.signal(signal.SIGTERM, signal.SIG_IGN)
         os.chdir("/")
-    report(asked, told, time.monotonic() - began, found)
-    return 1 if found else 0
+    report(asked, told, time.monotonic() - began)
+    return 1 if told["found"] else 0
 
 
 def generated(program, text):

@@ -81,13 +81,15 @@ class Playing(unittest.TestCase):
         file.chmod(0o755)
         found = Program(file)
         self.addCleanup(lambda: [os.close(it) for it in found.outlets])
-        found.seconds = 1
         return found
 
     def test_runs(self):
-        for body, wanted in (("echo ok", OK), ('echo "$1" >&2; exit 3', Ended(3, b"", b"check\n")), ("kill -11 $$", Ended(-11, b"", b"")), ("sleep 60", Ended(None, b"", b"")),
-                             ("while :; do :; done", Ended(None, b"", b""))):
+        for body, wanted in (("echo ok", OK), ('echo "$1" >&2; exit 3', Ended(3, b"", b"check\n")), ("kill -11 $$", Ended(-11, b"", b""))):
             self.assertEqual(self.program(body).run(["check", "a.cif"]), wanted)
+        for body in ("sleep 60", "while :; do :; done"):
+            program = self.program(body)
+            program.seconds = 1
+            self.assertEqual(program.run(["check", "a.cif"]), Ended(None, b"", b""))
         program = self.program("echo ok && exit 0; exit 4")
         self.assertEqual([program.run(["check"], 1, how).status for how in ("full", "closed")], [4, 4])
         self.assertEqual([program.run(["check"], 2, how)[:2] for how in ("full", "closed")], [OK[:2]] * 2)
