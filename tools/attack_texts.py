@@ -7,7 +7,7 @@ import re
 
 import compare_programs
 import compare_refusals
-import compare_scans
+import random_sources
 import stack_need
 from building import TOP
 from plain_tokens import RESERVED
@@ -284,7 +284,7 @@ class Texts:
             if len(self.made) > 100:
                 self.made.clear()
             choose = random.Random(f"{self.seed} source {number}")
-            self.made[number] = (compare_refusals.made(choose) if choose.random() < 0.6 else compare_scans.automata_together(
+            self.made[number] = (compare_refusals.made(choose) if choose.random() < 0.6 else random_sources.automata_together(
                 choose, True, choose.random() < 0.6, ("input", "alg", "channel", "invariant"))).encode("utf-8", "replace")
         return self.made[number]
 

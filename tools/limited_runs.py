@@ -53,6 +53,18 @@ class Program:
             resource.prlimit(process, resource.RLIMIT_CPU, (self.seconds, self.seconds + 5))
         except ProcessLookupError:
             pass
+        try:
+            self.wait(process)
+        except BaseException:
+            os.kill(process, signal.SIGKILL)
+            os.waitpid(process, 0)
+            raise
+        status = os.waitstatus_to_exitcode(os.waitpid(process, 0)[1])
+        # (the limit of the processor, or ended above)
+        return None if status in (-signal.SIGXCPU, -signal.SIGKILL) else status
+
+    def wait(self, process):
+        """Waits until a process ends; one that waits itself is ended."""
         ends, before = select.poll(), None
         handle = os.pidfd_open(process)
         ends.register(handle, select.POLLIN)
@@ -62,9 +74,6 @@ class Program:
                 os.kill(process, signal.SIGKILL)
             before = state
         os.close(handle)
-        status = os.waitstatus_to_exitcode(os.waitpid(process, 0)[1])
-        # (the limit of the processor, or ended above)
-        return None if status in (-signal.SIGXCPU, -signal.SIGKILL) else status
 
 
 def state_of(process):
