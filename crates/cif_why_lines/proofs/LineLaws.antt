@@ -1,5 +1,5 @@
 -- What stands in a line behind its first word.
-use Rattle.std.proofs.Common.{◌≡◌, ℕ, zero, suc, ◌+◌, ◌<◌, true, false, List, [], ◌∷◌, ◌++◌, length, map, drop, get_or, add-one, arith, drop-cons, append_assoc, Bor, Option, None, Some, refl, sym, ap, ◌∙◌}
+use Rattle.std.proofs.Common.{◌≡◌, ℕ, zero, suc, true, false, List, [], ◌∷◌, length, map, arith, Bor, Option, None, Some, refl, sym, ap, ◌∙◌}
 use Rattle.std.specs.Prelude.{◌==◌, codes, option_map, slice_get, unwrap_or}
 use Rattle.std.specs.Option.{option_copied}
 use Rattle.std.proofs.lemmas.Bool.{eqb-true}
@@ -11,7 +11,7 @@ use Rattle.cif_net.specs.Parts.{auto_tree, exclusion_tree, invariant_tree}
 use Rattle.cif_net.specs.declared.automata.Auto.{Auto}
 use Rattle.cif_net.specs.declared.predicates.Exclusion.{Exclusion}
 use Rattle.cif_net.specs.declared.predicates.Invariant.{Invariant}
-use Rattle.why_face.specs.Lines.{place_told, reason_told, reasons_text}
+use Rattle.why_face.specs.Lines.{place_told, reasons_text}
 use Rattle.why_face.specs.Told.{Told}
 use Rattle.cif_reasons.specs.View.{reason_tree}
 use Rattle.cif_reasons.specs.declared.reason.Reason.{Reason}
@@ -73,15 +73,6 @@ invariant-shown xs ys k o same is =
     ap place_shown (is ∙ ap (λ zs. option_map (λ (i : Invariant). i.at) (slice_get zs k)) same) ∙ place-shown invariant_tree (λ (i : NetInvariant). i.at) xs k
 
 -- ---- lines
-
-pub line-added : (t : Told) (rs : List Reason) (k : ℕ) (r : Reason) (into mid new whole : Text) → k < length rs → r ≡ get_or rs k r → mid ≡ into ++ reason_told t (reason_tree r) → new ≡ mid ++ codes "\n"
-    → into ++ lines_of t (map reason_tree (drop k rs)) ≡ whole → new ++ lines_of t (map reason_tree (drop (k + 1) rs)) ≡ whole
-line-added t rs k r into mid new whole l e first second h =
-    let others = lines_of t (map reason_tree (drop (k + 1) rs)) in
-    let line = reason_told t (reason_tree r) in
-    ap (λ (x : Text). x ++ others) (second ∙ ap (λ (x : Text). x ++ codes "\n") first ∙ append_assoc into line (codes "\n"))
-    ∙ append_assoc into (line ++ codes "\n") others
-    ∙ ap (λ ys. into ++ lines_of t (map reason_tree ys)) (sym (drop-cons rs k r l ∙ ap (λ y. y ∷ drop (suc k) rs) (sym e) ∙ ap (λ m. r ∷ drop m rs) (sym (add-one k)))) ∙ h
 
 pub no-line : (t : Told) (rs : List Reason) → (length rs == 0) ≡ true → codes "enabled\n" ≡ reasons_text t (map reason_tree rs)
 no-line t [] h = refl

@@ -6,8 +6,8 @@ use Rattle.grammar.specs.Pieces.{Text}
 use Rattle.cif_model.specs.Exprs.{targets}
 use Rattle.cif_model.specs.Net.{Net, NetAuto, NetEdge}
 use Rattle.why_face.specs.Lines.{value_at}
-use Rattle.why_face.specs.Told.{AutomatonTold, EdgeTold, ValueTold}
-use Rattle.sim_shown.specs.Nets.{event_path_in, net_edge_told, paths_of_edge, told_of_net, value_told, variable_path_in}
+use Rattle.why_face.specs.Told.{AutomatonTold, EdgeTold}
+use Rattle.sim_shown.specs.Nets.{event_path_in, net_edge_told, told_of_net, value_told, variable_path_in}
 use Rattle.cif_why_lines.specs.Targets.{target_path, targets_of, value_of_auto, value_of_edge, value_with}
 use Rattle.cif_why_lines.specs.declared.targets.Target.{Target}
 use Rattle.cif_why_lines.specs.declared.targets.Target.TheVariants.{Event, Variable}

@@ -16,7 +16,8 @@ use cif_base::Memory;
 use cif_net::{Exclusion, Invariant, Net, NetExpr};
 use cif_reasons::Reason;
 
-/// Appends a line for each reason why an event has no step, or the line `enabled` where there is no reason.
+/// Appends a line for each reason why an event has no step, with paths and places of the source, or the line `enabled` where
+/// there is no reason. A number that the net lacks has no path and no place.
 pub fn put_reasons(into: &mut Vec<u8>, net: &Net, reasons: &[Reason]) -> Result<(), Memory>
     ensures { OnOk result (into.new.items ≡ into.old.items ++ reasons_text (told_of_net (net_tree net.now)) (map reason_tree reasons.now)) }
 {
@@ -39,7 +40,7 @@ fn put_lines(into: &mut Vec<u8>, net: &Net, reasons: &[Reason]) -> Result<(), Me
     Ok(())
 }
 
-/// Appends a reason, by paths and places of the source.
+/// Appends a reason without a line feed.
 fn put_reason(into: &mut Vec<u8>, net: &Net, reason: Reason) -> Result<(), Memory>
     ensures { OnOk result (into.new.items ≡ into.old.items ++ reason_told (told_of_net (net_tree net.now)) (reason_tree reason)) }
 {
@@ -61,7 +62,7 @@ fn put_words(into: &mut Vec<u8>, words: &[u8]) -> Result<(), Memory>
     Ok(())
 }
 
-/// Appends that an automaton blocks the event.
+/// Appends `blocks` and the path of an automaton.
 fn put_blocks(into: &mut Vec<u8>, net: &Net, auto: u32) -> Result<(), Memory>
     ensures { OnOk result (into.new.items ≡ into.old.items ++ (codes "blocks " ++ auto_path (told_of_net (net_tree net.now)) auto)) }
 {
@@ -70,7 +71,7 @@ fn put_blocks(into: &mut Vec<u8>, net: &Net, auto: u32) -> Result<(), Memory>
     Ok(())
 }
 
-/// Appends the path of an automaton, if there is this automaton.
+/// Appends the path of an automaton, if it exists.
 fn put_auto(into: &mut Vec<u8>, net: &Net, auto: u32) -> Result<(), Memory>
     ensures { OnOk result (into.new.items ≡ into.old.items ++ auto_path (told_of_net (net_tree net.now)) auto) }
 {
@@ -80,7 +81,7 @@ fn put_auto(into: &mut Vec<u8>, net: &Net, auto: u32) -> Result<(), Memory>
     Ok(())
 }
 
-/// Appends that an exclusion forbids the event.
+/// Appends `excluded` and the place of the predicate of an exclusion.
 fn put_excluded(into: &mut Vec<u8>, net: &Net, exclusion: u32) -> Result<(), Memory>
     ensures { OnOk result (into.new.items ≡ into.old.items ++ (codes "excluded " ++ place_told (told_of_net (net_tree net.now)).exclusions exclusion)) }
 {
@@ -90,7 +91,7 @@ fn put_excluded(into: &mut Vec<u8>, net: &Net, exclusion: u32) -> Result<(), Mem
     Ok(())
 }
 
-/// Appends that the event breaks a state invariant.
+/// Appends `breaks` and the place of the predicate of a state invariant.
 fn put_breaks(into: &mut Vec<u8>, net: &Net, invariant: u32) -> Result<(), Memory>
     ensures { OnOk result (into.new.items ≡ into.old.items ++ (codes "breaks " ++ place_told (told_of_net (net_tree net.now)).invariants invariant)) }
 {
@@ -100,6 +101,7 @@ fn put_breaks(into: &mut Vec<u8>, net: &Net, invariant: u32) -> Result<(), Memor
     Ok(())
 }
 
+/// Appends a place of the source, if there is one.
 fn put_if_some(into: &mut Vec<u8>, place: Option<u32>) -> Result<(), Memory>
     ensures { OnOk result (into.new.items ≡ into.old.items ++ place_shown place) }
 {
@@ -109,7 +111,7 @@ fn put_if_some(into: &mut Vec<u8>, place: Option<u32>) -> Result<(), Memory>
     Ok(())
 }
 
-/// Where the predicate of an exclusion begins.
+/// The place of the predicate of an exclusion, by its number.
 fn exclusion_place(exclusions: &[Exclusion], number: u32) -> Option<u32>
     ensures { result ≡ option_map (λ (x : Exclusion). expr_at (view x.pred)) (slice_get exclusions.now number) }
 {
@@ -119,7 +121,7 @@ fn exclusion_place(exclusions: &[Exclusion], number: u32) -> Option<u32>
     }
 }
 
-/// Where the predicate of a state invariant begins.
+/// The place of the predicate of a state invariant, by its number.
 fn invariant_place(invariants: &[Invariant], number: u32) -> Option<u32>
     ensures { result ≡ option_map (λ (i : Invariant). i.at) (slice_get invariants.now number) }
 {

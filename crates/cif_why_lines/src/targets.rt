@@ -8,23 +8,23 @@ ghost use Rattle.cif_why_lines.specs.Targets.{assigned_targets, targets_of};
 
 use cif_net::{NetEdge, NetUpdate, NetUpdateBranch};
 
-/// What a value goes to: the event on which it is sent, or the variable to which it is assigned.
+/// The event on which a value is sent, or the variable to which it is assigned.
 #[derive(Clone, Copy)]
 pub(crate) enum Target {
     Event(u32),
     Variable(u32),
 }
 
-/// A search among the right sides of updates, in text order: the variable of the one with the number, or the number less
-/// their count.
+/// The result of a search among the right sides of updates, in text order: the variable that the one with the number
+/// assigns, or the number minus their count.
 #[derive(Clone, Copy)]
 pub(crate) enum Search {
     Found(u32),
     Left(u32),
 }
 
-/// The target of the value of an edge with this number: of what it sends, if it sends a value, and then of the right sides
-/// of its updates, those of branches not taken too.
+/// The target of a value of an edge by its number from 0: the sent value, if there is one, and then the right sides of all
+/// updates in text order, those of branches not taken too.
 pub(crate) fn target_of(edge: &NetEdge, number: u32) -> Option<Target>
     ensures { result ≡ slice_get (targets_of (edge_tree edge.now)) number }
 {
@@ -37,7 +37,7 @@ pub(crate) fn target_of(edge: &NetEdge, number: u32) -> Option<Target>
     assigned_at(edge.updates.as_slice(), number - 1)
 }
 
-/// The variable that the right side with this number assigns.
+/// The variable that a right side assigns, by its number.
 fn assigned_at(updates: &[NetUpdate], number: u32) -> Option<Target>
     ensures { result ≡ slice_get (assigned_targets (view_updates updates.now)) number }
 {

@@ -11,7 +11,7 @@ use crate::targets::{Target, target_of};
 use cif_base::{Memory, put_int};
 use cif_net::{Auto, Net, NetEdge};
 
-/// Appends that a value of an edge leaves its range, if there is this value.
+/// Appends `leaves`, the place and the path of a value of an edge, if it exists.
 pub(crate) fn put_leaves(
     into: &mut Vec<u8>,
     net: &Net,
@@ -70,7 +70,7 @@ fn put_leaves_of_value(
     Ok(())
 }
 
-/// Appends that the value at a place leaves the range of its target.
+/// Appends `leaves`, a place and the path of a target.
 fn put_value(into: &mut Vec<u8>, net: &Net, place: u32, target: Target) -> Result<(), Memory>
     ensures { OnOk result (into.new.items ≡ into.old.items ++ leaves_told (value_with (net_tree net.now) (Some place) (Some target))) }
 {
@@ -98,7 +98,7 @@ fn put_target(into: &mut Vec<u8>, net: &Net, target: Target) -> Result<(), Memor
     }
 }
 
-/// Appends the path of an event, if there is this event.
+/// Appends the path of an event, if it exists.
 fn put_event(into: &mut Vec<u8>, net: &Net, event: u32) -> Result<(), Memory>
     ensures { OnOk result (into.new.items ≡ into.old.items ++ event_path_in (net_tree net.now) event) }
 {
@@ -108,7 +108,7 @@ fn put_event(into: &mut Vec<u8>, net: &Net, event: u32) -> Result<(), Memory>
     Ok(())
 }
 
-/// Appends the path of a variable, if there is this variable.
+/// Appends the path of a variable, if it exists.
 fn put_variable(into: &mut Vec<u8>, net: &Net, variable: u32) -> Result<(), Memory>
     ensures { OnOk result (into.new.items ≡ into.old.items ++ variable_path_in (net_tree net.now) variable) }
 {
