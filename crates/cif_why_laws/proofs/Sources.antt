@@ -1,0 +1,139 @@
+-- What is told of a source that keeps its rules is what is told of its net, and so it is why its events have no step.
+use Rattle.std.proofs.Math.Path.{fun_ext}
+use Rattle.std.proofs.Common.{◌≡◌, ℕ, zero, suc, ℤ, true, List, [], ◌∷◌, map, refl, sym, ◌∙◌, ap, subst}
+use Rattle.std.specs.Prelude.{◌&&◌, option_map, slice_get, unwrap_or}
+use Rattle.std.specs.List.{list_all}
+use Rattle.cif_ast.specs.Countable.{IsCountable}
+use Rattle.cif_ast.specs.SmallNumbers.{HasSmallNumbers}
+use Rattle.cif_ast.specs.declared.components.Spec.{Spec}
+use Rattle.cif_system.specs.Words.{Member}
+use Rattle.cif_system.specs.System.{State, System}
+use Rattle.cif_system.proofs.Lists.{some-same}
+use Rattle.cif_model.specs.Facts.{is_net}
+use Rattle.cif_model.specs.Inline.{Unfolds}
+use Rattle.cif_model.specs.Meaning.{defined_value}
+use Rattle.cif_model.specs.Net.{NetAlg, NetStored, Net}
+use Rattle.cif_plain.proofs.Solved.{member-at}
+use Rattle.cif_source.specs.Source.{Source, source_of}
+use Rattle.cif_source.specs.Components.{Component}
+use Rattle.cif_source.specs.Objects.{algs, components_of, automata, Declared, EventEdge, event_edges}
+use Rattle.cif_source.specs.Step.{alg_value, system_of}
+use Rattle.cif_rules.specs.BodyRules.{targets_of_all}
+use Rattle.cif_image.specs.Flat.{net_alg, net_of_source}
+use Rattle.cif_image.specs.Small.{HasSmallParts}
+use Rattle.cif_image.specs.WellFormed.{KeepsBefore, algebraic}
+use Rattle.cif_image.proofs.DistinctLaws.{algs-differ}
+use Rattle.cif_image.proofs.EdgeLaws.{is_some, SameValues, names_variable, names_its_objects}
+use Rattle.cif_image.proofs.RuleLaws.{all-from, constants-kept, declaration-cases}
+use Rattle.cif_image.proofs.SystemLaws.{MeansTheSame, names_all}
+use Rattle.cif_image.proofs.ValueLaws.{value-same}
+use Rattle.cif_fits.specs.Forms.{HasSmallArguments}
+use Rattle.cif_fits.proofs.FitLaws.{all-fit, demanded-fit, expressions-fit, guards-fit, sent-fit}
+use Rattle.cif_small.proofs.SmallLaws.{small-arguments, small-parts}
+use Rattle.cif_nets.proofs.Finding.{numbered, variable-denoted, variable-named}
+use Rattle.cif_nets.proofs.Forms.{automaton-home, edge-of, use-of}
+use Rattle.cif_nets.proofs.Net.{net-stands}
+use Rattle.cif_nets.proofs.Represented.{represented}
+use Rattle.cif_nets.proofs.Sound.{IsSound, few, ranges, root, scopes}
+use Rattle.cif_nets.proofs.Uses.{event-used, variable-used}
+use Rattle.sim_face.specs.Names.{Names, ValueNames}
+use Rattle.why_face.specs.Parties.{HasOneRole}
+use Rattle.why_face.specs.Telling.{TellsOf}
+use Rattle.sim_shown.specs.Nets.{stored_names, told_of_net, variable_path_in}
+use Rattle.sim_shown.specs.Sources.{names_of, told_of}
+use Rattle.sim_shown.proofs.NameLaws.{names-same}
+use Rattle.sim_shown.proofs.RoleLaws.{one-role-each}
+use Rattle.sim_shown.proofs.ToldLaws.{at-mapped, nets-tell}
+use Rattle.sim_shown.proofs.WholeLaws as whole
+use Rattle.cif_why_laws.specs.Reasons.{ExplainsSteps, variable_path}
+use Rattle.cif_why_laws.proofs.Reasons.{explains}
+use Rattle.cif_why_laws.proofs.Unfolded.{told-unfolded}
+
+module _ (t : Source) (h : IsSound t) where
+  -- ---- names
+
+  edge-named : (c : Component) → Member c (components_of t) → (w : EventEdge) → Member w (event_edges c) → names_its_objects c w ≡ true
+  edge-named c m w k =
+      let event = numbered t h c m w.event_use.name (event-used c w.edge (edge-of c w k) w.event_use (use-of c w k)) in
+      ap (λ b. b && list_all (names_variable c) (targets_of_all w.edge.updates)) (ap is_some event.number)
+      ∙ all-from (names_variable c) (targets_of_all w.edge.updates) (λ nm i. ap is_some (variable-named t h c nm (variable-denoted t h c m nm (variable-used c w.edge (edge-of c w k) nm i))))
+
+  all-named : list_all names_all (automata t) ≡ true
+  all-named = all-from names_all (automata t) (λ c m. all-from (names_its_objects c) (event_edges c) (edge-named c (automaton-home t c m)))
+
+  -- ---- values
+
+  values-same : (c : Component) → Member c (components_of t) → SameValues (net_of_source t) c
+  values-same c m e s r = value-same t (few t h) (constants-kept t (ranges t h)) (algs-differ t (scopes t h)) s r c m e
+
+  abbrev by_net : NetAlg → State → ℤ
+  by_net a s = defined_value (net_of_source t) s a
+
+  algs-same : (d : Declared) → Member d (algs t) → (s : State) → defined_value (net_of_source t) s (net_alg d) ≡ alg_value d s
+  algs-same d m s =
+      let k = member-at d (algs t) m in
+      let of_net = at-mapped by_net (map net_alg (algs t)) k.0 (net_alg d) (at-mapped net_alg (algs t) k.0 d k.1) in
+      let same = sym of_net ∙ ap (λ (m : System). slice_get m.algs k.0) (represented t h).meaning ∙ at-mapped alg_value (algs t) k.0 d k.1 in
+      ap (λ f. f s) (some-same (by_net (net_alg d)) (alg_value d) same)
+
+  means-same : MeansTheSame t
+  means-same = record {
+    of_automata = λ c m. values-same c (automaton-home t c m);
+    of_declarations = λ d m. values-same d.0 (declaration-cases t d m).0;
+    of_algs = algs-same;
+  }
+
+  -- what is told of the net of the source is what is told of the source
+  pub told-by-net : told_of_net (net_of_source t) ≡ told_of t
+  told-by-net = whole.told-same t means-same all-named (λ c m. root t h c (automaton-home t c m))
+
+  -- ---- where numbers are small
+
+  module _ (small : HasSmallParts t) (given : HasSmallArguments t) where
+    abbrev n : Net
+    n = net_of_source t
+
+    is-net : is_net n ≡ true
+    is-net = net-stands t h small given (record {
+      expressions = λ c k e m. expressions-fit t c h small given m k e;
+      guards = λ c at all m. guards-fit t c h small given m at all;
+      values = λ c r o k e m is. demanded-fit t c h small given m r o is k e;
+      conditions = λ c r o all m is. all-fit t c h small given m r o is all;
+      sent = λ c ty k e m. sent-fit t c h small given m ty k e;
+    })
+
+    -- so it is where algebraic variables are replaced
+    pub told-by-unfolded : (p : Net) → Unfolds n p → told_of_net p ≡ told_of t
+    told-by-unfolded p u = told-unfolded n p is-net u ∙ told-by-net
+
+    one-role : (e : ℕ) → HasOneRole (system_of t) e
+    one-role e = subst (λ m. HasOneRole m e) (represented t h).meaning (one-role-each n is-net e)
+
+    path-at : (vs : List NetStored) (k : ℕ) → unwrap_or (option_map (λ (x : NetStored). x.path) (slice_get vs k)) [] ≡ unwrap_or (option_map (λ (x : ValueNames). x.path) (slice_get (map stored_names vs) k)) []
+    path-at [] k = refl
+    path-at (v ∷ vs) zero = refl
+    path-at (v ∷ vs) (suc k) = path-at vs k
+
+    -- its edges are told of as they assign, by the names of its variables
+    pub tells-of : TellsOf (variable_path (names_of t)) (system_of t) (told_of t)
+    tells-of =
+        subst (λ (x : Names). TellsOf (variable_path x) (system_of t) (told_of t)) (names-same t)
+        (subst (λ f. TellsOf f (system_of t) (told_of t)) (fun_ext (path-at n.vars))
+        (subst (λ x. TellsOf (variable_path_in n) (system_of t) x) told-by-net
+        (subst (λ m. TellsOf (variable_path_in n) m (told_of_net n)) (represented t h).meaning (nets-tell n is-net))))
+
+    -- its reasons are those why its events have no step
+    pub explains-steps : ExplainsSteps (system_of t) (told_of t)
+    explains-steps = explains (variable_path (names_of t)) (system_of t) (told_of t) one-role tells-of
+
+-- ---- a source that is read
+
+pub told-read : (spec : Spec) (n : Net) → IsCountable spec → HasSmallNumbers spec → KeepsBefore (source_of spec) algebraic → Unfolds (net_of_source (source_of spec)) n → told_of_net n ≡ told_of (source_of spec)
+told-read spec n counted small h = told-by-unfolded (source_of spec) h (small-parts spec counted small) (small-arguments spec small) n
+
+pub tells-of-read : (spec : Spec) → IsCountable spec → HasSmallNumbers spec → KeepsBefore (source_of spec) algebraic
+    → TellsOf (variable_path (names_of (source_of spec))) (system_of (source_of spec)) (told_of (source_of spec))
+tells-of-read spec counted small h = tells-of (source_of spec) h (small-parts spec counted small) (small-arguments spec small)
+
+pub explains-read : (spec : Spec) → IsCountable spec → HasSmallNumbers spec → KeepsBefore (source_of spec) algebraic → ExplainsSteps (system_of (source_of spec)) (told_of (source_of spec))
+explains-read spec counted small h = explains-steps (source_of spec) h (small-parts spec counted small) (small-arguments spec small)

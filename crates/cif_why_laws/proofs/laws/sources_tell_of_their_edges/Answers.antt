@@ -1,0 +1,5 @@
+use Rattle.cif_why_laws.proofs.Sources.{tells-of-read}
+use Rattle.cif_why_laws.proofs.laws.sources_tell_of_their_edges.Goals as goal
+
+pub returns : goal.returns
+returns c = tells-of-read
