@@ -3,25 +3,21 @@ use Rattle.std.proofs.Math.Path.{fun_ext}
 use Rattle.std.proofs.Common.{◌≡◌, ℕ, zero, suc, ℤ, true, List, [], ◌∷◌, map, refl, sym, ◌∙◌, ap, subst}
 use Rattle.std.specs.Prelude.{◌&&◌, option_map, slice_get, unwrap_or}
 use Rattle.std.specs.List.{list_all}
-use Rattle.cif_ast.specs.Countable.{IsCountable}
-use Rattle.cif_ast.specs.SmallNumbers.{HasSmallNumbers}
-use Rattle.cif_ast.specs.declared.components.Spec.{Spec}
 use Rattle.cif_system.specs.Words.{Member}
 use Rattle.cif_system.specs.System.{State, System}
 use Rattle.cif_system.proofs.Lists.{some-same}
 use Rattle.cif_model.specs.Facts.{is_net}
 use Rattle.cif_model.specs.Inline.{Unfolds}
-use Rattle.cif_model.specs.Meaning.{defined_value}
+use Rattle.cif_model.specs.Meaning.{defined_value, system_of_net}
 use Rattle.cif_model.specs.Net.{NetAlg, NetStored, Net}
 use Rattle.cif_plain.proofs.Solved.{member-at}
-use Rattle.cif_source.specs.Source.{Source, source_of}
+use Rattle.cif_source.specs.Source.{Source}
 use Rattle.cif_source.specs.Components.{Component}
 use Rattle.cif_source.specs.Objects.{algs, components_of, automata, Declared, EventEdge, event_edges}
 use Rattle.cif_source.specs.Step.{alg_value, system_of}
 use Rattle.cif_rules.specs.BodyRules.{targets_of_all}
 use Rattle.cif_image.specs.Flat.{net_alg, net_of_source}
 use Rattle.cif_image.specs.Small.{HasSmallParts}
-use Rattle.cif_image.specs.WellFormed.{KeepsBefore, algebraic}
 use Rattle.cif_image.proofs.DistinctLaws.{algs-differ}
 use Rattle.cif_image.proofs.EdgeLaws.{is_some, SameValues, names_variable, names_its_objects}
 use Rattle.cif_image.proofs.RuleLaws.{all-from, constants-kept, declaration-cases}
@@ -45,6 +41,7 @@ use Rattle.sim_shown.proofs.NameLaws.{names-same}
 use Rattle.sim_shown.proofs.RoleLaws.{one-role-each}
 use Rattle.sim_shown.proofs.ToldLaws.{at-mapped, nets-tell}
 use Rattle.sim_shown.proofs.WholeLaws as whole
+use Rattle.cif_why_laws.specs.Acceptable.{IsAcceptable}
 use Rattle.cif_why_laws.specs.Reasons.{ExplainsSteps, variable_path}
 use Rattle.cif_why_laws.proofs.Reasons.{explains}
 use Rattle.cif_why_laws.proofs.Unfolded.{told-unfolded}
@@ -84,56 +81,54 @@ module _ (t : Source) (h : IsSound t) where
   }
 
   -- what is told of the net of the source is what is told of the source
-  pub told-by-net : told_of_net (net_of_source t) ≡ told_of t
+  told-by-net : told_of_net (net_of_source t) ≡ told_of t
   told-by-net = whole.told-same t means-same all-named (λ c m. root t h c (automaton-home t c m))
 
-  -- ---- where numbers are small
+module _ (t : Source) (h : IsAcceptable t) where
+  abbrev n : Net
+  n = net_of_source t
 
-  module _ (small : HasSmallParts t) (given : HasSmallArguments t) where
-    abbrev n : Net
-    n = net_of_source t
+  abbrev sound : IsSound t
+  sound q low = h.keeps q
 
-    is-net : is_net n ≡ true
-    is-net = net-stands t h small given (record {
-      expressions = λ c k e m. expressions-fit t c h small given m k e;
-      guards = λ c at all m. guards-fit t c h small given m at all;
-      values = λ c r o k e m is. demanded-fit t c h small given m r o is k e;
-      conditions = λ c r o all m is. all-fit t c h small given m r o is all;
-      sent = λ c ty k e m. sent-fit t c h small given m ty k e;
-    })
+  small : HasSmallParts t
+  small = subst HasSmallParts (sym h.is) (small-parts h.tree h.countable h.small)
 
-    -- so it is where algebraic variables are replaced
-    pub told-by-unfolded : (p : Net) → Unfolds n p → told_of_net p ≡ told_of t
-    told-by-unfolded p u = told-unfolded n p is-net u ∙ told-by-net
+  given : HasSmallArguments t
+  given = subst HasSmallArguments (sym h.is) (small-arguments h.tree h.small)
 
-    one-role : (e : ℕ) → HasOneRole (system_of t) e
-    one-role e = subst (λ m. HasOneRole m e) (represented t h).meaning (one-role-each n is-net e)
+  is-net : is_net n ≡ true
+  is-net = net-stands t sound small given (record {
+    expressions = λ c k e m. expressions-fit t c sound small given m k e;
+    guards = λ c at all m. guards-fit t c sound small given m at all;
+    values = λ c r o k e m is. demanded-fit t c sound small given m r o is k e;
+    conditions = λ c r o all m is. all-fit t c sound small given m r o is all;
+    sent = λ c ty k e m. sent-fit t c sound small given m ty k e;
+  })
 
-    path-at : (vs : List NetStored) (k : ℕ) → unwrap_or (option_map (λ (x : NetStored). x.path) (slice_get vs k)) [] ≡ unwrap_or (option_map (λ (x : ValueNames). x.path) (slice_get (map stored_names vs) k)) []
-    path-at [] k = refl
-    path-at (v ∷ vs) zero = refl
-    path-at (v ∷ vs) (suc k) = path-at vs k
+  means : system_of_net n ≡ system_of t
+  means = (represented t sound).meaning
 
-    -- its edges are told of as they assign, by the names of its variables
-    pub tells-of : TellsOf (variable_path (names_of t)) (system_of t) (told_of t)
-    tells-of =
-        subst (λ (x : Names). TellsOf (variable_path x) (system_of t) (told_of t)) (names-same t)
-        (subst (λ f. TellsOf f (system_of t) (told_of t)) (fun_ext (path-at n.vars))
-        (subst (λ x. TellsOf (variable_path_in n) (system_of t) x) told-by-net
-        (subst (λ m. TellsOf (variable_path_in n) m (told_of_net n)) (represented t h).meaning (nets-tell n is-net))))
+  one-role : (e : ℕ) → HasOneRole (system_of t) e
+  one-role e = subst (λ m. HasOneRole m e) means (one-role-each n is-net e)
 
-    -- its reasons are those why its events have no step
-    pub explains-steps : ExplainsSteps (system_of t) (told_of t)
-    explains-steps = explains (variable_path (names_of t)) (system_of t) (told_of t) one-role tells-of
+  path-at : (vs : List NetStored) (k : ℕ) → unwrap_or (option_map (λ (x : NetStored). x.path) (slice_get vs k)) [] ≡ unwrap_or (option_map (λ (x : ValueNames). x.path) (slice_get (map stored_names vs) k)) []
+  path-at [] k = refl
+  path-at (v ∷ vs) zero = refl
+  path-at (v ∷ vs) (suc k) = path-at vs k
 
--- ---- a source that is read
+  -- its edges are told of as they assign, by the names of its variables
+  pub edges-told : TellsOf (variable_path (names_of t)) (system_of t) (told_of t)
+  edges-told =
+      subst (λ (x : Names). TellsOf (variable_path x) (system_of t) (told_of t)) (names-same t)
+      (subst (λ f. TellsOf f (system_of t) (told_of t)) (fun_ext (path-at n.vars))
+      (subst (λ x. TellsOf (variable_path_in n) (system_of t) x) (told-by-net t sound)
+      (subst (λ m. TellsOf (variable_path_in n) m (told_of_net n)) means (nets-tell n is-net))))
 
-pub told-read : (spec : Spec) (n : Net) → IsCountable spec → HasSmallNumbers spec → KeepsBefore (source_of spec) algebraic → Unfolds (net_of_source (source_of spec)) n → told_of_net n ≡ told_of (source_of spec)
-told-read spec n counted small h = told-by-unfolded (source_of spec) h (small-parts spec counted small) (small-arguments spec small) n
+  -- its reasons are those why its events have no step
+  pub explains-steps : ExplainsSteps (system_of t) (told_of t)
+  explains-steps = explains (variable_path (names_of t)) (system_of t) (told_of t) one-role edges-told
 
-pub tells-of-read : (spec : Spec) → IsCountable spec → HasSmallNumbers spec → KeepsBefore (source_of spec) algebraic
-    → TellsOf (variable_path (names_of (source_of spec))) (system_of (source_of spec)) (told_of (source_of spec))
-tells-of-read spec counted small h = tells-of (source_of spec) h (small-parts spec counted small) (small-arguments spec small)
-
-pub explains-read : (spec : Spec) → IsCountable spec → HasSmallNumbers spec → KeepsBefore (source_of spec) algebraic → ExplainsSteps (system_of (source_of spec)) (told_of (source_of spec))
-explains-read spec counted small h = explains-steps (source_of spec) h (small-parts spec counted small) (small-arguments spec small)
+-- what is told of its net, where algebraic variables are replaced, is what is told of it
+pub net-tells : (t : Source) (p : Net) → IsAcceptable t → Unfolds (net_of_source t) p → told_of_net p ≡ told_of t
+net-tells t p h u = told-unfolded (net_of_source t) p (is-net t h) u ∙ told-by-net t (sound t h)

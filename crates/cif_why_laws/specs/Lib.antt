@@ -1,1 +1,2 @@
+pub mod Acceptable
 pub mod Reasons

@@ -1,19 +1,16 @@
 //! The laws, each the contract of a function without a body.
 
 ghost use Rattle.std.specs.Prelude.{◌≡◌, true};
-ghost use Rattle.cif_ast.specs.Countable.{IsCountable};
-ghost use Rattle.cif_ast.specs.SmallNumbers.{HasSmallNumbers};
-ghost use Rattle.cif_ast.specs.declared.components.Spec.{Spec};
 ghost use Rattle.cif_model.specs.Facts.{is_net};
 ghost use Rattle.cif_model.specs.Inline.{Unfolds};
 ghost use Rattle.cif_model.specs.Net.{Net};
-ghost use Rattle.cif_source.specs.Source.{source_of};
+ghost use Rattle.cif_source.specs.Source.{Source};
 ghost use Rattle.cif_source.specs.Step.{system_of};
 ghost use Rattle.cif_image.specs.Flat.{net_of_source};
-ghost use Rattle.cif_image.specs.WellFormed.{KeepsBefore, algebraic};
 ghost use Rattle.why_face.specs.Telling.{TellsOf};
 ghost use Rattle.sim_shown.specs.Nets.{told_of_net};
 ghost use Rattle.sim_shown.specs.Sources.{names_of, told_of};
+ghost use Rattle.cif_why_laws.specs.Acceptable.{IsAcceptable};
 ghost use Rattle.cif_why_laws.specs.Reasons.{ExplainsSteps, variable_path};
 
 /// What is told of a net in which algebraic variables are replaced is what is told of the net: values have the same places, paths
@@ -22,23 +19,19 @@ pub fn unfolded_nets_keep_what_is_told()
     ensures { (n p : Net) → is_net n ≡ true → Unfolds n p → told_of_net p ≡ told_of_net n }
 {}
 
-/// Where a source keeps its rules, and its tree is countable and has small numbers, as each that is read, what is told of its net
-/// with algebraic variables replaced is what is told of the source.
-pub fn unfolded_nets_tell_of_their_sources()
-    ensures { (spec : Spec) (n : Net) → IsCountable spec → HasSmallNumbers spec → KeepsBefore (source_of spec) algebraic →
-        Unfolds (net_of_source (source_of spec)) n → told_of_net n ≡ told_of (source_of spec) }
+/// What is told of the net of an accepted source, with algebraic variables replaced, is what is told of the source.
+pub fn nets_tell_of_their_sources()
+    ensures { (t : Source) (n : Net) → IsAcceptable t → Unfolds (net_of_source t) n → told_of_net n ≡ told_of t }
 {}
 
-/// What is told of the source tells of each edge: its values that are assigned are those that the edge assigns, each with the number
-/// of a value that goes to its variable.
+/// What is told of an accepted source tells of each edge: its values that are assigned are those that the edge assigns, each with the
+/// number of a value that goes to its variable.
 pub fn sources_tell_of_their_edges()
-    ensures { (spec : Spec) → IsCountable spec → HasSmallNumbers spec → KeepsBefore (source_of spec) algebraic →
-        TellsOf (variable_path (names_of (source_of spec))) (system_of (source_of spec)) (told_of (source_of spec)) }
+    ensures { (t : Source) → IsAcceptable t → TellsOf (variable_path (names_of t)) (system_of t) (told_of t) }
 {}
 
-/// An event of the source has no reasons exactly where it has a step. Each of its reasons holds, and where it has no step, each that
-/// holds is one of them.
+/// An event of an accepted source has no reasons exactly where it has a step. Each of its reasons holds, and where it has no step,
+/// each that holds is one of them.
 pub fn sources_tell_why()
-    ensures { (spec : Spec) → IsCountable spec → HasSmallNumbers spec → KeepsBefore (source_of spec) algebraic →
-        ExplainsSteps (system_of (source_of spec)) (told_of (source_of spec)) }
+    ensures { (t : Source) → IsAcceptable t → ExplainsSteps (system_of t) (told_of t) }
 {}

@@ -5,6 +5,6 @@
 mod laws;
 
 pub use laws::{
-    sources_tell_of_their_edges, sources_tell_why, unfolded_nets_keep_what_is_told,
-    unfolded_nets_tell_of_their_sources,
+    nets_tell_of_their_sources, sources_tell_of_their_edges, sources_tell_why,
+    unfolded_nets_keep_what_is_told,
 };

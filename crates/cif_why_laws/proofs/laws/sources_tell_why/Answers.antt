@@ -1,5 +1,5 @@
-use Rattle.cif_why_laws.proofs.Sources.{explains-read}
+use Rattle.cif_why_laws.proofs.Sources.{explains-steps}
 use Rattle.cif_why_laws.proofs.laws.sources_tell_why.Goals as goal
 
 pub returns : goal.returns
-returns c = explains-read
+returns c = explains-steps
