@@ -1,10 +1,11 @@
 -- What is told of a source that keeps its rules is what is told of its net, and so it is why its events have no step.
 use Rattle.std.proofs.Math.Path.{fun_ext}
-use Rattle.std.proofs.Common.{◌≡◌, ℕ, zero, suc, ℤ, true, List, [], ◌∷◌, map, refl, sym, ◌∙◌, ap, subst}
+use Rattle.std.proofs.Common.{◌≡◌, ℕ, zero, suc, ℤ, true, List, [], ◌∷◌, map, Some, None, refl, sym, ◌∙◌, ap, subst}
 use Rattle.std.specs.Prelude.{◌&&◌, option_map, slice_get, unwrap_or}
 use Rattle.std.specs.List.{list_all}
 use Rattle.cif_system.specs.Words.{Member}
 use Rattle.cif_system.specs.System.{State, System}
+use Rattle.cif_system.specs.Choices.{first_step}
 use Rattle.cif_system.proofs.Lists.{some-same}
 use Rattle.cif_model.specs.Facts.{is_net}
 use Rattle.cif_model.specs.Inline.{Unfolds}
@@ -34,7 +35,10 @@ use Rattle.cif_nets.proofs.Sound.{IsSound, few, ranges, root, scopes}
 use Rattle.cif_nets.proofs.Uses.{event-used, variable-used}
 use Rattle.sim_face.specs.Names.{Names, ValueNames}
 use Rattle.why_face.specs.Parties.{HasOneRole}
+use Rattle.why_face.specs.Reasons.{Holds, Reason, reasons_of}
 use Rattle.why_face.specs.Telling.{TellsOf}
+use Rattle.why_face.proofs.Enough.{no-reason}
+use Rattle.why_face.proofs.Telling.{all-told}
 use Rattle.sim_shown.specs.Nets.{stored_names, told_of_net, variable_path_in}
 use Rattle.sim_shown.specs.Sources.{names_of, told_of}
 use Rattle.sim_shown.proofs.NameLaws.{names-same}
@@ -128,6 +132,12 @@ module _ (t : Source) (h : IsAcceptable t) where
   -- its reasons are those why its events have no step
   pub explains-steps : ExplainsSteps (system_of t) (told_of t)
   explains-steps = explains (variable_path (names_of t)) (system_of t) (told_of t) one-role edges-told
+
+  pub enabled-where-none : (s : State) (e : ℕ) → reasons_of (system_of t) (told_of t) s e ≡ [] → (next : State) × (first_step (system_of t) s e ≡ Some next)
+  enabled-where-none s e = no-reason (variable_path (names_of t)) (system_of t) (told_of t) s e (one-role e) edges-told
+
+  pub all-reasons-told : (s : State) (e : ℕ) (r : Reason) → first_step (system_of t) s e ≡ None → Holds (system_of t) (told_of t) s e r → Member r (reasons_of (system_of t) (told_of t) s e)
+  all-reasons-told s e r = all-told (variable_path (names_of t)) (system_of t) (told_of t) s e r edges-told
 
 -- what is told of its net, where algebraic variables are replaced, is what is told of it
 pub net-tells : (t : Source) (p : Net) → IsAcceptable t → Unfolds (net_of_source t) p → told_of_net p ≡ told_of t
