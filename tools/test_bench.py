@@ -114,9 +114,11 @@ class Faults(Bench):
                      "automaton A: location; end", "alg int v = v;"):
             self.fault(7, "a.cif: refused; cif check a.cif says why", "draw", self.write("a.cif", text))
         self.write("a.cif", "event e; plant A: location: initial; edge e; end")
-        self.fault(7, "a.cif: 28 Unclassed event e", "legend", "a.cif")
-        self.fault(7, "a.cif: 28 Unclassed event e", "wrap", "a.cif")
+        self.fault(8, "a.cif: 28 Unclassed event e", "legend", "a.cif")
+        self.fault(8, "a.cif: 28 Unclassed event e", "wrap", "a.cif")
         self.answer("draw", "a.cif")
+        self.write("a.cif", "controllable e; " + "".join(f"plant {it}: location: initial; {'edge e; ' * 129}end " for it in "AB"))
+        self.fault(8, "a.cif: refused; cif check a.cif says why", "draw", "a.cif")
 
     def test_programs(self):
         shutil.copy(source("lamp"), self.room / "lamp.cif")

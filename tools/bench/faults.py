@@ -2,7 +2,7 @@
 
 The lines and statuses are those of `cif` where it has the same fault.
 """
-WORDS, UNREAD, UNWRITTEN, TOO_LONG, SOURCE, PROGRAM, ROWS = 2, 3, 4, 6, 7, 9, 10
+WORDS, UNREAD, UNWRITTEN, TOO_LONG, SOURCE, PROFILE, PROGRAM, ROWS = 2, 3, 4, 6, 7, 8, 9, 10
 # The most bytes of a source, a program, and a table.
 MOST_SOURCE, MOST_PROGRAM, MOST_ROWS = 4194304, 16777216, 67108864
 

@@ -9,7 +9,7 @@ from plain_channels import RECEIVES, SENDS, SYNCS
 from plain_sources import Source
 from plain_tokens import Unread, lexed
 
-from bench.faults import MOST_SOURCE, SOURCE, content, of_file
+from bench.faults import MOST_SOURCE, PROFILE, SOURCE, content, of_file
 
 # The name that is shown for the location of an automaton that has one location without a name.
 NAMELESS = "-"
@@ -127,9 +127,10 @@ def read(file, text):
             source = MarkedSource(text)
             due, net = broken(source)
     except (Unread, RecursionError):
-        due = True
+        due = {("NotRead",)}
     if due:
-        raise of_file(SOURCE, file, f"refused; cif check {file} says why")
+        status = PROFILE if {it[0] for it in due} == {"TooManyChoices"} else SOURCE
+        raise of_file(status, file, f"refused; cif check {file} says why")
     return source, net
 
 
@@ -141,7 +142,7 @@ def load_classed(file):
     """A source that has a program: each event has a class."""
     model = load(file)
     if unclassed(model.net):
-        raise of_file(SOURCE, file, f"28 Unclassed event {model.unclassed()}")
+        raise of_file(PROFILE, file, f"28 Unclassed event {model.unclassed()}")
     return model
 
 
