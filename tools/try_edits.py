@@ -51,7 +51,7 @@ def applies():
     found = {*crates.TOP.glob("crates/*/must-fail/*"), *crates.TOP.glob("tools/edits/*/*")}
     faults = [f"{edit.relative_to(crates.TOP)}: {why}" for name, edit in edits if (why := fault_of(edit, crates.TOP / "crates" / name))]
     faults += [f"{it.relative_to(crates.TOP)}: no edit of a crate" for it in sorted(found - known)]
-    print("\n".join(faults + [f"{len(edits) - len(faults)} of {len(edits)} edits apply"]))
+    print("\n".join(faults + [f"{len(found) - len(faults)} of {len(found)} edits apply"]))
     return not faults
 
 
@@ -62,7 +62,9 @@ def try_crate(name):
     if missing:
         print(f"{name}: its edits were not tried: {missing[0]} is not proved here (`rt check` in the crate's folder proves what is below)")
         return False
-    with tempfile.TemporaryDirectory(prefix="edits-", dir=crates.TOP / "crates" / name / "out") as room:
+    out = crates.TOP / "crates" / name / "out"
+    out.mkdir(exist_ok=True)
+    with tempfile.TemporaryDirectory(prefix="edits-", dir=out) as room:
         room = pathlib.Path(room)
         crates.copy_top(room)
         for it in used:
