@@ -4,7 +4,7 @@
     tools/compare_c.py PROGRAM [SOURCES [SEED]]
     tools/compare_c.py --self-test
 
-PROGRAM generates and replays each source of examples/, and SOURCES random ones (20), which are made as in compare_scans.py. The program that
+PROGRAM generates and replays each source of examples/, and SOURCES random ones (200), which are made as in compare_scans.py. The program that
 it writes is read by plain_programs.py and translated here: a variable is an `int64_t`, an operator a call that stops at a result outside 64
 bits or a divisor 0, an assignment a call that stops outside a subrange. Compared is the whole table. With `--self-test` the translation is
 compared with the interpreter of compare_programs.py on random programs, of which some stop, and each of some wrong translations is to differ
@@ -163,7 +163,7 @@ def difference(program, folder, trial):
     return (None if table == given else f"replay writes {given!r}, and the program in C {table!r}"), len(rows)
 
 
-def main(program, sources=20, seed=1):
+def main(program, sources=200, seed=1):
     program, choose, differ, tried, scans = os.path.abspath(program), random.Random(seed), 0, 0, 0
     with tempfile.TemporaryDirectory() as folder:
         for trials in (example_trials(choose), random_trials(choose, sources)):
