@@ -186,35 +186,6 @@ class Language(Shown):
         status, _, error = run([PROGRAM, "check", "a.cif"], self.work)
         return "read" if status == 0 else error.split()[2]
 
-    @unittest.skipUnless(PROGRAM, "there is no program")
-    def test_requirement(self):
-        text = self.page.split("\n### A requirement that blocks a sensor\n")[1]
-        tables = 0
-        for label, block in blocks_of(text):
-            named = re.fullmatch(r"`([\w.]+)`:", label)
-            if named:
-                self.write(named[1], block)
-            else:
-                self.transcript("an example", block)
-                tables += block.count("scan,")
-        self.assertEqual(tables, 2)
-
-
-class Links(unittest.TestCase):
-    """The links of the pages lead to files and headings."""
-
-    def test_links(self):
-        for name in ("LANGUAGE.md", "REFUSALS.md", "CONSTRUCTS.md"):
-            page = (TOP / "docs" / name).read_text()
-            for file, _, part in re.findall(r"\]\(([\w./-]*)(#([\w-]+))?\)", page):
-                aim = TOP / "docs" / (file or name)
-                self.assertTrue(aim.exists(), file)
-                self.assertTrue(not part or part in anchors_of(aim.read_text()), part)
-
-
-def anchors_of(page):
-    return {re.sub(r"[^\w -]", "", it.lower()).replace(" ", "-") for it in re.findall(r"^#+ (.*)$", page, re.M)}
-
 
 class WrongSources(Shown):
     """tools/wrong_sources.txt: the sentence for each, behind the rule in words."""
