@@ -32,12 +32,10 @@ def item(words, what):
 
 def body_of(lines):
     """The lines of the usage behind the first one."""
-    for line in lines:
+    for before, line in zip([""] + lines, lines):
         found = COLUMNS.match(line)
-        if not line:
-            yield ".PP"
-        elif not found:
-            yield escaped(line)
+        if not found:
+            yield from [".PP"] * (not before) + [escaped(line)] if line else []
         elif found[3] is None and line.endswith(":"):
             yield from [".PP", escaped(found[2].capitalize())]
         else:

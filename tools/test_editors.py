@@ -245,8 +245,9 @@ class Manual(unittest.TestCase):
     def test_parts(self):
         found = man_page.page("cif reads.\n\n  cif a FILE   does it\n        --b N  .more\n\n  before a command:\n  -o FILE    writes\n\nThe end.\n")
         for line in (".SH NAME", "\\fBcif\\fR \\fBa\\fR \\fIFILE\\fR", "\\&.more", "Before a command:",
-                     "\\fB\\-o\\fR \\fIFILE\\fR", "The end."):
+                     "\\fB\\-o\\fR \\fIFILE\\fR", ".PP\nThe end."):
             self.assertIn(line + "\n", found)
+        self.assertNotRegex(found, r"\.PP\n\.")
 
     @unittest.skipUnless(shutil.which("groff"), "groff is missing: the manual page is not set")
     def test_groff(self):
@@ -299,6 +300,14 @@ class Install(unittest.TestCase):
     def test_wrong_words(self):
         self.assertEqual(self.install("--prefix")[0], 2)
         self.assertEqual(self.install("here")[0], 2)
+        self.assertEqual(self.files(), [])
+
+    def test_help(self):
+        for word in ("--help", "-h"):
+            status, written, told = self.install(word)
+            self.assertEqual((status, told), (0, ""))
+            self.assertIn("tools/install [--prefix DIR] [--remove]\n", written)
+        self.assertEqual(self.files(), [])
 
 
 if __name__ == "__main__":
