@@ -675,10 +675,10 @@ class Frames(Bench):
     def test_names(self):
         """Names are identifiers, and differ in more than the case of letters; an input is kept in its range."""
         self.write("a.cif", "enum T = a, A, on; input int[2..5] main; input T t; group x: alg bool y_z = true; end group x_y: alg bool z = true; end "
-                   "alg bool $end = true, If = true, __v__w = true, if_ = false;")
+                   "alg bool $end = true, If = true, __v__w = true, if_ = false, END_If = true, char = true;")
         text = self.answer("wrap", "a.cif")
         names = re.findall(r"^  (\w+): ", text, re.M)
-        self.assertEqual(names, ["x_main", "t", "end", "x_If", "v_w", "x_if_2", "x_y_z", "x_y_z_2"])
+        self.assertEqual(names, ["x_main", "t", "end", "x_If", "v_w", "x_if_2", "x_END_If", "x_char", "x_y_z", "x_y_z_2"])
         self.assertEqual(len({it.lower() for it in names}), len(names))
         self.assertIn("  I0_main := LIMIT(2, GVL.x_main, 5),\n  I1_t := LIMIT(0, GVL.t, 2));\n", text)
 

@@ -10,13 +10,13 @@ from bench.models import NAMELESS, load_classed
 from bench.plcopen import as_xml
 from bench.programs import Written
 
-# Words that are no names, beside those of the program.
-RESERVED = set("""abs action and any array at bool by byte case class configuration constant continue cos date dint do dt dword else elsif
-    end_if end_program exit exp extends false final for from function function_block if implements in int interface internal ld limit lint ln
-    log lreal lt lword main max method min mod namespace not null of on or overlap override private program protected public r_edge real
-    repeat ref ref_to resource retain return scan sel sin sint sqrt step string struct super tan task then this time to tod transition true
-    trunc type udint uint ulint until usint using var var_access var_config var_external var_global var_in_out var_input var_output var_temp
-    while with word wstring xor cifscan gvl""".split())
+# Words that are no names, as they are or behind END_.
+RESERVED = set("""abs action and any array at bool by byte case char class configuration constant continue cos date date_and_time dint do dt dword else
+    elsif exit exp extends false final for from function function_block if implements in int interface internal ld ldate ldt limit lint ln
+    log lreal lt ltime ltod lword main max method min mod namespace not null of on or overlap override persistent pointer private program
+    protected public r_edge real ref ref_to repeat resource retain return scan sel sin sint sqrt step string struct super tan task then
+    this time time_of_day to tod transition true trunc type udint uint ulint until using usint var var_access var_config var_external
+    var_global var_in_out var_input var_output var_temp wchar while with word wstring xor cifscan gvl""".split())
 GLOBALS = "GVL"
 
 # A variable of MAIN: its name, type, what it is, and the parameter of the program. Of an input also what is given to that, and of an output
@@ -35,7 +35,8 @@ class Frame:
     def name(self, path):
         """A name for a path, another one for each. A number is added where two are alike but for signs and the case of letters."""
         found = re.sub("[^A-Za-z0-9]+", "_", path).strip("_") or "x"
-        found = "x_" + found if found.lower() in RESERVED or found[0].isdigit() else found
+        is_reserved = found.lower().removeprefix("end_") in RESERVED
+        found = "x_" + found if is_reserved or found[0].isdigit() else found
         number, name = 1, found
         while name.lower() in self.used:
             number += 1
