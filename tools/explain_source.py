@@ -130,10 +130,16 @@ def duplicate(place):
     return "Rename one of the two, or remove it."
 
 
-def wrong_kind(place):
+def behind_name(place):
+    """The tokens behind the name whose first part has the place."""
     ahead = place.after[:]
     while len(ahead) > 1 and ahead[0] == ".":
         ahead = ahead[2:]
+    return ahead
+
+
+def wrong_kind(place):
+    ahead = behind_name(place)
     if place.after[:1] == [":"] or (place.last == ":" and ahead[:1] == ["("]):
         return "An instance has one argument for each parameter, and the name after `:` is that of a definition."
     if ahead[:1] == [":="]:
@@ -153,9 +159,7 @@ def wrong_kind(place):
 
 
 def mismatch(place):
-    ahead = place.after[:]
-    while len(ahead) > 1 and ahead[0] == ".":
-        ahead = ahead[2:]
+    ahead = behind_name(place)
     is_single = not ahead or ahead[0] in {";", ",", "do", "goto", ":", "and", "or", "=>", "<=>", "end", "elif", "else", ")"}
     if place.word == "?":
         return "`?` is the received value, in updates of an edge whose events are all received."
