@@ -9,11 +9,11 @@ CASES is the program of `crates/lib_cases`, which is asked `components` and `num
 the definition stands, and stands where its arguments are given. The status is 1 where the two differ.
 """
 import random
-import subprocess
 import sys
 
 from compare_names import Writer
 from plain_names import ALG, COMPONENT, DEFINITION, DISC, EVENT, INPUT, INSTANCE, due, written
+from run_programs import case_answers
 
 MOST = 300
 
@@ -168,18 +168,8 @@ def made(choose):
 def main(cases, sources=150, seed=1):
     choose = random.Random(seed)
     asked = [case for _ in range(sources) for case in cases_of(choose, made(choose))]
-    text = "".join(line + "\n" for line, _ in asked)
-    ran = subprocess.run([cases], input=text.encode(), stdout=subprocess.PIPE)
-    told, differ, components, names, instances = iter(ran.stdout.decode().split("\n")), 0, 0, 0, 0
-    line = next(told, None)
-    for case, wanted in asked:
-        if line != case:
-            print("compare_components: the program of the cases stopped at: %s" % case)
-            return 1
-        answer, line = [], next(told, None)
-        while line is not None and line.startswith("  "):
-            answer.append(line.strip())
-            line = next(told, None)
+    differ, components, names = 0, 0, 0
+    for (case, wanted), answer in zip(asked, case_answers(cases, [case for case, _ in asked])):
         if case.startswith("components"):
             components += len(wanted)
         elif case.startswith("from"):

@@ -10,10 +10,10 @@ leaves 64 bits or divides by 0. The status is 1 where the two differ.
 """
 import itertools
 import random
-import subprocess
 import sys
 
 from plain_expressions import GREATEST, LEAST, divided, joined, remainder
+from run_programs import case_answers
 
 
 class Node:
@@ -229,8 +229,8 @@ def interval_case(choose):
 
     def is_right(answer):
         if due:
-            return answer in {f"  {fault}{measure}" for fault in due}
-        if answer != f"  {found[0]} to {found[1]}{measure}":
+            return answer in {f"{fault}{measure}" for fault in due}
+        if answer != f"{found[0]} to {found[1]}{measure}":
             return False
         return wide or all(found[0] <= evaluated(node, values) <= found[1] for values in itertools.product(*(range(lo, hi + 1) for lo, hi in ranges)))
 
@@ -242,23 +242,21 @@ def value_case(choose):
     maker = Maker(choose, "", choose.random() < 0.5)
     node = maker.boolean(3) if is_truth else maker.integer(3)
     try:
-        wanted = f"  Some({evaluated(node, [])})"
+        wanted = f"Some({evaluated(node, [])})"
     except Broken:
-        wanted = "  None"
+        wanted = "None"
     return f"value const {'bool' if is_truth else 'int'} k = {text_of(node)};", lambda answer: answer == wanted
 
 
 def main(program, count=2000, seed=1):
     choose = random.Random(int(seed))
     cases = [interval_case(choose) if choose.random() < 0.6 else value_case(choose) for _ in range(int(count))]
-    said = subprocess.run([program], input="".join(line + "\n" for line, _ in cases), capture_output=True, text=True, check=False)
-    answers = said.stdout.splitlines()
-    wrong = said.returncode != 0 or len(answers) != 2 * len(cases) + 1
-    for (line, is_right), (told, answer) in zip(cases, zip(answers[::2], answers[1::2])):
-        if told != line or not is_right(answer):
+    answers, wrong = ["\n".join(it) for it in case_answers(program, [line for line, _ in cases])], False
+    for (line, is_right), answer in zip(cases, answers):
+        if not is_right(answer):
             wrong = True
             print(f"differs: {line}\n{answer}")
-    none = sum(answer == "  None" or " at: " in answer for answer in answers[1::2])
+    none = sum(answer == "None" or " at: " in answer for answer in answers)
     print(f"{len(cases)} expressions, {none} of which have no value or no interval: {'some differ' if wrong else 'no difference'}")
     return int(wrong)
 

@@ -9,12 +9,12 @@ finds. About a third of the sources keep all rules on scopes, a third break only
 reach themselves, where such sources are found, and the others break any. The status is 1 where the two differ.
 """
 import random
-import subprocess
 import sys
 
 from plain_names import (
     ALG, ALG_PARAMETER, ASKED, Body, COMPONENT, CONSTANT, DEFINITION, DISC, EVENT, EVENT_PARAMETER, INPUT, INSTANCE, Instance,
     LITERAL, LOCATION, LOCATION_PARAMETER, Slot, TYPE, due, found_slot, of_scope, written)
+from run_programs import case_answers
 
 NAMES = "abcdefghij"
 
@@ -364,15 +364,9 @@ def made(choose):
 def main(cases, sources=500, seed=1):
     choose = random.Random(seed)
     asked = [case for _ in range(sources) for case in cases_of(choose, made(choose))]
-    text = "".join(line + "\n" for line, _ in asked)
-    ran = subprocess.run([cases], input=text.encode(), stdout=subprocess.PIPE)
-    lines = ran.stdout.decode().split("\n")
-    told, differ, sorts = iter(lines), 0, {}
-    for line, wanted in asked:
-        if next(told, None) != line:
-            print("compare_names: the program of the cases stopped at: %s" % line)
-            return 1
-        answer = next(told, "").strip()
+    differ, sorts = 0, {}
+    for (line, wanted), found in zip(asked, case_answers(cases, [line for line, _ in asked])):
+        answer = "\n".join(found)
         sort = answer.split(" ")[0] if answer[:1].isalpha() else line.split(" ")[0]
         sorts[sort] = sorts.get(sort, 0) + 1
         if answer not in wanted:

@@ -12,7 +12,7 @@ import unittest
 from plain_nets import Net, broken
 from plain_sources import Source
 from random_sources import MAKERS, MOST_NODES, MOST_TRIED, first_begin, has_data_by, made_file, rows_of
-from run_programs import Folder, Ran
+from run_programs import Folder, Ran, case_answers
 
 # Writes its words and the file of the first of them, says that it did, and ends with status 3.
 PLAYER = """#!%s
@@ -20,6 +20,21 @@ import sys
 sys.stdout.write(repr(sys.argv[1:]) + repr(open(sys.argv[1], 'rb').read()))
 sys.stderr.write('done')
 sys.exit(3)
+"""
+# Answers each case with two lines for each of its words, but the one that it stops at.
+CASES = """#!%s
+import sys
+count = 0
+for line in sys.stdin:
+    if line == 'stop\\n':
+        break
+    if line == 'fault\\n':
+        sys.exit(1)
+    print(line, end='')
+    for word in line.split()[1:]:
+        print(f'  {word}\\n  [{word}]')
+    count += 1
+print(f'{count} cases')
 """
 
 
@@ -74,6 +89,22 @@ class Programs(unittest.TestCase):
             self.assertEqual(folder.run("a").out, b"['a']b'\\xe9\\n'")
             folder.clear()
             self.assertEqual(list(inner.iterdir()), [])
+
+    def test_cases(self):
+        with tempfile.TemporaryDirectory() as room:
+            player = pathlib.Path(room, "player")
+            player.write_text(CASES % sys.executable)
+            player.chmod(0o755)
+            self.assertEqual(case_answers(player, ["ask a", "ask", "ask b c"]), [["a", "[a]"], [], ["b", "[b]", "c", "[c]"]])
+            for word, where in (("stop", "before: stop"), ("fault", "before: fault")):
+                for cases in ([word], ["ask a", word], ["ask a", word, "ask b"]):
+                    with self.assertRaises(SystemExit) as ended:
+                        case_answers(player, cases)
+                    self.assertEqual(ended.exception.code, f"{player} stopped {where}")
+            player.write_text((CASES % sys.executable).replace("print(f'{count}", "sys.exit(f'{count}"))
+            with self.assertRaises(SystemExit) as ended:
+                case_answers(player, ["ask a"])
+            self.assertEqual(ended.exception.code, f"{player} stopped behind: ask a")
 
 
 if __name__ == "__main__":
