@@ -19,7 +19,7 @@ use Rattle.st_check.specs.declared.error.StCheckErr.TheVariants as check
 use Rattle.st_scan.specs.Endings.{stopped}
 use Rattle.st_scan.specs.declared.error.ScanErr.{ScanErr}
 use Rattle.st_scan.specs.declared.error.ScanErr.TheVariants as scan
-use Rattle.plc_rows.specs.Rows.{RowFault, header, cell, row_length, too_many_rows, first_row_fault, RowsOf}
+use Rattle.plc_rows.specs.Rows.{RowFault, header, cell, row_length, too_many_rows, case_boundary, first_row_fault, RowsOf}
 use Rattle.plc_rows.specs.declared.error.RowErr.{RowErr}
 use Rattle.plc_rows.specs.declared.error.RowErr.TheVariants as row
 use Rattle.cif_run.specs.declared.status.StRefusal.{StRefusal}
@@ -79,12 +79,14 @@ error_of (header c) = row.Header c
 error_of (cell r c) = row.Cell r c
 error_of (row_length r) = row.RowLength r
 error_of (too_many_rows n) = row.TooManyRows n
+error_of (case_boundary r) = row.CaseBoundary r
 
 fault_told : (p : Program) (text : Text) (e : RowErr) → IsRowRefused p text e → (f : RowFault) × (first_row_fault p.vars text ≡ Some f) × (e ≡ error_of f)
 fault_told p text (row.Header c) h = (header c, h.1, refl)
 fault_told p text (row.Cell r c) h = (cell r c, h.1, refl)
 fault_told p text (row.RowLength r) h = (row_length r, h.1, refl)
 fault_told p text (row.TooManyRows n) h = (too_many_rows n, h.1, refl)
+fault_told p text (row.CaseBoundary r) h = (case_boundary r, h.1, refl)
 fault_told p text row.Memory h = absurd (h.0 refl)
 
 -- one rule is the first that is broken

@@ -29,4 +29,5 @@ row_status_of (row.Header c) = status.RowRefused (row.Header c)
 row_status_of (row.Cell r c) = status.RowRefused (row.Cell r c)
 row_status_of (row.RowLength r) = status.RowRefused (row.RowLength r)
 row_status_of (row.TooManyRows n) = status.RowRefused (row.TooManyRows n)
+row_status_of (row.CaseBoundary r) = status.RowRefused (row.CaseBoundary r)
 row_status_of row.Memory = status.Memory

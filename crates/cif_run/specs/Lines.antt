@@ -110,6 +110,7 @@ row_text (row.Header c) = with_number (codes "44 Header column ") c
 row_text (row.Cell r c) = with_numbers (codes "45 Cell row ") r (codes " column ") c
 row_text (row.RowLength r) = with_number (codes "46 RowLength row ") r
 row_text (row.TooManyRows n) = with_number (codes "47 TooManyRows count ") n
+row_text (row.CaseBoundary r) = with_number (codes "48 CaseBoundary row ") r
 row_text row.Memory = []
 
 -- a value outside the subrange of this variable

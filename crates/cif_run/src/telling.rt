@@ -212,6 +212,7 @@ fn row_text(alloc: Global, error: RowErr) -> Result<Text, Memory>
         }
         RowErr::RowLength { row } => with_number(alloc, b"46 RowLength row ", row),
         RowErr::TooManyRows { count } => with_number(alloc, b"47 TooManyRows count ", count),
+        RowErr::CaseBoundary { row } => with_number(alloc, b"48 CaseBoundary row ", row),
         RowErr::Memory => Ok(Text::new(alloc)),
     }
 }

@@ -173,7 +173,7 @@ past_the_lower_limit = refl
 abbrev names : List Text
 names = codes "n" ∷ codes "scan" ∷ codes "s" ∷ codes "a" ∷ []
 
-a_row : row_fault row_number three names 7 (codes "-3" ∷ codes "7" ∷ codes "4" ∷ codes "TRUE" ∷ []) ≡ None
+a_row : row_fault row_number three names 0 7 (codes "-3" ∷ codes "7" ∷ codes "4" ∷ codes "TRUE" ∷ []) ≡ None
 unfolding digits
 a_row = refl
 
@@ -182,19 +182,19 @@ values_of_the_row : row_values three names (codes "-3" ∷ codes "7" ∷ codes "
 unfolding digits
 values_of_the_row = refl
 
-another_row_number : row_fault row_number three names 8 (codes "-3" ∷ codes "7" ∷ codes "4" ∷ codes "TRUE" ∷ []) ≡ Some (cell 8 2)
+another_row_number : row_fault row_number three names 0 8 (codes "-3" ∷ codes "7" ∷ codes "4" ∷ codes "TRUE" ∷ []) ≡ Some (cell 8 2)
 unfolding digits
 another_row_number = refl
 
-the_first_wrong_cell : row_fault row_number three names 7 (codes "-3" ∷ codes "7" ∷ codes "1" ∷ codes "yes" ∷ []) ≡ Some (cell 7 3)
+the_first_wrong_cell : row_fault row_number three names 0 7 (codes "-3" ∷ codes "7" ∷ codes "1" ∷ codes "yes" ∷ []) ≡ Some (cell 7 3)
 unfolding digits
 the_first_wrong_cell = refl
 
-too_short : row_fault row_number three names 7 (codes "x" ∷ codes "7" ∷ codes "4" ∷ []) ≡ Some (row_length 7)
+too_short : row_fault row_number three names 0 7 (codes "x" ∷ codes "7" ∷ codes "4" ∷ []) ≡ Some (row_length 7)
 unfolding digits
 too_short = refl
 
-too_long : row_fault row_number three names 7 (codes "-3" ∷ codes "7" ∷ codes "4" ∷ codes "TRUE" ∷ [] ∷ []) ≡ Some (row_length 7)
+too_long : row_fault row_number three names 0 7 (codes "-3" ∷ codes "7" ∷ codes "4" ∷ codes "TRUE" ∷ [] ∷ []) ≡ Some (row_length 7)
 unfolding digits
 too_long = refl
 

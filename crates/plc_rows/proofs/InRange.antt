@@ -1,11 +1,11 @@
--- Rows that break no rule of a program are rows in range for it.
+-- Rows that break no rule of a program are rows in range for it, and few.
 use Rattle.std.proofs.Common.{◌≡◌, ◌≤◌, ◌<◌, ℕ, zero, suc, ◌+◌, ℤ, pos, Bool, true, false, ◌||◌, ◌&&◌, List, [], ◌∷◌, ◌++◌, map, length, Option, Some, None, refl, sym, ap, subst, ◌∙◌, arith}
 use Rattle.std.specs.Prelude.{IsTrue, slice_get, slice_set, nat_eq, nat_lt, replicate, is_some, unwrap_or, if◌then◌else◌}
 use Rattle.std.specs.List.{AllZip}
 use Rattle.std.specs.Option.{option_or}
 use Rattle.std.proofs.lemmas.Bool.{false≢true}
 use Rattle.std.proofs.lemmas.Bool.Decides.{nat_tests}
-use Rattle.std.proofs.lemmas.List.{length-append}
+use Rattle.std.proofs.lemmas.List.{length-append, length-map}
 use Rattle.std.proofs.lemmas.Option.{slice_get_within}
 use Rattle.grammar.specs.Pieces.{Text, same}
 use Rattle.grammar.proofs.Texts.{same_equal, same_flip}
@@ -13,7 +13,7 @@ use Rattle.csv.specs.Records.{field_at}
 use Rattle.st_ast.specs.declared.tree.StVar.{StVar}
 use Rattle.st_ast.specs.declared.tree.StTy.{StTy}
 use Rattle.st_ast.specs.declared.tree.StTy.TheVariants as ty
-use Rattle.plc_rows.specs.Rows.{RowFault, cell, row_length, too_many_rows, most_rows, has_text, header_fault, truth_cell, number_in, number_cell, cell_value, ScanRule, row_number, cell_stands, cells_fault, row_fault, rows_fault, file_fault, records_of, first_row_fault, cell_under, row_values, rows_after, RowsOf, IsRowFor, AreRowsFor}
+use Rattle.plc_rows.specs.Rows.{RowFault, cell, row_length, too_many_rows, most_rows, has_text, header_fault, truth_cell, number_in, number_cell, cell_value, ScanRule, row_number, number_of_row, cell_stands, cells_fault, boundary_fault, row_fault, rows_fault, file_fault, records_of, first_row_fault, cell_under, row_values, rows_after, RowsOf, IsRowFor, AreRowsFor}
 use Rattle.st_ast.specs.Interface.{inputs_of, is_of_type}
 use Rattle.plc_rows.specs.Columns.{place, column_of, HeaderOf}
 use Rattle.plc_rows.specs.declared.header.Column.{Column}
@@ -116,11 +116,17 @@ zip_map : {A B : Type 0} (R : A → B → Type 0) (g : A → B) (xs : List A) �
 zip_map R g [] each = tt
 zip_map R g (x ∷ xs) each = (each zero x refl, zip_map R g xs (λ i y e. each (suc i) y e))
 
-row_typed : (scan : ScanRule) (vars : List StVar) (names : List Text) (cols : List Column) (k : ℕ) (ts : List Text) → HeaderOf vars names cols → row_fault scan vars names k ts ≡ None → IsRowFor vars (row_values vars names ts)
-row_typed scan vars names cols k ts h e = zip_map (λ (v : StVar) z. IsTrue (is_of_type v.ty z)) (λ (v : StVar). worth v names ts) (inputs_of vars) each
+neither : (a b : Option RowFault) → option_or a b ≡ None → (a ≡ None) × (b ≡ None)
+neither None b e = (refl, e)
+neither (Some f) b e = none_some (sym e)
+
+row_typed : (scan : ScanRule) (vars : List StVar) (names : List Text) (cols : List Column) (before k : ℕ) (ts : List Text) → HeaderOf vars names cols → row_fault scan vars names before k ts ≡ None → IsRowFor vars (row_values vars names ts)
+row_typed scan vars names cols before k ts h e = zip_map (λ (v : StVar) z. IsTrue (is_of_type v.ty z)) (λ (v : StVar). worth v names ts) (inputs_of vars) each
   where
     p : (nat_eq (length ts) (length names) ≡ true) × (cells_fault scan vars k 1 names ts ≡ None)
-    p = kept (nat_eq (length ts) (length names)) (cells_fault scan vars k 1 names ts) (row_length k) e
+    p =
+        let q = kept (nat_eq (length ts) (length names)) (option_or (cells_fault scan vars k 1 names ts) (boundary_fault scan before k names ts)) (row_length k) e in
+        (q.0, (neither (cells_fault scan vars k 1 names ts) (boundary_fault scan before k names ts) q.1).0)
 
     each : (i : ℕ) (v : StVar) → slice_get (inputs_of vars) i ≡ Some v → IsTrue (is_of_type v.ty (worth v names ts))
     each i v at =
@@ -132,29 +138,56 @@ row_typed scan vars names cols k ts h e = zip_map (λ (v : StVar) z. IsTrue (is_
 
 -- ---- all rows
 
-neither : (a b : Option RowFault) → option_or a b ≡ None → (a ≡ None) × (b ≡ None)
-neither None b e = (refl, e)
-neither (Some f) b e = none_some (sym e)
-
 left : (b : Bool) (f : RowFault) (x : Option RowFault) → (if b then Some f else x) ≡ None → x ≡ None
 left true f x e = none_some (sym e)
 left false f x e = e
 
-rows_typed : (scan : ScanRule) (vars : List StVar) (names : List Text) (cols : List Column) → HeaderOf vars names cols → (k : ℕ) (rs : List (List Text)) → rows_fault scan vars names k rs ≡ None → AreRowsFor vars (map (row_values vars names) rs)
-rows_typed scan vars names cols h k [] e = tt
-rows_typed scan vars names cols h k (r ∷ rs) e =
-    let p = neither (row_fault scan vars names k r) (rows_fault scan vars names (suc k) rs) (left (nat_lt most_rows k) (too_many_rows (most_rows + 1)) _ e) in
-    (row_typed scan vars names cols k r h p.0, rows_typed scan vars names cols h (suc k) rs p.1)
+rows_typed : (scan : ScanRule) (vars : List StVar) (names : List Text) (cols : List Column) → HeaderOf vars names cols → (before k : ℕ) (rs : List (List Text)) → rows_fault scan vars names before k rs ≡ None
+    → AreRowsFor vars (map (row_values vars names) rs)
+rows_typed scan vars names cols h before k [] e = tt
+rows_typed scan vars names cols h before k (r ∷ rs) e =
+    let p = neither (row_fault scan vars names before k r) (rows_fault scan vars names (number_of_row names r) (suc k) rs) (left (nat_lt most_rows k) (too_many_rows (most_rows + 1)) _ e) in
+    (row_typed scan vars names cols before k r h p.0, rows_typed scan vars names cols h (number_of_row names r) (suc k) rs p.1)
 
-file_typed : (scan : ScanRule) (vars : List StVar) (rs : List (List Text)) → file_fault scan vars rs ≡ None → AreRowsFor vars (rows_after vars rs)
+pub file_typed : (scan : ScanRule) (vars : List StVar) (rs : List (List Text)) → file_fault scan vars rs ≡ None → AreRowsFor vars (rows_after vars rs)
 file_typed scan vars [] e = none_some (sym e)
 file_typed scan vars (names ∷ rs) e =
-    let p = neither (header_fault vars names) (rows_fault scan vars names 1 rs) e in
+    let p = neither (header_fault vars names) (rows_fault scan vars names 0 1 rs) e in
     let h = columns_of_header vars names p.0 in
-    rows_typed scan vars names h.0 h.1 1 rs p.1
+    rows_typed scan vars names h.0 h.1 0 1 rs p.1
 
 pub in_range : (vars : List StVar) (text : Text) (rows : List (List ℤ)) → RowsOf vars text rows → AreRowsFor vars rows
 unfolding RowsOf first_row_fault
 in_range vars text rows h = subst (λ (rs : List (List ℤ)). AreRowsFor vars rs) (sym h.1) (file_typed row_number vars (records_of text) h.0)
+
+-- ---- few rows
+
+-- the rows from the row k on end with the most
+abbrev Few : ℕ → List (List Text) → Type 0
+Few k rs = k ≤ most_rows + 1 → k + length rs ≤ most_rows + 1
+
+few_from : (scan : ScanRule) (vars : List StVar) (names : List Text) (before k : ℕ) (rs : List (List Text)) → rows_fault scan vars names before k rs ≡ None → Few k rs
+few_from scan vars names before k [] e under = omega (arith, under)
+few_from scan vars names before k (r ∷ rs) e under = go (nat_lt most_rows k) refl e (few_from scan vars names (number_of_row names r) (suc k) rs)
+  where
+    go : (b : Bool) → nat_lt most_rows k ≡ b
+        → (if b then Some (too_many_rows (most_rows + 1)) else option_or (row_fault scan vars names before k r) (rows_fault scan vars names (number_of_row names r) (suc k) rs)) ≡ None
+        → (rows_fault scan vars names (number_of_row names r) (suc k) rs ≡ None → Few (suc k) rs) → k + suc (length rs) ≤ most_rows + 1
+    go true is h more = none_some (sym h)
+    go false is h more =
+        let short : k ≤ most_rows = grind (arith, nat_tests) in
+        let rest = more (neither (row_fault scan vars names before k r) (rows_fault scan vars names (number_of_row names r) (suc k) rs) h).1 (omega (arith, short)) in
+        omega (arith, rest)
+
+pub few_in_file : (scan : ScanRule) (vars : List StVar) (rs : List (List Text)) → file_fault scan vars rs ≡ None → length (rows_after vars rs) ≤ most_rows
+few_in_file scan vars [] e = none_some (sym e)
+few_in_file scan vars (names ∷ rs) e =
+    let p = neither (header_fault vars names) (rows_fault scan vars names 0 1 rs) e in
+    let few = few_from scan vars names 0 1 rs p.1 (omega arith) in
+    omega (arith, few, length-map rs (row_values vars names))
+
+pub rows_few : (vars : List StVar) (text : Text) (rows : List (List ℤ)) → RowsOf vars text rows → length rows ≤ most_rows
+unfolding RowsOf first_row_fault
+rows_few vars text rows h = let few = few_in_file row_number vars (records_of text) h.0 in let same = ap length h.1 in omega (arith, few, same)
 
 pub ruleset ranges = (in_range)

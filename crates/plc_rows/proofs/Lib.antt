@@ -5,9 +5,13 @@ pub mod ColumnLaws
 pub mod HeaderLaws
 pub mod CellLaws
 pub mod RowLaws
+pub mod ScanColumn
 pub mod Sizes
 pub mod Whole
 pub mod InRange
+pub mod CaseLaws
+pub mod Casings
 pub mod Lines
 pub mod Examples
+pub mod CaseExamples
 pub mod Digits

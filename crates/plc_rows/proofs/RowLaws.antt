@@ -1,5 +1,6 @@
 -- A row by its columns: its first fault is that of its names, and its values are those under the names of the inputs.
 use Rattle.std.proofs.Common.{◌≡◌, ◌<◌, ◌≤◌, ℕ, zero, suc, ◌+◌, ℤ, pos, Bool, true, false, not, ◌||◌, ◌&&◌, List, [], ◌∷◌, ◌++◌, map, length, drop, get_or, drop-cons, add-one, Option, Some, None, refl, sym, ap, subst, ◌∙◌, arith}
+use Rattle.std.specs.Option.{option_or}
 use Rattle.std.specs.Prelude.{⊤, slice_get, nat_eq, replicate, codes, unwrap_or, All, if◌then◌else◌}
 use Rattle.std.proofs.lemmas.Bool.{false≢true}
 use Rattle.std.proofs.lemmas.Bool.Decides.{nat_tests}
@@ -10,7 +11,7 @@ use Rattle.grammar.specs.Pieces.{Text, same}
 use Rattle.grammar.proofs.Texts.{same_equal, same_flip, and_right}
 use Rattle.csv.specs.Records.{field_at}
 use Rattle.st_ast.specs.declared.tree.StVar.{StVar}
-use Rattle.plc_rows.specs.Rows.{RowFault, header, cell, row_length, wanted, has_text, fields_fault, cell_value, ScanRule, cell_stands, cells_fault, row_fault, cell_under, row_values}
+use Rattle.plc_rows.specs.Rows.{RowFault, header, cell, row_length, wanted, has_text, fields_fault, cell_value, ScanRule, cell_stands, cells_fault, boundary_fault, row_fault, cell_under, row_values}
 use Rattle.st_ast.specs.Interface.{inputs_of}
 use Rattle.plc_rows.specs.Columns.{place, column_of, ColumnsOf, HeaderOf, stands, columns_fault, line_fault, with_cell, with_cells}
 use Rattle.plc_rows.specs.declared.header.Column.{Column}
@@ -49,10 +50,17 @@ module _ (scan : ScanRule) (vars : List StVar) where
       ap (λ b. if b then cells_fault scan vars k (suc j) names ts else Some (cell k j)) (stands_same f c h.0 k t)
       ∙ ap (λ r. if stands scan k c t then r else Some (cell k j)) (fault_same names cols h.1 k (suc j) ts)
 
-  pub line_same : (names : List Text) (cols : List Column) → ColumnsOf vars names cols → (k : ℕ) (ts : List Text) → row_fault scan vars names k ts ≡ line_fault scan cols k ts
-  line_same names cols h k ts =
-      ap (λ n. if nat_eq (length ts) n then cells_fault scan vars k 1 names ts else Some (row_length k)) (sym (as_many vars names cols h))
-      ∙ ap (λ r. if nat_eq (length ts) (length cols) then r else Some (row_length k)) (fault_same names cols h k 1 ts)
+  -- the row by its columns, and then its boundary
+  pub row_line : (names : List Text) (cols : List Column) → ColumnsOf vars names cols → (before k : ℕ) (ts : List Text)
+      → row_fault scan vars names before k ts ≡ option_or (line_fault scan cols k ts) (boundary_fault scan before k names ts)
+  row_line names cols h before k ts =
+      ap (λ n. if nat_eq (length ts) n then option_or (cells_fault scan vars k 1 names ts) (boundary_fault scan before k names ts) else Some (row_length k)) (sym (as_many vars names cols h))
+      ∙ ap (λ r. if nat_eq (length ts) (length cols) then option_or r (boundary_fault scan before k names ts) else Some (row_length k)) (fault_same names cols h k 1 ts)
+      ∙ behind (nat_eq (length ts) (length cols)) (columns_fault scan k 1 cols ts) (boundary_fault scan before k names ts) (row_length k)
+    where
+      behind : (b : Bool) (r x : Option RowFault) (f : RowFault) → (if b then option_or r x else Some f) ≡ option_or (if b then r else Some f) x
+      behind true r x f = refl
+      behind false r x f = refl
 
 -- ---- cells from left to right
 

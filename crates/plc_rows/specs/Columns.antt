@@ -4,9 +4,12 @@ use Rattle.std.specs.List.{list_any}
 use Rattle.grammar.specs.Pieces.{Text, same}
 use Rattle.st_ast.specs.Interface.{is_input, inputs_of}
 use Rattle.st_ast.specs.declared.tree.StVar.{StVar}
-use Rattle.plc_rows.specs.Rows.{RowFault, cell, row_length, header_fault, ScanRule, cell_value}
+use Rattle.csv.specs.Records.{field_at}
+use Rattle.plc_rows.specs.Rows.{RowFault, cell, row_length, header_fault, ScanRule, row_number, case_number, case_numbers, cell_value}
 use Rattle.plc_rows.specs.declared.header.Column.{Column}
 use Rattle.plc_rows.specs.declared.header.Column.TheVariants as column
+use Rattle.plc_rows.specs.declared.numbering.Numbering.{Numbering}
+use Rattle.plc_rows.specs.declared.numbering.Numbering.TheVariants as numbering
 
 -- the place of a column among all that is wanted
 abbrev pub place : Column → ℕ
@@ -46,9 +49,14 @@ pub record HeaderOf (vars : List StVar) (names : List Text) (cols : List Column)
 
 -- ---- a row
 
+-- the rule of the column `scan`
+abbrev pub rule_of : Numbering → ScanRule
+rule_of numbering.ByFile = row_number
+rule_of numbering.ByCase = case_number
+
 -- whether the cell of the row k keeps the rule of its column
 abbrev pub stands : ScanRule → ℕ → Column → Text → Bool
-stands scan k column.Scan t = scan k t
+stands scan k column.Scan t = scan.stands k t
 stands scan k (column.Input rank ty) t = is_some (cell_value ty t)
 
 -- the first wrong cell, from the column j on
@@ -57,7 +65,7 @@ columns_fault scan k j [] ts = None
 columns_fault scan k j (c ∷ cols) [] = None
 columns_fault scan k j (c ∷ cols) (t ∷ ts) = if stands scan k c t then columns_fault scan k (suc j) cols ts else Some (cell k j)
 
--- the row k: its length before its cells
+-- the row k before its boundary: its length before its cells
 abbrev pub line_fault : ScanRule → List Column → ℕ → List Text → Option RowFault
 line_fault scan cols k ts = if nat_eq (length ts) (length cols) then columns_fault scan k 1 cols ts else Some (row_length k)
 
@@ -71,3 +79,15 @@ abbrev pub with_cells : List Column → List Text → List ℤ → List ℤ
 with_cells [] ts zs = zs
 with_cells (c ∷ cols) [] zs = zs
 with_cells (c ∷ cols) (t ∷ ts) zs = with_cells cols ts (with_cell c t zs)
+
+-- ---- the column `scan`
+
+-- its place, from 0 on
+abbrev pub scan_place : List Column → ℕ
+scan_place [] = 0
+scan_place (column.Scan ∷ cols) = 0
+scan_place (column.Input rank ty ∷ cols) = suc (scan_place cols)
+
+-- the cell in that place is the number of a row in its case
+abbrev pub HasNumber : List Text → ℕ → ℕ → Type 0
+HasNumber ts place number = (t : Text) × (field_at ts place ≡ Some t) × (cell_value case_numbers t ≡ Some (pos number))

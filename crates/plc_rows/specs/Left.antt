@@ -1,5 +1,5 @@
--- Helper of the code: what a reader has left, as records, and which errors tell of a fault.
-use Rattle.std.specs.Prelude.{◌≡◌, ⊤, ℕ, Bool, true, false, List, [], ◌∷◌, Option, Some, None}
+-- Helper of the code: what a reader has left, as records.
+use Rattle.std.specs.Prelude.{◌≡◌, ⊤, ℕ, Bool, true, false, List, [], ◌∷◌, Some, None}
 use Rattle.std.specs.Borrow.{Bor}
 use Rattle.grammar.specs.Pieces.{Text}
 use Rattle.csv.specs.Machine.{Read, next_record}
@@ -7,9 +7,6 @@ use Rattle.csv.specs.Reading.{Ready, default_config, source_of}
 use Rattle.csv.specs.declared.parser.State.{State}
 use Rattle.csv.specs.declared.reader.Reader.{Reader}
 use Rattle.csv.specs.declared.reader.Trim.TheVariants as trim
-use Rattle.plc_rows.specs.Rows.{RowFault, header, cell, row_length, too_many_rows}
-use Rattle.plc_rows.specs.declared.error.RowErr.{RowErr}
-use Rattle.plc_rows.specs.declared.error.RowErr.TheVariants as err
 
 -- these are all the records of a text from a state on
 unfoldable pub AllRecords : State → Text → List (List Text) → Type 0
@@ -27,11 +24,3 @@ Next false fields after [] = ⊤
 Next false fields after (r ∷ rs) = ⊥
 Next true fields after [] = ⊥
 Next true fields after (r ∷ rs) = (fields ≡ r) × Left after rs
-
--- the error tells of the fault, or of want of memory
-abbrev pub Tells : Option RowFault → RowErr → Type 0
-Tells fault (err.Header c) = fault ≡ Some (header c)
-Tells fault (err.Cell r c) = fault ≡ Some (cell r c)
-Tells fault (err.RowLength r) = fault ≡ Some (row_length r)
-Tells fault (err.TooManyRows n) = fault ≡ Some (too_many_rows n)
-Tells fault err.Memory = ⊤

@@ -3,3 +3,4 @@ pub mod Table
 pub mod Told
 pub mod Columns
 pub mod Left
+pub mod Standing

@@ -1,12 +1,12 @@
--- The rules of a rows file for a program: the records of the text, as `csv` has them, are the header, which is the field
--- `scan` and the names of the inputs in any order, and then the rows, which are numbered from 1. The cell of a row in the
--- column `scan` is its number, and a cell in the column of an input is a value of its type. The rules take the one of the
--- column `scan` as a parameter, so that another kind of file can have the same rules with another one there.
-use Rattle.std.specs.Prelude.{◌≡◌, ℕ, suc, ◌+◌, ◌==◌, nat_lt, nat_eq, ℤ, pos, neg_ℤ, Bool, false, not, ◌&&◌, List, [], ◌∷◌, ◌++◌, codes, decimal, map, find, length, Option, Some, None, is_some, unwrap_or, if◌then◌else◌}
+-- The rules of a rows file and of a cases file for a program: the records of the text, as `csv` has them, are the header,
+-- which is the field `scan` and the names of the inputs in any order, and then the rows, which are counted from 1. A cell in
+-- the column of an input is a value of its type. The two kinds of file differ in the column `scan` alone, whose rule is a
+-- parameter: in a rows file its cell is the number of the row; in a cases file it is a number from 1 to 100,000, with 1
+-- where a case begins, and else one more than in the row before.
+use Rattle.std.specs.Prelude.{◌≡◌, ℕ, suc, ◌+◌, ◌==◌, nat_lt, nat_eq, ℤ, pos, neg_ℤ, Bool, false, true, not, ◌&&◌, ◌||◌, List, [], ◌∷◌, ◌++◌, codes, decimal, map, flat_map, find, length, Option, Some, None, is_some, unwrap_or, if◌then◌else◌}
 use Rattle.std.specs.Fmt.{signed_decimal}
-use Rattle.std.specs.List.{list_any, AllByRecursion}
+use Rattle.std.specs.List.{list_all, list_any, range_with_len, AllByRecursion}
 use Rattle.std.specs.Option.{option_or}
-pub use Rattle.std.specs.Option.{option_or as or_else}
 use Rattle.grammar.specs.Bytes.{digits_from}
 use Rattle.grammar.specs.Pieces.{Text, same}
 use Rattle.csv.specs.Reading.{default_config, records, strip_bom}
@@ -21,6 +21,7 @@ pub data RowFault : Type 0 where
   cell : (row column : ℕ) → RowFault
   row_length : (row : ℕ) → RowFault
   too_many_rows : (count : ℕ) → RowFault
+  case_boundary : (row : ℕ) → RowFault
 
 -- the most rows of a file
 abbrev pub most_rows : ℕ
@@ -70,18 +71,41 @@ cell_value (ty.Range lo hi) t = number_cell (is_of_type (ty.Range lo hi)) t
 abbrev pub input_named : List StVar → Text → Option StVar
 input_named vars name = find (λ (v : StVar). same v.name name) (inputs_of vars)
 
--- whether a text may stand in the column `scan` of the row k
-abbrev pub ScanRule : Type 0
-ScanRule = ℕ → Text → Bool
+-- The rule of the column `scan`: whether a text may stand there in the row k, and whether a row with the number `this` may
+-- stand after one with the number `before`, which is 0 for the first row.
+pub record ScanRule : Type 0 where
+  pub stands : (k : ℕ) → Text → Bool
+  pub follows : (before this : ℕ) → Bool
 
 -- the rule of rows files
 abbrev pub row_number : ScanRule
-row_number k c = same c (decimal k)
+row_number = record { stands = λ k c. same c (decimal k); follows = λ before this. true }
+
+-- the numbers that the rows of cases may have
+abbrev pub case_numbers : StTy
+case_numbers = ty.Range (pos 1) (pos 100000)
+
+-- the rule of cases files: a row begins a case, or is the next one of its case
+abbrev pub case_number : ScanRule
+case_number = record {
+  stands = λ k c. is_some (cell_value case_numbers c);
+  follows = λ before this. nat_eq this 1 || nat_eq this (suc before);
+}
+
+-- the cell in the column of this name
+abbrev pub cell_under : Text → List Text → List Text → Text
+cell_under name [] cs = []
+cell_under name (n ∷ ns) [] = []
+cell_under name (n ∷ ns) (c ∷ cs) = if same n name then c else cell_under name ns cs
+
+-- the number in the column `scan`
+abbrev pub number_of_row : List Text → List Text → ℕ
+number_of_row names cs = digits_from 0 (cell_under (codes "scan") names cs)
 
 -- the cell of the row k in the column of this name
 abbrev pub cell_stands : ScanRule → List StVar → ℕ → Text → Text → Bool
 cell_stands scan vars k name c =
-    if same name (codes "scan") then scan k c
+    if same name (codes "scan") then scan.stands k c
     else elim (input_named vars name) [ None ↦ false | Some v ↦ is_some (cell_value v.ty c) ]
 
 -- the first wrong cell, from the column j on
@@ -91,19 +115,25 @@ cells_fault scan vars k j (name ∷ names) [] = None
 cells_fault scan vars k j (name ∷ names) (c ∷ cs) =
     if cell_stands scan vars k name c then cells_fault scan vars k (suc j) names cs else Some (cell k j)
 
--- the row k: its length before its cells
-abbrev pub row_fault : ScanRule → List StVar → List Text → ℕ → List Text → Option RowFault
-row_fault scan vars names k cs = if nat_eq (length cs) (length names) then cells_fault scan vars k 1 names cs else Some (row_length k)
+-- the row k, whose number may not stand after the number `before`
+abbrev pub boundary_fault : ScanRule → (before k : ℕ) → List Text → List Text → Option RowFault
+boundary_fault scan before k names cs = if scan.follows before (number_of_row names cs) then None else Some (case_boundary k)
 
--- the rows from the row k on; the row after the most is not looked at
-abbrev pub rows_fault : ScanRule → List StVar → List Text → ℕ → List (List Text) → Option RowFault
-rows_fault scan vars names k [] = None
-rows_fault scan vars names k (r ∷ rs) =
-    if nat_lt most_rows k then Some (too_many_rows (most_rows + 1)) else option_or (row_fault scan vars names k r) (rows_fault scan vars names (suc k) rs)
+-- the row k after one with the number `before`: its length before its cells, and both before its boundary
+abbrev pub row_fault : ScanRule → List StVar → List Text → (before k : ℕ) → List Text → Option RowFault
+row_fault scan vars names before k cs =
+    if nat_eq (length cs) (length names) then option_or (cells_fault scan vars k 1 names cs) (boundary_fault scan before k names cs) else Some (row_length k)
+
+-- the rows from the row k on, after one with the number `before`; the row after the most is not looked at
+abbrev pub rows_fault : ScanRule → List StVar → List Text → (before k : ℕ) → List (List Text) → Option RowFault
+rows_fault scan vars names before k [] = None
+rows_fault scan vars names before k (r ∷ rs) =
+    if nat_lt most_rows k then Some (too_many_rows (most_rows + 1))
+    else option_or (row_fault scan vars names before k r) (rows_fault scan vars names (number_of_row names r) (suc k) rs)
 
 abbrev pub file_fault : ScanRule → List StVar → List (List Text) → Option RowFault
 file_fault scan vars [] = Some (header 1)
-file_fault scan vars (names ∷ rs) = option_or (header_fault vars names) (rows_fault scan vars names 1 rs)
+file_fault scan vars (names ∷ rs) = option_or (header_fault vars names) (rows_fault scan vars names 0 1 rs)
 
 -- the records of a text, after its byte order mark where it begins with one
 abbrev pub records_of : Text → List (List Text)
@@ -113,13 +143,11 @@ records_of text = records default_config (strip_bom text)
 unfoldable pub first_row_fault : List StVar → Text → Option RowFault
 first_row_fault vars text = file_fault row_number vars (records_of text)
 
--- ---- values
+-- the first broken rule of a cases file
+unfoldable pub first_case_fault : List StVar → Text → Option RowFault
+first_case_fault vars text = file_fault case_number vars (records_of text)
 
--- the cell in the column of this name
-abbrev pub cell_under : Text → List Text → List Text → Text
-cell_under name [] cs = []
-cell_under name (n ∷ ns) [] = []
-cell_under name (n ∷ ns) (c ∷ cs) = if same n name then c else cell_under name ns cs
+-- ---- values
 
 -- the values of the inputs, in the order of declaration
 abbrev pub row_values : List StVar → List Text → List Text → List ℤ
@@ -140,3 +168,22 @@ IsRowFor vars row = AreOfTypes (inputs_of vars) row
 -- the rows are in range for a program with these variables
 abbrev pub AreRowsFor : List StVar → List (List ℤ) → Type 0
 AreRowsFor vars rows = AllByRecursion (IsRowFor vars) rows
+
+-- ---- cases
+
+-- the numbers of the rows
+abbrev pub numbers_after : List (List Text) → List ℕ
+numbers_after [] = []
+numbers_after (names ∷ rs) = map (number_of_row names) rs
+
+-- The text breaks no rule, and these are its cases: none is empty, one after the other they are the rows, and the rows of
+-- each are numbered from 1 on.
+pub record CasesOf (vars : List StVar) (text : Text) (cases : List (List (List ℤ))) : Type 0 where
+  pub right : first_case_fault vars text ≡ None
+  pub rows : flat_map (λ c. c) cases ≡ rows_after vars (records_of text)
+  pub numbers : flat_map (λ (c : List (List ℤ)). range_with_len 1 (length c)) cases ≡ numbers_after (records_of text)
+  pub full : list_all (λ (c : List (List ℤ)). nat_lt 0 (length c)) cases ≡ true
+
+-- the rows of each case are in range for a program with these variables
+abbrev pub AreCasesFor : List StVar → List (List (List ℤ)) → Type 0
+AreCasesFor vars cases = AllByRecursion (AreRowsFor vars) cases

@@ -1,16 +1,17 @@
 //! The cells of a row.
 
-ghost use Rattle.std.specs.Prelude.{◌≡◌, ◌<◌, ◌≤◌, ◌^◌, pos, length, replicate, decimal, None, All, IfOk, IfErr};
+ghost use Rattle.std.specs.Prelude.{◌≡◌, ℕ, ◌<◌, ◌≤◌, ◌^◌, pos, length, replicate, decimal, None, All, IfOk, IfErr};
 ghost use Rattle.std.specs.Bool.{OnTrue};
 ghost use Rattle.grammar.specs.Pieces.{same};
 ghost use Rattle.csv.specs.Records.{fields_of};
 ghost use Rattle.st_ast.specs.declared.tree.StTy.TheVariants as ty;
 ghost use Rattle.plc_rows.specs.Rows as rows;
-ghost use Rattle.plc_rows.specs.Columns.{place, stands, with_cell, with_cells, line_fault};
-ghost use Rattle.plc_rows.specs.Left.{Tells};
+ghost use Rattle.plc_rows.specs.Columns.{place, stands, with_cell, with_cells, line_fault, rule_of, HasNumber};
+ghost use Rattle.plc_rows.specs.Told.{Tells};
 
 use crate::error::RowErr;
 use crate::header::Column;
+use crate::numbering::Numbering;
 use crate::row::Row;
 use cif_base::{Items, read_int};
 use csv::ByteRecord;
@@ -62,14 +63,37 @@ fn cell_value(ty: StTy, cell: &[u8]) -> Option<i64>
     }
 }
 
+/// The number of a row in its case.
+fn number_in_case(cell: &[u8]) -> Option<i64>
+    ensures { result ≡ rows.cell_value rows.case_numbers cell.now }
+{
+    within(1, 100_000, cell)
+}
+
+/// Whether a cell may stand in the column `scan` of the row of that number.
+fn scan_stands(numbering: Numbering, number: u32, cell: &[u8]) -> bool
+    ensures { result ≡ (rule_of numbering).stands number cell.now }
+{
+    match numbering {
+        Numbering::ByFile => is_number(number, cell),
+        Numbering::ByCase => number_in_case(cell).is_some(),
+    }
+}
+
 /// Puts the value of a cell in its place among those of the inputs; `false` where the cell breaks the rule of its column.
-fn put_cell(cells: &mut Items<i64>, column: Column, number: u32, cell: &[u8]) -> bool
+fn put_cell(
+    cells: &mut Items<i64>,
+    column: Column,
+    numbering: Numbering,
+    number: u32,
+    cell: &[u8],
+) -> bool
     requires { place column ≤ length cells.old }
-    ensures stands { result ≡ stands rows.row_number number column cell.now }
+    ensures stands { result ≡ stands (rule_of numbering) number column cell.now }
     ensures put { OnTrue result (cells.new ≡ with_cell column cell.now cells.old) }
 {
     match column {
-        Column::Scan => is_number(number, cell),
+        Column::Scan => scan_stands(numbering, number, cell),
         Column::Input { rank, ty } => match cell_value(ty, cell) {
             Some(value) => {
                 cells.set(rank as usize, value);
@@ -80,19 +104,20 @@ fn put_cell(cells: &mut Items<i64>, column: Column, number: u32, cell: &[u8]) ->
     }
 }
 
-/// The row of that number, of values for so many inputs. Its length is told before its first wrong cell.
+/// The row of that number in its file, of values for so many inputs. Its length is told before its first wrong cell.
 pub fn read_row(
     alloc: Global,
     columns: &[Column],
     inputs: usize,
+    numbering: Numbering,
     number: u32,
     row: &ByteRecord,
 ) -> Result<Row, RowErr>
     requires few { length columns.now < 2 ^ 32 }
     requires places { All (λ c. place c ≤ inputs) columns.now }
-    ensures ok { IfOk result (λ r. (line_fault rows.row_number columns.now number (fields_of row.now) ≡ None)
+    ensures ok { IfOk result (λ r. (line_fault (rule_of numbering) columns.now number (fields_of row.now) ≡ None)
         × (r.cells ≡ with_cells columns.now (fields_of row.now) (replicate inputs (pos 0)))) }
-    ensures err { IfErr result (Tells (line_fault rows.row_number columns.now number (fields_of row.now))) }
+    ensures err { IfErr result (Tells (line_fault (rule_of numbering) columns.now number (fields_of row.now))) }
 {
     if row.len() != columns.len() {
         return Err(RowErr::RowLength { row: number });
@@ -102,7 +127,7 @@ pub fn read_row(
         let Some(cell) = row.get(j) else {
             unreachable!();
         };
-        if !put_cell(&mut cells, *column, number, cell) {
+        if !put_cell(&mut cells, *column, numbering, number, cell) {
             return Err(RowErr::Cell {
                 row: number,
                 column: j as u32 + 1,
@@ -110,4 +135,18 @@ pub fn read_row(
         }
     }
     Ok(Row { cells })
+}
+
+/// The number of a row in its case, which stands in that place.
+pub fn number_at(row: &ByteRecord, place: usize) -> u32
+    requires { (n : ℕ) × HasNumber (fields_of row.now) place n }
+    ensures { HasNumber (fields_of row.now) place result }
+{
+    let Some(cell) = row.get(place) else {
+        unreachable!();
+    };
+    let Some(number) = number_in_case(cell) else {
+        unreachable!();
+    };
+    number as u32
 }

@@ -1,11 +1,11 @@
-//! Why a rows file is refused.
+//! Why a rows file or a cases file is refused.
 
 ghost use Rattle.std.specs.Prelude.{◌≡◌};
 ghost use Rattle.plc_rows.specs.declared.error.RowErr.TheVariants.{Memory as no_memory};
 
 use cif_base::Memory;
 
-/// The first rule that a rows file breaks, with columns and rows counted from 1; or memory ran out.
+/// The first rule that a file breaks, with columns and rows counted from 1; or memory ran out.
 #[derive(Clone, Copy, Debug, PartialEq, Eq)]
 pub enum RowErr {
     /// The field of the header in that column is no wanted name or repeats an earlier one; or a wanted name is missing, and
@@ -17,6 +17,8 @@ pub enum RowErr {
     RowLength { row: u32 },
     /// The file has more than 100,000 rows; `count` is 100,001.
     TooManyRows { count: u32 },
+    /// In a cases file alone: the number of the row is neither 1 nor one more than that of the row before.
+    CaseBoundary { row: u32 },
     Memory,
 }
 

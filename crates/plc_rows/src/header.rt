@@ -4,7 +4,7 @@ ghost use Rattle.std.specs.Prelude.{◌≡◌, ◌<◌, ◌≤◌, ◌^◌, leng
 ghost use Rattle.csv.specs.Records.{fields_of};
 ghost use Rattle.plc_rows.specs.Rows.{header_fault};
 ghost use Rattle.plc_rows.specs.Columns as columns;
-ghost use Rattle.plc_rows.specs.Left.{Tells};
+ghost use Rattle.plc_rows.specs.Told.{Tells};
 
 use crate::error::RowErr;
 use cif_base::{Items, Memory};
@@ -105,4 +105,15 @@ pub fn read_header(
         });
     }
     Ok(found)
+}
+
+/// The place of the column `scan`.
+pub fn scan_place(header: &[Column]) -> usize
+    ensures { result ≡ columns.scan_place header.now }
+{
+    let mut place = 0;
+    while place < header.len() && matches!(header[place], Column::Input { .. }) {
+        place += 1;
+    }
+    place
 }

@@ -1,10 +1,12 @@
-//! Rows files, and the table of the outputs of scans.
+//! Rows files, cases files, and the table of the outputs of scans.
 #![tactic(auto)]
 
+mod casing;
 mod cells;
 mod error;
 mod header;
 mod laws;
+mod numbering;
 mod reading;
 mod records;
 mod row;
@@ -12,8 +14,8 @@ mod sharing;
 mod table;
 
 pub use error::RowErr;
-pub use laws::rows_are_in_range;
-pub use reading::read_rows;
-pub use row::{Row, Rows};
-pub use sharing::rows_are_shared;
+pub use laws::{cases_are_in_range, cases_are_one, rows_are_in_range};
+pub use reading::{read_cases, read_rows};
+pub use row::{Cases, Row, Rows};
+pub use sharing::{cases_are_shared, rows_are_shared};
 pub use table::rows_text;

@@ -8,8 +8,14 @@ pub struct Row {
     pub cells: Items<i64>,
 }
 
-/// The rows of a file, in its order.
+/// The rows of a file or of a case, in its order.
 #[derive(Debug, Drop)]
 pub struct Rows {
     pub rows: Items<Row>,
+}
+
+/// The cases of a file, in its order.
+#[derive(Debug, Drop)]
+pub struct Cases {
+    pub cases: Items<Rows>,
 }
