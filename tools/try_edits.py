@@ -14,6 +14,7 @@ import subprocess
 import sys
 import tempfile
 
+import building
 import crates
 
 
@@ -72,7 +73,11 @@ def try_crate(name):
         (room / "crates" / name / "must-fail").mkdir()
         for edit in edits:
             shutil.copy(edit, room / "crates" / name / "must-fail")
-        return subprocess.run(["rt", "must-fail", name], cwd=room).returncode == 0
+        try:
+            return subprocess.run(["rt", "must-fail", name], cwd=room).returncode == 0
+        finally:
+            # (before the folder goes, in which they write)
+            building.end_descendants()
 
 
 def main(words):
@@ -82,6 +87,7 @@ def main(words):
     if not words or unknown:
         print(f"no edits: {' '.join(unknown)}" if unknown else __doc__)
         return 2
+    building.end_at_signals()
     return 0 if all([try_crate(it) for it in words]) else 1
 
 
