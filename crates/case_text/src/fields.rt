@@ -77,9 +77,13 @@ impl<'a> Fields<'a> {
         self.bytes_of(self.written(0))
     }
 
-    /// The numbers of a field, with blanks between them.
+    /// The numbers of a field, which is a text of the notation, with blanks between them.
     pub fn numbers(&self, text: &str) -> Result<Vec<u32>, Fault> {
         let mut all = Vec::new(self.alloc);
+        let bytes = self.bytes_of(text)?;
+        let Ok(text) = str::from_utf8(bytes.as_slice()) else {
+            return Err(Fault::Form("numbers are no UTF-8"));
+        };
         for word in text.split_whitespace() {
             all.push(number(word)?)?;
         }

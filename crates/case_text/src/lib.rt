@@ -7,7 +7,10 @@
 //! - `let NAME TEXT`: the name of a text;
 //! - `CALL FIELD | FIELD ..`: a case;
 //! - `each CALL FIELD | ..`: a case for each byte, of which `{byte}` is the text. Bytes in a row with the same answer are told
-//!   together, as `41 to 5a`.
+//!   together, as `41 to 5a`;
+//! - `times CALL FIELD | ..`: a case for each number `{n}` from 0 on, up to the first whose answer is the one where `{n}` is empty, as
+//!   of faults that come too late;
+//! - `prefixes TEXT CALL FIELD | ..`: a case for each beginning `{prefix}` of a text, told by its exit code alone.
 //!
 //! In a TEXT stand `{NAME}` for a named text, `{400*TEXT}` for a text so many times, `{1..100:TEXT}` for each number with the
 //! text behind it, and escapes: `\n`, `\r`, `\t`, `\xHH`, `\\`, `\{`, `\}`, and `\e` for nothing, which keeps blanks at an
@@ -18,6 +21,7 @@
 mod fault;
 mod fields;
 mod files;
+mod groups;
 mod page;
 mod script;
 mod stream;

@@ -1,10 +1,15 @@
 //! The lines of the cases, one after the other.
 
+ghost use Rattle.std.specs.Prelude.{◌≤◌, length};
+
 use crate::fault::Fault;
 use crate::fields::{Fields, first_word};
-use crate::page::Put;
+use crate::groups::{Group, Style};
 use crate::texts::{Names, bytes_of};
-use std::alloc::Global;
+use std::alloc::{AllocError, Global};
+
+/// The greatest number that `times` tries.
+const MOST_TIMES: usize = 10_000;
 
 /// What the lines so far leave: the names that they define, and how many calls they made.
 #[derive(Drop)]
@@ -12,14 +17,6 @@ pub struct Script {
     alloc: Global,
     names: Names,
     calls: u64,
-}
-
-/// The bytes from one to another that have the same answer.
-#[derive(Drop)]
-struct Group {
-    first: u8,
-    last: u8,
-    answer: String,
 }
 
 impl Script {
@@ -63,6 +60,8 @@ impl Script {
             "" | "#" => Ok(()),
             "let" => self.define(rest),
             "each" => self.each_byte(answer, rest, page),
+            "times" => self.times(answer, rest, page),
+            "prefixes" => self.prefixes(answer, rest, page),
             _ => self.call(answer, line, page),
         }
     }
@@ -92,10 +91,21 @@ impl Script {
         }
     }
 
-    /// Takes `{byte}` for this byte.
-    fn define_byte(&mut self, byte: u8) -> Result<(), Fault> {
-        let bytes = Vec::from_slice(self.alloc, &[byte])?;
-        self.names.define(self.alloc, "byte", bytes)
+    /// The answer to a case where this name stands for these bytes.
+    fn with<E: Into<Fault>, A: Fn(&str, &Fields<'_>, &mut String) -> Result<(), E>>(
+        &mut self,
+        answer: &A,
+        text: &str,
+        name: &str,
+        bytes: Vec<u8>,
+    ) -> Result<String, Fault>
+        requires { A.IsAlwaysCallable answer.now }
+    {
+        self.names.define(self.alloc, name, bytes)?;
+        let mut page = String::new(self.alloc);
+        self.call(answer, text, &mut page)?;
+        self.names.forget();
+        Ok(page)
     }
 
     /// The answer to a case where `{byte}` is this byte.
@@ -107,11 +117,8 @@ impl Script {
     ) -> Result<String, Fault>
         requires { A.IsAlwaysCallable answer.now }
     {
-        self.define_byte(byte)?;
-        let mut page = String::new(self.alloc);
-        self.call(answer, text, &mut page)?;
-        self.names.forget();
-        Ok(page)
+        let bytes = Vec::from_slice(self.alloc, &[byte])?;
+        self.with(answer, text, "byte", bytes)
     }
 
     /// A case for each of the 256 bytes, with one answer for each run of bytes that have the same.
@@ -124,45 +131,99 @@ impl Script {
         requires { A.IsAlwaysCallable answer.now }
     {
         let first = self.with_byte(answer, text, 0)?;
-        let mut group = Group::new(0, first);
+        let mut group = Group::new(Style::Byte, first);
         for byte in 1..=255 {
             let next = self.with_byte(answer, text, byte)?;
-            group.add(byte, next, page)?;
+            group.add(usize::from(byte), next, page)?;
         }
+        Ok(group.put(page)?)
+    }
+
+    /// The answer to a case where `{n}` is this number.
+    fn with_number<E: Into<Fault>, A: Fn(&str, &Fields<'_>, &mut String) -> Result<(), E>>(
+        &mut self,
+        answer: &A,
+        text: &str,
+        number: usize,
+    ) -> Result<String, Fault>
+        requires { A.IsAlwaysCallable answer.now }
+    {
+        let written = format!(in self.alloc; "{number}")?;
+        let bytes = Vec::from_slice(self.alloc, written.as_bytes())?;
+        self.with(answer, text, "n", bytes)
+    }
+
+    /// A case for each number from 0 on, up to the first whose answer is the one that there is without a number. All are one case.
+    fn times<E: Into<Fault>, A: Fn(&str, &Fields<'_>, &mut String) -> Result<(), E>>(
+        &mut self,
+        answer: &A,
+        text: &str,
+        page: &mut String,
+    ) -> Result<(), Fault>
+        requires { A.IsAlwaysCallable answer.now }
+    {
+        let calls = self.calls.saturating_add(1);
+        let without = self.with(answer, text, "n", Vec::new(self.alloc))?;
+        let first = self.with_number(answer, text, 0)?;
+        let mut group = Group::new(Style::Count, first);
+        for number in 1..=MOST_TIMES {
+            if group.has(without.as_str()) {
+                self.calls = calls;
+                return Ok(group.put(page)?);
+            }
+            let next = self.with_number(answer, text, number)?;
+            group.add(number, next, page)?;
+        }
+        Err(Fault::Form("no number has the answer without one"))
+    }
+
+    /// The exit code of a case where `{prefix}` is the beginning of a text with this length.
+    fn with_prefix<E: Into<Fault>, A: Fn(&str, &Fields<'_>, &mut String) -> Result<(), E>>(
+        &mut self,
+        answer: &A,
+        text: &str,
+        whole: &[u8],
+        count: usize,
+    ) -> Result<String, Fault>
+        requires always { A.IsAlwaysCallable answer.now }
+        requires inside { count ≤ length whole.now }
+    {
+        let bytes = Vec::from_slice(self.alloc, &whole[..count])?;
+        let page = self.with(answer, text, "prefix", bytes)?;
+        Ok(code_of(self.alloc, page.as_str())?)
+    }
+
+    /// `TEXT CALL ..`: a case for each beginning of the text, of which the exit code alone is printed. All are one case.
+    fn prefixes<E: Into<Fault>, A: Fn(&str, &Fields<'_>, &mut String) -> Result<(), E>>(
+        &mut self,
+        answer: &A,
+        text: &str,
+        page: &mut String,
+    ) -> Result<(), Fault>
+        requires { A.IsAlwaysCallable answer.now }
+    {
+        let calls = self.calls.saturating_add(1);
+        let (written, text) = first_word(text);
+        let whole = bytes_of(self.alloc, &self.names, written.as_bytes())?;
+        let first = self.with_prefix(answer, text, whole.as_slice(), 0)?;
+        let mut group = Group::new(Style::Count, first);
+        for count in 1..=whole.len() {
+            let next = self.with_prefix(answer, text, whole.as_slice(), count)?;
+            group.add(count, next, page)?;
+        }
+        self.calls = calls;
         Ok(group.put(page)?)
     }
 }
 
-impl Group {
-    fn new(byte: u8, answer: String) -> Group {
-        Group {
-            first: byte,
-            last: byte,
-            answer,
-        }
-    }
-
-    /// Goes on to the next byte; where its answer is another, the group is printed and a new one begins.
-    fn add(&mut self, byte: u8, answer: String, page: &mut String) -> Put {
-        if answer.as_str() != self.answer.as_str() {
-            self.put(page)?;
-            self.first = byte;
-            self.answer = answer;
-        }
-        self.last = byte;
-        Ok(())
-    }
-
-    fn put(&self, page: &mut String) -> Put {
-        put_range(page, self.first, self.last)?;
-        page.push_str(self.answer.as_str())
-    }
-}
-
-fn put_range(page: &mut String, first: u8, last: u8) -> Put {
-    if first == last {
-        write!(page, "  {first:02x}\n")
-    } else {
-        write!(page, "  {first:02x} to {last:02x}\n")
+/// What stands behind the last comma of the first line of an answer: the exit code of a command line.
+fn code_of(alloc: Global, answer: &str) -> Result<String, AllocError> {
+    let line = match answer.split_once('\n') {
+        Some((line, _)) => line,
+        None => answer,
+    };
+    match line.rsplit_once(',') {
+        Some((_, code)) => format!(in alloc; " {code}\n"),
+        None => format!(in alloc; "{line}\n"),
     }
 }

@@ -2,6 +2,7 @@
 
 use crate::commands::tool_case;
 use crate::nets::{emit_case, load_case, net_case};
+use crate::runs::sim_case;
 use crate::scopes::{find_case, scopes_case};
 use crate::sources::source_case;
 use crate::tokens::front_case;
@@ -19,6 +20,7 @@ pub fn answer<R: Threads + Sync>(
         "tool" => tool_case(rt, fields, page),
         "load" => load_case(fields, page),
         "emit" => emit_case(fields, page),
+        "sim" => sim_case(fields, page),
         "inline" | "widths" => net_case(call, fields, page),
         "scopes" | "resolve" => scopes_case(call, fields, page),
         "find" => find_case(fields, page),

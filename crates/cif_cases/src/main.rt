@@ -12,6 +12,8 @@
 //!   first location, the first edge of that, and the `if` update that is its first;
 //! - `load TEXT`: the net of a CIF source with the choices of all events and its initial state, or why there is none;
 //!   `emit TEXT | UNC CON`: its program;
+//!   `sim TEXT | set INPUT VALUE | fire EVENT | first CLASS | why EVENT | state ..`: what these calls answer, one after the other over
+//!   its net, with inputs and events by their numbers; CLASS is `plain`, `con`, `unc`, or nothing for all events;
 //!   `widths TEXT`: whether the expressions of its net, before algebraic variables are replaced in it, divide by no 0 and stay in 64
 //!   bits, and how deep they are; `inline TEXT`: the guards of that net where algebraic variables are replaced by their definitions;
 //! - `scopes TEXT`: how many names the scope of each body of a source declares; `resolve TEXT`: the same where the source keeps all
@@ -24,6 +26,7 @@ mod commands;
 mod declarations;
 mod expressions;
 mod nets;
+mod runs;
 mod scopes;
 mod sources;
 mod tokens;

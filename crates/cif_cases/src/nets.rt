@@ -37,7 +37,7 @@ pub fn load_case(fields: &Fields<'_>, page: &mut String) -> Result<(), Fault> {
 }
 
 #[tactic(auto, using(crate::proofs::NetLaws::loads_shallow))]
-fn loaded(alloc: Global, text: &[u8]) -> Result<Result<Guarded, Refusal>, Fault>
+pub(crate) fn loaded(alloc: Global, text: &[u8]) -> Result<Result<Guarded, Refusal>, Fault>
     ensures shallow { IfOk result (λ answer. IfOk answer (λ g. is_shallow (net_tree g.plain.net) ≡ true)) }
 {
     if text.len() > MOST_BYTES {
