@@ -1,7 +1,7 @@
 #!/usr/bin/env python3
 """Compares `simulate` and `why` with a plain simulator, on random sources and scripts.
 
-    tools/compare_runs.py PROGRAM [SOURCES [SEED]] [--without-why]
+    tools/compare_runs.py PROGRAM [SOURCES [SEED]]
     tools/compare_runs.py --self-test [SOURCES [SEED]]
 
 The sources are those of `compare_scans.py`, and some of `compare_refusals.py`, of which most are refused. Each is run by random scripts
@@ -10,8 +10,7 @@ and the line on standard error; a refused source is refused as by `check`. The s
 event, and of a disabled one it gives all reasons.
 
 With `--self-test` the simulator is compared with worked examples, each of some wrong simulators has to differ from it in one of these, and
-runs that fire what a scan fires, in its order, have to end as the scan does. `--without-why` leaves `why` out. The status is 1 where
-something differs, and where the program does not have a command that is compared.
+runs that fire what a scan fires, in its order, have to end as the scan does. The status is 1 where something differs.
 """
 import contextlib
 import functools
@@ -32,7 +31,6 @@ from wrong_runs import WRONG, FromZero
 USAGE = Answer(2, b"", b"cif: not a command line\n")
 # The words of a command line, and its files by their names.
 Trial = namedtuple("Trial", "words files")
-COMMANDS = {"simulate": ["--first", "0"], "why": ["script", "e"]}
 # How many scripts, numbers of first steps and explained events a source has.
 SCRIPTS, FIRSTS, EVENTS = 2, 1, 3
 # How often a source is one that may break a rule.
@@ -104,7 +102,7 @@ def answer(model, words, files):
 
 # ---- random trials
 
-def of_model(choose, text, has_why, notes):
+def of_model(choose, text, notes):
     """Trials on a source that is not refused."""
     model = Simulator(text)
     maker, source = ScriptMaker(choose, model), text.encode("latin-1")
@@ -114,31 +112,30 @@ def of_model(choose, text, has_why, notes):
         yield Trial(["simulate", "source", "script"], {"source": source, "script": script})
     for _ in range(FIRSTS):
         yield Trial(["simulate", "source", "--first", str(maker.steps())], {"source": source})
-    for _ in range(EVENTS if has_why else 0):
+    for _ in range(EVENTS):
         script, event = maker.explained()
         noted_reasons(model, script, event, notes)
         yield Trial(["why", "source", "script", event.decode()], {"source": source, "script": script})
 
 
-def of_refused(choose, text, has_why):
+def of_refused(choose, text):
     """Trials on a source that is refused: its script is not read, and may be missing."""
     files = {"source": text.encode("latin-1")}
     if choose.random() < 0.5:
         files["script"] = b"set\n"
-    commands = [["simulate", "source", "script"], ["simulate", "source", "--first", "1"], ["why", "source", "script", "e"]]
-    for words in commands if has_why else commands[:2]:
+    for words in (["simulate", "source", "script"], ["simulate", "source", "--first", "1"], ["why", "source", "script", "e"]):
         yield Trial(words, files)
 
 
-def trials(choose, has_why, notes):
+def trials(choose, notes):
     """The trials on a random source."""
     if choose.random() >= REFUSED:
-        return of_model(choose, choose.choice(MAKERS)(choose), has_why, notes)
+        return of_model(choose, choose.choice(MAKERS)(choose), notes)
     text = faulty(choose)
     if not lines_due(text):
-        return of_model(choose, text, has_why, notes)
+        return of_model(choose, text, notes)
     notes["refused sources"] += 1
-    return of_refused(choose, text, has_why)
+    return of_refused(choose, text)
 
 
 def noted_source(model, notes):
@@ -167,7 +164,7 @@ def noted_answer(one, notes):
 
 # ---- worked trials
 
-def worked_trials(has_why):
+def worked_trials():
     """The worked examples as trials, each with the answer that was worked out."""
     for text, count, out in worked_runs.FIRST:
         yield first_trial(text, count), Answer(0, out.encode(), b"")
@@ -179,14 +176,12 @@ def worked_trials(has_why):
         for line in lines:
             yield script_trial(text, line), Answer(13, out, b"cif: script: line 1: 29 BadLine\n")
     for words, status, out, line in worked_runs.WORDS:
-        if has_why or words[0].lower() != "why":
-            files = {name: content for name, content in worked_runs.FILES.items() if name in words}
-            yield Trial(words, files), Answer(status, out.encode(), line.encode())
-    if has_why:
-        for text, script, event, reasons in worked_runs.WHY:
-            yield why_trial(text, script, event), Answer(0, worked_runs.reasons_written(text, reasons).encode(), b"")
-        for text, script, event, status, line in worked_runs.UNEXPLAINED:
-            yield why_trial(text, script, event), Answer(status, b"", f"cif: {line}\n".encode())
+        files = {name: content for name, content in worked_runs.FILES.items() if name in words}
+        yield Trial(words, files), Answer(status, out.encode(), line.encode())
+    for text, script, event, reasons in worked_runs.WHY:
+        yield why_trial(text, script, event), Answer(0, worked_runs.reasons_written(text, reasons).encode(), b"")
+    for text, script, event, status, line in worked_runs.UNEXPLAINED:
+        yield why_trial(text, script, event), Answer(status, b"", f"cif: {line}\n".encode())
 
 
 def first_trial(text, count):
@@ -223,13 +218,13 @@ def fault(folder, trial, answers):
     return None
 
 
-def compared(folder, choose, sources, has_why, notes):
+def compared(folder, choose, sources, notes):
     """Compares the worked and the random trials, and returns how many differ."""
     differ = 0
-    for trial, one in worked_trials(has_why):
+    for trial, one in worked_trials():
         differ += is_fault(trial, fault(folder, trial, [one]))
     for _ in range(sources):
-        for trial in trials(choose, has_why, notes):
+        for trial in trials(choose, notes):
             answers = wanted(trial)
             noted_answer(answers[0], notes)
             differ += is_fault(trial, fault(folder, trial, answers))
@@ -243,25 +238,10 @@ def is_fault(trial, fault):
     return bool(fault)
 
 
-def missing_command(folder, has_why):
-    """A command that the program does not have, or None."""
-    folder.write("source", "")
-    folder.write("script", "")
-    for command, more in COMMANDS.items():
-        if (has_why or command != "why") and folder.run(command, "source", *more).status == USAGE.status:
-            return command
-    return None
-
-
-def main(program, sources=500, seed=1, has_why=True):
+def main(program, sources=500, seed=1):
     notes = Counter()
     with tempfile.TemporaryDirectory() as room:
-        folder = Folder(program, room)
-        missing = missing_command(folder, has_why)
-        if missing:
-            print(f"{program} has no command {missing}: nothing was compared")
-            return 1
-        differ = compared(folder, random.Random(seed), sources, has_why, notes)
+        differ = compared(Folder(program, room), random.Random(seed), sources, notes)
     shown = ", ".join("%d %s" % (count, what) for what, count in sorted(notes.items()))
     print("%d sources (%s) and the worked examples: %d differences" % (sources, shown, differ))
     return 1 if differ else 0
@@ -275,7 +255,7 @@ SCANNED, SCANS, ROUNDS = 40, 3, 4
 
 def differs(make):
     """Whether a simulator answers a worked example in another way."""
-    return any(wanted(trial, make) != [one] for trial, one in worked_trials(True)) or any(
+    return any(wanted(trial, make) != [one] for trial, one in worked_trials()) or any(
         reasons_in(make, *it) != [reason for reason, *_ in reasons] for *it, reasons in REASONS)
 
 
@@ -357,15 +337,15 @@ class Played:
 
 def test_comparison(sources, seed):
     """The comparison finds nothing between a simulator and itself, a wrong simulator, and a refusal that is another one for `check`."""
-    assert compared(Played(Simulator), random.Random(seed), sources, True, Counter()) == 0
+    assert compared(Played(Simulator), random.Random(seed), sources, Counter()) == 0
     with contextlib.redirect_stdout(io.StringIO()) as out:
         for player in (Played(FromZero), Played(Simulator, Answer(7, b"", b"cif: source: 4 NotRead at 0\n"))):
-            assert compared(player, random.Random(seed), sources, True, Counter()) > 0
+            assert compared(player, random.Random(seed), sources, Counter()) > 0
     assert "wanted Answer(status=0, out=b'start A=x\\nstep 1 A.u A=y\\n" in out.getvalue() and "check gives" in out.getvalue()
 
 
 def self_test(sources=SCANNED, seed=3):
-    for trial, one in worked_trials(True):
+    for trial, one in worked_trials():
         assert wanted(trial) == [one], (trial.words, trial.files.get("source"), trial.files.get("script"), wanted(trial), one)
     for *it, reasons in REASONS:
         assert reasons_in(Simulator, *it) == [reason for reason, *_ in reasons], it
@@ -375,18 +355,12 @@ def self_test(sources=SCANNED, seed=3):
     for make in WRONG:
         assert differs(make), make.__name__
     print("the simulator agrees with %d worked examples, and %d wrong ones do not" % (
-        sum(1 for _ in worked_trials(True)) + len(worked_runs.IN_STATES), len(WRONG)))
+        sum(1 for _ in worked_trials()) + len(worked_runs.IN_STATES), len(WRONG)))
     test_comparison(sources // 5, seed)
     test_scans(sources, seed)
     return 0
 
 
-def main_of(words):
-    if words[:1] == ["--self-test"]:
-        return self_test(*map(int, words[1:]))
-    has_why, numbers = "--without-why" not in words, [it for it in words if it != "--without-why"]
-    return main(numbers[0], *map(int, numbers[1:]), has_why=has_why)
-
-
 if __name__ == "__main__":
-    sys.exit(main_of(sys.argv[1:]))
+    first, *rest = sys.argv[1:]
+    sys.exit((self_test if first == "--self-test" else functools.partial(main, first))(*map(int, rest)))

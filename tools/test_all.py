@@ -26,6 +26,7 @@ COMPARISONS = [
     ("compare_grammar", None, ["200"], 10),
     ("compare_programs", None, ["50"], 5),
     ("compare_scans", None, ["20"], 60),
+    ("compare_runs", None, ["20"], 30),
     ("compare_refusals", None, ["40", "--short"], 60),
     ("compare_c", None, ["5"], 20),
     ("compare_names", "find", ["100"], 20),
