@@ -12,22 +12,24 @@ _cif() {
   done
   case $before in
     -o) mapfile -t COMPREPLY < <(compgen -f -- "$current") && return ;;
-    --unc | --con) return ;;
+    --unc | --con | --first) return ;;
     --plcopen) _cif_files st && return ;;
     --test) mapfile -t COMPREPLY < <(compgen -W 'all proved' -- "$current") && return ;;
   esac
   if [ -z "$command" ]; then
-    _cif_words check generate replay explain legend wave draw wrap -o --places --proved --prove --test --status --version --help -h
+    _cif_words check generate replay simulate why explain legend wave draw wrap -o --places --proved --prove --test --status --version --help -h
     return
   fi
   case $command:$current in
     generate:-*) _cif_words --unc --con ;;
+    simulate:-*) _cif_words --first ;;
     legend:-*) _cif_words --st --json ;;
     wave:-*) _cif_words --svg ;;
     wrap:-*) _cif_words --codesys --twincat --plcopen ;;
     *)
       case $command:$place in
-        check:0 | generate:0 | legend:0 | wave:0 | draw:0 | wrap:0) _cif_files cif ;;
+        check:0 | generate:0 | simulate:0 | why:0 | legend:0 | wave:0 | draw:0 | wrap:0) _cif_files cif ;;
+        simulate:1 | why:1) _cif_files txt ;;
         replay:0 | legend:1) _cif_files st ;;
         replay:1 | wave:1 | wave:2) _cif_files csv ;;
       esac

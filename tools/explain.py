@@ -3,6 +3,7 @@
 
     tools/explain.py shown LINE WORD..    the place, the line with a caret, the rule in words, and what the mistake may be
     tools/explain.py place LINE WORD..    file:line:column and the refusal, on one line
+    tools/explain.py reasons FILE         the standard input, the reasons of `cif why FILE ..`, with their places below them
     tools/explain.py number N             the part of docs/REFUSALS.md on the refusal N
 
 LINE is the line that the program wrote to standard error for the words. Whatever goes wrong here, nothing more is written.
@@ -42,7 +43,10 @@ RULES = {
     23: "The state invariant is false in the initial state.",
     24: "Written out, the expressions have more than 1,000,000 nodes or nest more than 100 deep.",
     25: "The events have more than 16,384 choices.",
+    26: "The value is outside the range of the input.",
+    27: "The event has no step in this state.",
     28: "The event has no class, and a program requires one.",
+    29: "The line is none that a script may have, or names nothing of this sort.",
     31: "No token, blank or comment of Structured Text begins at this byte.",
     32: "The number is larger than 9223372036854775807.",
     33: "A comment begins at `(*` and has no end.",
@@ -60,15 +64,18 @@ RULES = {
     45: "The cell has no value of its column.",
     46: "The row has another number of fields than the header.",
     47: "There are more than 100,000 rows.",
+    54: "No event has this path.",
 }
+# The line of the refusal that is told without a file.
+NO_EVENT = "cif: 54 NoEvent"
 FIELDS = {"at", "first", "count", "alg", "nodes", "depth", "event", "statement", "variable", "value", "row", "column"}
 
 
 class Refusal:
-    """The refusal in a line: its file, number and fields."""
+    """The refusal in a line: its file, the row or the line of a script, its number and fields."""
 
-    def __init__(self, file, row, number, name, fields):
-        self.file, self.row, self.number, self.name, self.fields = file, row, number, name, fields
+    def __init__(self, file, row, line, number, name, fields):
+        self.file, self.row, self.line, self.number, self.name, self.fields = file, row, line, number, name, fields
 
     def count(self, field):
         found = self.fields.get(field, "")
@@ -81,12 +88,13 @@ def refusal_in(line, words):
         start = f"cif: {file}: "
         if not line.startswith(start):
             continue
-        found = re.fullmatch(r"(?:row ([0-9]+): )?([0-9]{1,3}) ([A-Za-z]+)((?: [a-z]+ \S+)*)", line[len(start) :])
+        found = re.fullmatch(r"(?:(row|line) ([0-9]{1,9}): )?([0-9]{1,3}) ([A-Za-z]+)((?: [a-z]+ \S+)*)", line[len(start) :])
         if found:
-            parts = found[4].split()
+            row, at = (int(found[2]) if found[1] == it else None for it in ("row", "line"))
+            parts = found[5].split()
             fields = dict(zip(parts[::2], parts[1::2]))
             if set(fields) <= FIELDS:
-                return Refusal(file, int(found[1]) if found[1] else None, int(found[2]), found[3], fields)
+                return Refusal(file, row, at, int(found[3]), found[4], fields)
     return None
 
 
@@ -188,6 +196,11 @@ def lines_of_place(file, text, at):
 def places_of(refusal, text, words):
     """The places to show: the file, its bytes, and a byte of them."""
     at = refusal.count("at")
+    if refusal.line:
+        import explain_script
+
+        at = explain_script.place(refusal, text)
+        return [] if at is None else [(refusal.file, text, at)]
     if at is not None:
         first = refusal.count("first")
         return [(refusal.file, text, it) for it in (at, first) if it is not None]
@@ -216,6 +229,10 @@ def places_of(refusal, text, words):
 
 def sentence_of(refusal, text, words):
     """What the mistake may be, and what to do."""
+    if refusal.line:
+        import explain_script
+
+        return explain_script.sentence(refusal, text, words)
     if refusal.number < 31:
         import explain_source
 
@@ -244,7 +261,11 @@ def status_sentence(line, words):
                 return "There is no such file."
             return "The file may not be read: see its permissions."
         if line.startswith(f"cif: {file} is longer than "):
-            return "A source has at most 4,194,304 bytes, a program 16,777,216, and a table of rows 67,108,864."
+            return "A source and a script have at most 4,194,304 bytes, a program 16,777,216, and a table of rows 67,108,864."
+    if line == NO_EVENT:
+        import explain_script
+
+        return f"{RULES[54]} {explain_script.ADVICE[54]}"
     if line == "cif: cannot write":
         return "Is the disk full, or has the program ended that reads the output?"
     return None
@@ -289,11 +310,26 @@ def show(line, words):
 
 def write_place(line, words):
     refusal = refusal_in(line, words)
-    at = refusal.count("at") if refusal else None
-    text = content(refusal.file) if at is not None else None
-    if text is not None and at <= len(text):
+    if not refusal or refusal.line is None and refusal.count("at") is None:
+        return
+    text = content(refusal.file)
+    at = places_of(refusal, text, words)[0][2]
+    if at <= len(text):
         start = text.rfind(b"\n", 0, at) + 1
         write([f"{clean(refusal.file)}:{text.count(10, 0, start) + 1}:{at - start + 1}: {refusal.number} {refusal.name}"])
+
+
+def write_reasons(file):
+    """Writes what `why` wrote of a source, with the lines of the places in it."""
+    import explain_script
+
+    lines, text = [], attempt(content, file)
+    for line in sys.stdin.buffer.read().decode().splitlines():
+        lines.append(line)
+        at = explain_script.place_of_reason(line)
+        if at is not None and text is not None and at <= len(text):
+            lines += attempt(lines_of_place, file, text, at) or []
+    write(lines)
 
 
 def write_number(word):
@@ -313,6 +349,8 @@ def main(words):
         attempt(show, words[1], words[2:])
     elif words[:1] == ["place"] and len(words) > 1:
         attempt(write_place, words[1], words[2:])
+    elif words[:1] == ["reasons"] and len(words) == 2:
+        write_reasons(words[1])
     elif words[:1] == ["number"] and len(words) == 2:
         if not attempt(write_number, words[1]):
             sys.stderr.write(f"cif: no refusal has the number {ascii(words[1])[1:-1]}\n")

@@ -110,13 +110,19 @@ def matches(shown, written):
 
 
 def on_terminal(folder, command, written):
-    """The lines that a command writes, and below the line of a refusal what the script adds on a terminal."""
+    """The lines that a command writes, with what the script adds on a terminal: below the line of a refusal, and below the reasons of `why`."""
     words = shlex.split(command)
-    if words[:1] != ["./cif"] or not written or not written[-1].startswith("cif: "):
+    if words[:1] != ["./cif"] or not written:
         return written
-    explain = [sys.executable, TOP / "tools/explain.py", "shown", written[-1], *words[1:]]
-    ran = subprocess.run(explain, cwd=folder, stdin=subprocess.DEVNULL, capture_output=True, text=True, timeout=60, check=False)
-    return written + ran.stdout.splitlines()
+    if written[-1].startswith("cif: "):
+        return written + explained(folder, "", "shown", written[-1], *words[1:])
+    return explained(folder, "\n".join(written), "reasons", words[2]) if words[1] == "why" else written
+
+
+def explained(folder, given, *words):
+    """The lines that explain.py writes."""
+    ran = subprocess.run([sys.executable, TOP / "tools/explain.py", *words], cwd=folder, input=given, capture_output=True, text=True, timeout=60, check=False)
+    return ran.stdout.splitlines()
 
 
 class Page:
@@ -179,7 +185,7 @@ class Page:
                 self.console(block)
             elif block.word == "cif":
                 self.file(block, self.sources)
-            elif block.word in ("csv", "st"):
+            elif block.word in ("csv", "st", "txt"):
                 self.file(block, self.programs)
             elif block.word == "sh":
                 self.shell(block)
@@ -311,8 +317,8 @@ class Links(unittest.TestCase):
 
     def test_files_that_a_reader_writes_are_ignored(self):
         text = "".join((TOP / it).read_text() for it in [*SHOWN[:5], "docs/SPEED.md"])
-        written = set(re.findall(r"> ([\w-]+\.(?:cif|st|csv))\b", text))
-        self.assertLessEqual({"lamp.st", "cell.st"}, written)
+        written = set(re.findall(r"> ([\w-]+\.(?:cif|st|csv|txt))\b", text))
+        self.assertLessEqual({"lamp.st", "cell.st", "again.txt"}, written)
         ignored = [it.removeprefix("/") for it in (TOP / ".gitignore").read_text().splitlines()]
         self.assertEqual([it for it in sorted(written) if not any(fnmatch.fnmatch(it, one) for one in ignored)], [])
 

@@ -212,14 +212,19 @@ class Completion(unittest.TestCase):
         return set(ran.stdout.split())
 
     def test_commands(self):
-        self.assertEqual(self.complete("cif", "w"), {"wave", "wrap"})
+        self.assertEqual(self.complete("cif", "w"), {"wave", "why", "wrap"})
         self.assertIn("generate", self.complete("cif", "--places", ""))
         self.assertEqual(self.complete("cif", "generate", "a.cif", "--u"), {"--unc"})
+        self.assertEqual(self.complete("cif", "simulate", "a.cif", "--"), {"--first"})
+        self.assertEqual(self.complete("cif", "simulate", "a.cif", "--first", ""), set())
         self.assertEqual(self.complete("cif", "wrap", "a.cif", "--"), {"--codesys", "--twincat", "--plcopen"})
 
     def test_files(self):
         self.assertEqual(self.complete("cif", "check", "examples/la"), {"examples/lamp.cif"})
         self.assertEqual(self.complete("cif", "-o", "out.st", "check", "examples/la"), {"examples/lamp.cif"})
+        self.assertEqual(self.complete("cif", "simulate", "examples/la"), {"examples/lamp.cif"})
+        self.assertEqual(self.complete("cif", "why", "examples/la"), {"examples/lamp.cif"})
+        self.assertEqual(self.complete("cif", "simulate", "a.cif", "tools/wrong_s"), {"tools/wrong_sources.txt"})
         self.assertEqual(self.complete("cif", "replay", "examples/t"), {"examples/tank.st"})
         self.assertEqual(self.complete("cif", "replay", "a.st", "examples/la"), {"examples/lamp-rows.csv"})
         self.assertEqual(self.complete("cif", "wave", "a.cif", "examples/ro"), {"examples/rows.csv"})

@@ -24,10 +24,11 @@ PROGRAM = pathlib.Path(GIVEN).resolve() if GIVEN else next(filter(pathlib.Path.e
 STACK = 64 << 20
 # The exit code of each refusal.
 CODES = {**dict.fromkeys(range(1, 25), 7), 25: 8, 28: 8, **dict.fromkeys(range(31, 40), 9)}
-CODES.update({40: 11, 41: 11, 42: 11, 43: 12, **dict.fromkeys(range(44, 48), 10)})
+CODES.update({26: 13, 27: 13, 29: 13, 40: 11, 41: 11, 42: 11, 43: 12, **dict.fromkeys(range(44, 48), 10), 54: 16})
 
 sys.path.insert(0, str(TOP / "tools"))
 import explain  # noqa: E402
+import explain_script  # noqa: E402
 
 
 def with_stack():
@@ -101,7 +102,7 @@ class Shown(unittest.TestCase):
         if heading[0].isdigit():
             number, name = heading.split()
             self.assertEqual(status, CODES[int(number)])
-            self.assertRegex(error, rf"^cif: [^ ]+: (row 1: )?{number} {name}\b")
+            self.assertRegex(error, rf"^cif: ([^ ]+: )?((row|line) [12]: )?{number} {name}\b")
         return words
 
 
@@ -123,7 +124,7 @@ class Page(Shown):
     def test_explained_by_number(self):
         for number, name, text in self.numbered:
             self.assertEqual(explain_number(number), f"## {number} {name}\n{text.rstrip()}\n")
-        for word in ("0", "26", "48", "x", "", "1 "):
+        for word in ("0", "30", "48", "x", "", "1 "):
             self.assertEqual(explained("number", word), (2, ""))
 
     @unittest.skipUnless(PROGRAM, "there is no program")
@@ -185,6 +186,23 @@ class Language(Shown):
         self.write("a.cif", source)
         status, _, error = run([PROGRAM, "check", "a.cif"], self.work)
         return "read" if status == 0 else error.split()[2]
+
+    def run_blocks(self, text):
+        """Writes the files of a part and runs its commands; these with their answers."""
+        found = []
+        for label, block in blocks_of(text):
+            named = re.fullmatch(r"`([\w.]+)`:", label)
+            if named:
+                self.write(named[1], block)
+            else:
+                self.transcript("an example", block)
+                found.append(block)
+        return "".join(found)
+
+    @unittest.skipUnless(PROGRAM, "there is no program")
+    def test_scripts(self):
+        text = self.run_blocks(dict(sections_of(self.page))["Scripts"])
+        self.assertEqual(re.findall(r"^\$ ./cif (\w+)", text, re.M), ["simulate", "why", "simulate"])
 
 
 class WrongSources(Shown):
@@ -278,11 +296,11 @@ class Places(Shown):
         os.chdir(self.work)
         self.write("a.cif", "\0\xff if if end ] ) } : ; ..")
         self.write("r.csv", '"a,b\n\n"",,\r\n')
-        lines = [f"cif: {file}: {row}{number} Name{field}" for file in ("a.cif", "r.csv") for row in ("", "row 3: ") for number in range(0, 60)
+        lines = [f"cif: {file}: {row}{number} Name{field}" for file in ("a.cif", "r.csv") for row in ("", "row 3: ", "line 3: ", "line 99: ") for number in range(0, 60)
                  for field in ("", " at 3", " at 99999999999999999999", " statement 7 ", " row 9 column 9", " variable x value y")]
         lines += ["", "cif: ", "cif: a.cif: ", "cif: a.cif: 4", "\udcff"]
         for line in lines:
-            for words in (["check", "a.cif"], ["replay", "a.cif", "r.csv"]):
+            for words in (["check", "a.cif"], ["replay", "a.cif", "r.csv"], ["simulate", "a.cif", "r.csv"]):
                 error = explain.refusal_in(line, words)
                 if error and error.number in explain.RULES:
                     explain.rule_of(error)
@@ -366,6 +384,71 @@ class Replays(Shown):
         self.assertEqual(self.shown("cannot read a.st"), ["There is no such file."])
         (self.work / "a.st").mkdir()
         self.assertEqual(self.shown("cannot read a.st"), ["It is a folder."])
+
+
+class Scripts(Shown):
+    """What is shown of a script that stops, and of reasons."""
+
+    def setUp(self):
+        super().setUp()
+        self.write("a.cif", "input int[0..3] k;\nautomaton a:\n  event e;\n  location x: initial;\n    edge e goto y;\n  location y;\nend\ninvariant a.e needs k < 2;\n")
+
+    def shown(self, script, line, verb="shown"):
+        self.write("s.txt", script)
+        return explained(verb, f"cif: s.txt: {line}", "simulate", "a.cif", "s.txt", folder=self.work)[1].splitlines()
+
+    def test_places(self):
+        for script, line, wanted in (
+            ("set k 1\nset k 7\n", "line 2: 26 OutOfRange value 7", ["s.txt:2:7", "set k 7", "      ^", explain.RULES[26], "Set the input to a value of its range."]),
+            ("\n\r\nfire a.e\r\nfire a.e\r\n", "line 4: 27 NotEnabled", ["s.txt:4:6", "fire a.e", "     ^", explain.RULES[27],
+                                                                    "With the lines before this one alone, cif why a.cif s.txt a.e gives the reasons."]),
+            ("fire", "line 1: 29 BadLine", ["s.txt:1:1", "fire", "^", explain.RULES[29], "`fire` has an event, such as `fire a.e`."]),
+            ("fire", "line 2: 29 BadLine", [explain.RULES[29]]),
+        ):
+            self.assertEqual(self.shown(script, line), wanted)
+        self.assertEqual(self.shown("\nset k 7", "line 2: 26 OutOfRange value 7", "place"), ["s.txt:2:7: 26 OutOfRange"])
+        self.assertEqual(self.shown("fire e", "line 9: 29 BadLine", "place"), [])
+
+    @unittest.skipUnless(PROGRAM, "there is no program")
+    def test_bad_lines(self):
+        """Mistakes in the form of a line; the program refuses each."""
+        parts, number = "One blank stands between the parts of a line, and none elsewhere.", "A whole number is written without `+`, without `_` and without zeros in front."
+        name, line_form = "A name is the full path, without a dot in front and without `$`.", "A line is `set INPUT VALUE`, `fire EVENT`, or empty. Comments are left out."
+        set_form, fire_form = explain_script.FORMS[b"set"], explain_script.FORMS[b"fire"]
+        for line, wanted in (
+            ("set k=1", set_form), ("set k", set_form), ("set k 1 2", set_form), ("fire", fire_form), ("fire a.e 1", fire_form), ("fire(a.e)", fire_form),
+            ("set  k 1", parts), ("set k\t1", parts), (" fire a.e", parts), ("fire a.e ", parts), ("set .k 1", name), ("fire $a.e", name),
+            ("set k +1", number), ("set k 01", number), ("set k -0", number), ("set k 1_0", number), ("set k TRUE", "Write `true`."),
+            ("Set k 1", "Write `set`."), ("k := 1", line_form), ("// a comment", line_form), ("# a comment", line_form),
+            ("fire e", "The name is the full path of an event. That of a parameter is none: the event has its own."),
+            ("set a 1", "The name is the full path of an input, and the value one of its kind: `true` or `false`, a whole number, or the name of a literal."),
+        ):
+            self.assertEqual(self.shown(line, "line 1: 29 BadLine")[-1], wanted, line)
+            self.assertEqual(run([PROGRAM, "simulate", "a.cif", "s.txt"], self.work)[::2], (13, "cif: s.txt: line 1: 29 BadLine\n"), line)
+
+    @unittest.skipUnless(PROGRAM, "there is no program")
+    def test_no_event(self):
+        self.write("s.txt", "")
+        status, _, error = run([PROGRAM, "why", "a.cif", "s.txt", "e"], self.work)
+        self.assertEqual((status, error), (16, f"{explain.NO_EVENT}\n"))
+        shown = explained("shown", explain.NO_EVENT, "why", "a.cif", "s.txt", "e", folder=self.work)[1]
+        self.assertEqual(shown, f"{explain.RULES[54]} {explain_script.ADVICE[54]}\n")
+
+    def reasons(self, written, file="a.cif"):
+        ran = subprocess.run([sys.executable, EXPLAIN, "reasons", file], cwd=self.work, input=written, capture_output=True, text=True, timeout=60)
+        self.assertEqual((ran.returncode, ran.stderr), (0, ""))
+        return ran.stdout
+
+    @unittest.skipUnless(PROGRAM, "there is no program")
+    def test_reasons(self):
+        self.write("s.txt", "set k 2\n")
+        written = run([PROGRAM, "why", "a.cif", "s.txt", "a.e"], self.work)[1]
+        shown = "a.cif:8:21\ninvariant a.e needs k < 2;\n                    ^\n"
+        self.assertEqual(self.reasons(written), f"{written}{shown}")
+        self.assertEqual(self.reasons("blocks a\nno sender\nleaves 26 a.x\nbreaks 19\nenabled\n"),
+                         "blocks a\nno sender\nleaves 26 a.x\na.cif:2:8\nautomaton a:\n       ^\nbreaks 19\na.cif:2:1\nautomaton a:\n^\nenabled\n")
+        self.assertEqual(self.reasons("excluded 9999\n"), "excluded 9999\n")
+        self.assertEqual(self.reasons("excluded 3\n", "none"), "excluded 3\n")
 
 
 if __name__ == "__main__":

@@ -11,10 +11,14 @@ import stat
 import sys
 
 NO_WORDS = "cif: not a command line"
-# What each command takes behind it: its files, and whether options may follow.
-FILES = {"check": ("FILE",), "generate": ("FILE",), "replay": ("ST", "ROWS")}
-OPTIONS = ("--unc", "--con")
-MOST_ROUNDS = 10_000
+# How many words each command takes behind it, without options, and these in words. The first two are names of files.
+TAKES = {
+    "check": (1, "FILE"), "generate": (1, "FILE"), "replay": (2, "ST and ROWS"),
+    "simulate": (2, "FILE and SCRIPT, or FILE and --first N"), "why": (3, "FILE, SCRIPT and EVENT"),
+}
+ROUNDS, FIRST = ("--unc", "--con"), "--first"
+OPTIONS = (*ROUNDS, FIRST)
+MOST_ROUNDS, MOST_STEPS = 10_000, 1_000_000
 SEE = "cif --help lists the commands"
 
 
@@ -34,7 +38,7 @@ def command_fault(word):
         return f"{word} stands once before the command"
     if word.split("=")[0] in OPTIONS:
         return "options stand after FILE"
-    names, given = [*FILES, "explain"], word.lower()
+    names, given = [*TAKES, "explain"], word.lower()
     near = [it for it in names if len(given) > 2 and it.startswith(given) or distance(given, it) <= 2]
     return f"did you mean {near[0]}?" if near else f"{word} is no command: {SEE}"
 
@@ -44,9 +48,9 @@ def options_fault(words):
     seen = set()
     while words:
         option, *words = words
-        if option.split("=")[0] in OPTIONS and "=" in option:
+        if option.split("=")[0] in ROUNDS and "=" in option:
             return f"write {option.replace('=', ' ', 1)}"
-        if option not in OPTIONS:
+        if option not in ROUNDS:
             return script_word(option) or f"{option} is no option of generate: it has --unc N and --con N"
         if option in seen:
             return f"{option} stands twice"
@@ -62,15 +66,25 @@ def script_word(word):
     return f"{word} stands before the command" if word in ("--places", "--proved", "-o") else None
 
 
+def steps_fault(words):
+    """Why the words behind `simulate FILE --first` are no number of steps."""
+    if not words or not re.fullmatch("0|[1-9][0-9]{0,6}", words[0]) or int(words[0]) > MOST_STEPS:
+        return f"{FIRST} takes a number from 0 to {MOST_STEPS}"
+    return more_fault("simulate", words[1:])
+
+
 def more_fault(command, words):
-    """Why these words do not stand behind a command and its files."""
+    """Why these words do not stand behind a command and what it takes."""
     if not words:
         return None
     if command == "generate":
         return options_fault(words)
+    if command == "simulate" and words[0].split("=")[0] == FIRST:
+        return f"{FIRST} N stands in the place of SCRIPT"
     if words[0].startswith("--"):
-        return script_word(words[0]) or f"{command} has no options"
-    return script_word(words[0]) or f"{command} takes {' and '.join(FILES[command])}, and nothing more"
+        options = f"no option but {FIRST} N" if command == "simulate" else "no options"
+        return script_word(words[0]) or f"{command} has {options}"
+    return script_word(words[0]) or f"{command} takes {TAKES[command][1]}, and nothing more"
 
 
 def wrong_words(words):
@@ -80,15 +94,17 @@ def wrong_words(words):
     if not words:
         return ""
     command, *words = words
-    if command not in FILES:
+    if command not in TAKES:
         return command_fault(command)
-    count = len(FILES[command])
-    files, more = words[:count], words[count:]
-    if len(files) < count or "" in files:
-        return f"{command} takes {' and '.join(FILES[command])}"
+    count, takes = TAKES[command]
+    if command == "simulate" and words[1:2] == [FIRST] and words[0]:
+        return steps_fault(words[2:])
+    taken, more = words[:count], words[count:]
+    if len(taken) < count or "" in taken[:2]:
+        return f"{command} takes {takes}"
     why = more_fault(command, more)
-    if why and any(it.split("=")[0] in OPTIONS for it in files):
-        return "options stand after FILE" if command == "generate" else f"{command} has no options"
+    if why and any(it.split("=")[0] in OPTIONS for it in taken):
+        return "options stand after FILE" if command in ("generate", "simulate") else f"{command} has no options"
     return why
 
 
@@ -106,8 +122,8 @@ def unread(file):
 
 
 def fault(words):
-    """The status and the line of the program for these words, and the reason, where no program is needed to see them. Whether the rows
-    of `replay` are read depends on the program in its first file, so they are not looked at."""
+    """The status and the line of the program for these words, and the reason, where no program is needed to see them. Whether a second
+    file is read depends on what the first one has, so it is not looked at."""
     why = wrong_words(words)
     if why is not None:
         return 2, NO_WORDS, why
@@ -123,7 +139,7 @@ def reason(line, words):
         return wrong_words(words)
     for file in words[1:]:
         if line == f"cif: cannot read {file}":
-            return unread(file)
+            return f"write {file.replace('=', ' ', 1)}" if file.startswith(f"{FIRST}=") else unread(file)
     return None
 
 
