@@ -1,15 +1,16 @@
 #!/usr/bin/env python3
 """Runs the commands of the program on hostile files and words: mutated, spliced, nested, extreme and random ones.
 
-    tools/attack.py PROGRAM [--count N] [--seed S] [--first K] [--minutes M] [check|generate|replay|words ..]
+    tools/attack.py PROGRAM [--count N] [--seed S] [--first K] [--minutes M] [check|generate|replay|simulate|why|words ..]
 
 For each of the commands there are N attacks (1,000), from number K (1) on, or as many as M minutes allow; `words` are command lines. An
 attack is made of the seed and its number alone. Each run has 10 seconds of the processor (60 where the program checks its memory) and 512
 MB of memory, and is judged:
 
 - it ends, and by no signal; a status of the table in docs/REFUSALS.md, and one line on standard error of the form that is shown there for
-  it; no line and an output with status 0, and no output with the others but 4 and 5
-- `check` and `generate` refuse the same sources with the same line; what `generate` writes is replayed
+  it; no line and an output with status 0, and no output with the others but 4, 5 and 13 of `simulate`
+- `check`, `generate`, `simulate` and `why` refuse the same sources with the same line; what `generate` writes is replayed; an event is
+  enabled for `why` exactly where `simulate` fires it after the same script
 - a second run writes the same bytes; a full or closed output gives status 4, and a closed standard error changes no status
 
 A finding is kept in out/attack/, with the words that run it again. The last line is the number of findings, and the status 1 where there
@@ -28,23 +29,23 @@ import time
 from collections import Counter
 
 import words as command_lines
-from attack_texts import Texts, plain_rows, rows
+from attack_texts import Texts, plain_rows, rows, script
 from building import TOP
 from limited_runs import Ended, Program
 
 KEPT = TOP / "out/attack"
-FILES = {"check": ["a.cif"], "generate": ["a.cif"], "replay": ["a.st", "rows.csv"]}
+FILES = {"check": ["a.cif"], "generate": ["a.cif"], "replay": ["a.st", "rows.csv"], "simulate": ["a.cif", "script.txt"], "why": ["a.cif", "script.txt"]}
 ATTACKS = [*FILES, "words"]
 MOST_PROGRAM = 16777216
 
 # ---- what the documents say
 
 def forms():
-    """The form of each refusal and fault, as docs/REFUSALS.md shows it: by number, a pattern of its line behind the file and the row."""
+    """The form of each refusal and fault, as docs/REFUSALS.md shows it: by number, a pattern of its line behind the file and the row or line."""
     found = {}
     page = (TOP / "docs/REFUSALS.md").read_text()
     for number, name, part in re.findall(r"^## (\d+) (\w+)\n(.*?)(?=^## |\Z)", page, re.S | re.M):
-        shown = re.search(rf"^cif: [^ ]+: (?:row \d+: )?{number} {name}(.*)$", part, re.M)[1].split()
+        shown = re.search(rf"^cif: (?:[^ ]+: )?(?:(?:row|line) \d+: )?{number} {name}(.*)$", part, re.M)[1].split()
         fields = "".join(f" {field} {form_of(field, value)}" for field, value in zip(shown[::2], shown[1::2]))
         found[int(number)] = re.compile(f"{number} {name}{fields}".encode())
     return found
@@ -57,11 +58,12 @@ def form_of(field, value):
 
 
 FORMS = forms()
-STATUSES = {7: range(1, 25), 8: (25, 28), 9: range(31, 40), 10: range(44, 48), 11: (40, 41, 42), 12: (43,)}
+STATUSES = {7: range(1, 25), 8: (25, 28), 9: range(31, 40), 10: range(44, 48), 11: (40, 41, 42), 12: (43,), 13: (26, 27, 29)}
 # The statuses of each command, and which of its files a status is about.
-MAY = {"check": (0, 2, 3, 4, 5, 6, 7, 8), "generate": (0, 2, 3, 4, 5, 6, 7, 8), "replay": (0, 2, 3, 4, 5, 6, 9, 10, 11, 12)}
-ABOUT = {7: 0, 8: 0, 9: 0, 10: 1, 11: 0, 12: 0}
-LIMITS = {"a.cif": 4194304, "a.st": 16777216, "rows.csv": 67108864}
+MAY = {"check": (0, 2, 3, 4, 5, 6, 7, 8), "generate": (0, 2, 3, 4, 5, 6, 7, 8), "replay": (0, 2, 3, 4, 5, 6, 9, 10, 11, 12),
+       "simulate": (0, 2, 3, 4, 5, 6, 7, 8, 13), "why": (0, 2, 3, 4, 5, 6, 7, 8, 13, 16)}
+ABOUT = {7: 0, 8: 0, 9: 0, 10: 1, 11: 0, 12: 0, 13: 1}
+LIMITS = {"a.cif": 4194304, "a.st": 16777216, "rows.csv": 67108864, "script.txt": 4194304}
 MEMORY = b"cif: out of memory\n"
 
 
@@ -70,7 +72,8 @@ def refused(status, files, line):
     if ABOUT[status] >= len(files):
         return f"status {status} of a file that was not given"
     file = os.fsencode(files[ABOUT[status]])
-    head = rb"cif: " + re.escape(file) + rb": " + (rb"row ([1-9]\d*): " if status in (11, 12) else rb"")
+    part = rb"row ([1-9]\d*): " if status in (11, 12) else rb"line ([1-9]\d*): " if status == 13 else rb""
+    head = rb"cif: " + re.escape(file) + rb": " + part
     number = re.match(head + rb"(\d+) ", line, re.S)
     number = int(number[number.lastindex]) if number else None
     if number not in STATUSES[status] or not re.fullmatch(head + FORMS[number].pattern + rb"\n", line, re.S):
@@ -84,7 +87,8 @@ def told(status, files, line):
     if status == 5:
         return None if MEMORY.startswith(line) or line.startswith(b"cif: ") and line.count(b"\n") < 2 else "no beginning of a line"
     wanted = {0: [b""], 2: [b"cif: not a command line\n"], 3: [b"cif: cannot read %s\n" % it for it in names], 4: [b"cif: cannot write\n"],
-              6: [b"cif: %s is longer than %d bytes\n" % (it, most) for it in names for most in LIMITS.values()]}
+              6: [b"cif: %s is longer than %d bytes\n" % (it, most) for it in names for most in LIMITS.values()],
+              16: [b"cif: 54 NoEvent\n"]}
     if status in wanted:
         return None if line in wanted[status] else f"no line of status {status}"
     return refused(status, files, line)
@@ -101,10 +105,13 @@ def judged(command, files, ended):
         return None if ended == Ended(2, b"", b"cif: not a command line\n") else f"status {status} without a command"
     if status not in MAY[command]:
         return f"status {status}"
-    if command == "check" and re.match(rb"cif: [^ ]+: 28 ", err):
-        return "28 of check"
+    if command in ("check", "simulate", "why") and re.match(rb"cif: [^ ]+: 28 ", err):
+        return f"28 of {command}"
     if status in (4, 5):
         pass
+    elif command == "simulate" and status in (0, 13):
+        if not re.match(rb"start[ \n]", out) or not out.endswith(b"\n"):
+            return "no lines of a run"
     elif status == 0 and (out != b"ok\n" if command == "check" else not out):
         return "status 0 without its output"
     elif status and out:
@@ -167,7 +174,7 @@ class Attack:
         if self.choose.random() < 0.05:
             how = self.choose.choice(["full", "closed"])
             ended = self.run(*words, broken=1, how=how)
-            if ended.status not in (5, first.status if first.status or not first.out else 4):
+            if ended.status not in (5, 4 if first.out else first.status):
                 self.blame(f"status {ended.status} with standard output {how}, else {first.status}", words)
         if self.choose.random() < 0.05:
             how = self.choose.choice(["full", "closed"])
@@ -219,11 +226,48 @@ class Attack:
         self.last = self.asked("replay", "a.st", "rows.csv")
         self.again(("replay", "a.st", "rows.csv"), self.last)
 
+    def write_script(self):
+        """Writes a source and a script for it; the paths of what it may declare."""
+        text, paths = self.texts.source_to_run(self.choose, self.number)
+        self.write("a.cif", text)
+        self.write("script.txt", script(self.choose, paths))
+        return paths
+
+    def refuses_as_check(self, ended):
+        checked = self.asked("check", "a.cif") if ended.status in (7, 8) else ended
+        if checked.status != 5 and (checked.status, checked.err) != (ended.status, ended.err):
+            self.blame("check refuses the source in another way", ("check", "a.cif"))
+
+    def simulate(self):
+        self.write_script()
+        words = ("simulate", "a.cif", "script.txt") if self.choose.random() < 0.6 else ("simulate", "a.cif", "--first", self.choose.choice(["0", "1", "3", "30"]))
+        self.last = self.asked(*words)
+        self.again(words, self.last)
+        self.refuses_as_check(self.last)
+
+    def why(self):
+        event = os.fsdecode(self.choose.choice(self.write_script()))
+        self.last = self.asked("why", "a.cif", "script.txt", event)
+        self.again(("why", "a.cif", "script.txt", event), self.last)
+        self.refuses_as_check(self.last)
+        if self.last.status in (0, 13):
+            self.fires_as_told(event)
+
+    def fires_as_told(self, event):
+        """Whether `simulate` fires the event behind the script where `why` has no reason, and stops where the script does."""
+        self.write("script.txt", self.files["script.txt"] + b"\nfire " + os.fsencode(event))
+        ended = self.asked("simulate", "a.cif", "script.txt")
+        wanted = (13, self.last.err) if self.last.status == 13 else (0, b"") if self.last.out == b"enabled\n" else (13, None)
+        is_stop = wanted[1] is not None or re.fullmatch(rb"cif: script.txt: line \d+: 27 NotEnabled\n", ended.err)
+        if ended.status != 5 and (ended.status != wanted[0] or wanted[1] not in (None, ended.err) or not is_stop):
+            self.blame(f"why has {self.last.out[:200]!r} and status {self.last.status}, and simulate {ended.err[:200]!r}", ("simulate", "a.cif", "script.txt"))
+
     def words(self):
         """A command line; of its files some are there."""
         self.write("a.cif", b"event e;")
         self.write("a.st", b"PROGRAM p END_PROGRAM")
         self.write("rows.csv", b"scan\n1\n")
+        self.write("script.txt", b"fire e")
         given = some_words(self.choose)
         self.last = ended = self.run(*given)
         fault = judged(given[0] if given else "", given[1:3], ended)
@@ -234,16 +278,16 @@ class Attack:
             self.blame(fault, given)
 
 
-COMMON = ["check", "generate", "replay"]
-NAMES = ["a.cif", "a.cif", "a.cif", "a.st", "a.st", "rows.csv", "rows.csv", "none", ".", "..", "/", "/dev/null", "/dev/full", "a.cif/", "a.cif/x", "./a.cif", "n" * 255, "n" * 256,
+COMMON = ["check", "generate", "replay", "simulate", "why"]
+NAMES = ["a.cif", "a.cif", "a.cif", "a.st", "a.st", "rows.csv", "rows.csv", "script.txt", "script.txt", "none", ".", "..", "/", "/dev/null", "/dev/full", "a.cif/", "a.cif/x", "./a.cif", "n" * 255, "n" * 256,
          "d/" * 2000, "x" * 100000, "\n", "a\nb", "\x1b[2J", "\udcff", "a\udcc3(", "\u00e4", "\u202e", "", " ", "-", "--", "--unc", "-o", "/proc/self/mem", "/proc/self/cmdline"]
-WORDS = ["--unc", "--con", "--unc", "--con", "1", "5", "100", "10000", "0", "10001", "-1", "+1", "01", " 1", "1 ", "1.0", "1e3", "0x10", "", "\u0661", "9" * 100000,
+WORDS = ["--unc", "--con", "--unc", "--con", "--first", "--first", "1", "5", "100", "10000", "0", "10001", "1000001", "-1", "+1", "01", " 1", "1 ", "1.0", "1e3", "0x10", "", "\u0661", "9" * 100000,
          "--unc=1", "--Unc", "--", "-", "--help", "--version", "-h", "-o", "--places", "check", "\udcff", "\n"]
 
 
 def some_words(choose):
     """A list of words that is a command line, nearly one, or none."""
-    command = choose.choice(COMMON if choose.random() < 0.9 else NAMES + WORDS + ["Check", "checks", "simulate", "batch", "make", "trace"])
+    command = choose.choice(COMMON if choose.random() < 0.9 else NAMES + WORDS + ["Check", "checks", "batch", "make", "trace"])
     if choose.random() < 0.02:
         return []
     files = [choose.choice(NAMES) for _ in range(choose.choice([0, 1, 1, 1, 2, 2, 2]))]

@@ -1,4 +1,4 @@
-"""Makes hostile texts for `attack.py`: sources, programs and rows, whole, mutated and of forms that grow.
+"""Makes hostile texts for `attack.py`: sources, programs, rows and scripts, whole, mutated and of forms that grow.
 
 All is bytes, and each text depends on nothing but the choices of one random.Random and the corpus.
 """
@@ -272,10 +272,10 @@ class Texts:
 
     def __init__(self, seed, generate):
         self.seed, self.made = seed, {}
-        examples = [it.read_bytes() for it in sorted((TOP / "examples").glob("*.cif"))]
+        self.examples = [it.read_bytes() for it in sorted((TOP / "examples").glob("*.cif"))]
         shown = [block.encode() for page in sorted((TOP / "docs").glob("*.md")) for block in re.findall(r"^```cif\n(.*?)^```$", page.read_text(), re.S | re.M)]
         wrong = re.findall(r"^### .*?\n(.*?)^>>> ", (TOP / "tools/wrong_sources.txt").read_text(), re.S | re.M)
-        self.sources = examples * 4 + shown + [it.encode() for it in wrong]
+        self.sources = self.examples * 4 + shown + [it.encode() for it in wrong]
         self.generate, self.programs = generate, {}
 
     def random_source(self, number):
@@ -301,6 +301,16 @@ class Texts:
 
     def other_source(self, choose):
         return choose.choice(self.sources)
+
+    def source_to_run(self, choose, number):
+        """A source that mostly breaks no rule, and the paths that its events and inputs have, or may have."""
+        way = choose.random()
+        if way < 0.25:
+            text = self.source(choose, number)
+            return text, [name for names in DECLARED.findall(text) for name in re.findall(rb"[A-Za-z_]\w*", names)] or [b"e"]
+        text = choose.choice(self.examples).decode() if way < 0.5 else choose.choice(random_sources.MAKERS)(choose)
+        net = random_sources.judged(text)[1]
+        return text.encode(), [it.path.encode() for it in (*net.events, *net.inputs)] or [b"e"]
 
     def other_program(self, choose):
         """A program that is in examples/, or that is generated for a source there or a random one."""
@@ -404,3 +414,24 @@ def rows(choose, text):
     if way > 0.75:
         found = mutated(choose, found, lambda _: found)
     return found
+
+
+# ---- scripts
+
+DECLARED = re.compile(rb"(?:event|controllable|uncontrollable|input)\s+([^;:(]{1,2000});")
+VALUES = [b"true", b"false", b"0", b"1", b"2", b"3", b"-1", b"TRUE", b"-0", b"+1", b"", b"x", *NUMBERS]
+LINES = [b"", b"\r", b"\r\r", b" ", b"set", b"fire", b"set ", b"fire ", b"set a 1 2", b"Fire a", b"set a=1", b"# a", b"\0", b"\xff", b"fire  a", b"x" * 20000, b"fire " * 2000]
+
+
+def script(choose, paths):
+    """A hostile script over paths of events and inputs."""
+    if choose.random() < 0.03:
+        return blank(choose)
+    lines = []
+    for _ in range(choose.choice([0, 1, 1, 2, 3, 10, 40])):
+        is_set, path = choose.random() < 0.4, choose.choice(paths)
+        lines.append(b"set %s %s" % (path, choose.choice(VALUES[:6] if choose.random() < 0.9 else VALUES)) if is_set else b"fire " + path)
+        if choose.random() < 0.1:
+            lines.append(choose.choice(LINES))
+    found = choose.choice([b"\n", b"\n", b"\n", b"\r\n", b"\n\n"]).join(lines) + choose.choice([b"\n", b"", b"\r"])
+    return mutated(choose, found, lambda _: found) if choose.random() < 0.2 else found

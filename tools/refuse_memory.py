@@ -96,16 +96,23 @@ WRONG = {
     "unclassed.cif": FORMS.replace("controllable flag", "event flag").replace("controllable bool flag", "event bool flag"),
 }
 FAULT = "PROGRAM p VAR_INPUT a: LINT (0 .. 9); END_VAR VAR x: LINT; END_VAR VAR_OUTPUT y: LINT; END_VAR x := x + 1; y := 6 / a; END_PROGRAM\n"
+# An event that is forbidden, whose choices leave a range or break an invariant.
+REASONS = "controllable e; automaton a: disc int[0..3] x; location: initial; edge e do x := 9; edge e do x := 1; end invariant e needs a.x > 0; invariant a.x != 1;"
+SCRIPT = "set go true\nset level 2\n\nset asked busy\nfire flag\nfire watch.stop\n"
 ROWS = "scan,I0_go,I1_level,I2_asked\n1,TRUE,5,1\n2,FALSE,-2,0\n3,1,0,1\n"
 FILES = {
     **WRONG, "forms.cif": FORMS, "fault.st": FAULT, "fault-rows.csv": "scan,a\n1,2\n2,0\n", "rows.csv": ROWS, "wrong-rows.csv": ROWS + "4,1,6,0\n",
     "wrong.st": FAULT.replace("6 / a", "6 / b"), "open.st": FAULT.replace("x :=", "x := ("),
+    "reasons.cif": REASONS, "script.txt": SCRIPT, "empty.txt": "", "stop.txt": SCRIPT + "set level 6\n", "bad.txt": SCRIPT + "set level\n",
 }
 # The words of each run, and the status of the untouched one.
 RUNS = [
     ("check lamp.cif", 0), ("check forms.cif", 0), ("generate lamp.cif", 0), ("generate forms.cif --unc 3 --con 2", 0), ("replay lamp.st lamp-rows.csv", 0),
     ("replay forms.st rows.csv", 0), ("replay fault.st fault-rows.csv", 11), ("replay wrong.st rows.csv", 9), ("replay open.st rows.csv", 9),
     ("replay forms.st wrong-rows.csv", 10), ("replay forms.st fault-rows.csv", 10), *((f"check {name}", 8 if name == "choices.cif" else 7) for name in WRONG if name != "unclassed.cif"),
+    ("simulate forms.cif script.txt", 0), ("simulate forms.cif stop.txt", 13), ("simulate forms.cif bad.txt", 13), ("simulate forms.cif --first 9", 0),
+    ("simulate cycle.cif script.txt", 7), ("simulate forms.cif none.txt", 3), ("why forms.cif script.txt give", 0), ("why reasons.cif empty.txt e", 0),
+    ("why forms.cif stop.txt tick", 13), ("why forms.cif script.txt go", 16),
     ("generate unclassed.cif", 8), ("check none.cif", 3), ("replay lamp.st none.csv", 3), ("look lamp.cif", 2),
 ]
 

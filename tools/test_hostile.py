@@ -13,7 +13,7 @@ sys.path[:0] = [str(pathlib.Path(__file__).resolve().parent)]
 import attack  # noqa: E402
 import refuse_memory  # noqa: E402
 from attack import Attack, Ended, judged, placed  # noqa: E402
-from attack_texts import Texts, inputs_of, plain_rows  # noqa: E402
+from attack_texts import Texts, inputs_of, plain_rows, script  # noqa: E402
 from building import TOP  # noqa: E402
 from limited_runs import Program  # noqa: E402
 from refuse_memory import chosen, fault_of  # noqa: E402
@@ -35,6 +35,10 @@ class Judged(unittest.TestCase):
                                ("generate", end(5, "", b"PROG")), ("generate", end(5, "cif: out")), ("generate", end(4, "cif: cannot write\n")),
                                ("", end(2, "cif: not a command line\n"))):
             self.assertIsNone(judged(command, ["a.cif"], ended), ended)
+        for command, ended in (("simulate", Ended(0, b"start\ndeadlock\n", b"")), ("simulate", end(13, "cif: script.txt: line 12: 26 OutOfRange value -4\n", b"start a=x\n")),
+                               ("why", end(13, "cif: script.txt: line 1: 29 BadLine\n")), ("why", end(16, "cif: 54 NoEvent\n")), ("why", Ended(0, b"enabled\n", b"")),
+                               ("why", end(7, "cif: a.cif: 4 NotRead at 7\n")), ("simulate", end(6, "cif: script.txt is longer than 4194304 bytes\n"))):
+            self.assertIsNone(judged(command, ["a.cif", "script.txt"], ended), ended)
         for ended in (end(11, "cif: a.st: row 12: 42 SubrangeLeft variable x value -4\n"), end(12, "cif: a.st: row 1: 43 Budget\n"), end(10, "cif: rows.csv: 44 Header column 3\n"),
                       end(9, "cif: a.st: 36 StDuplicate variable X\n"), Ended(0, b"scan\n", b"")):
             self.assertIsNone(judged("replay", ["a.st", "rows.csv"], ended), ended)
@@ -47,6 +51,11 @@ class Judged(unittest.TestCase):
                                ("check", end(7, "cif: a.cif: 25 TooManyChoices count 16385\n")), ("check", end(8, "cif: a.cif: 28 Unclassed event A.e\n")), ("check", end(5, "killed\n")),
                                ("check", end(3, "cif: cannot read b.cif\n")), ("", OK)):
             self.assertIsNotNone(judged(command, ["a.cif"], ended), ended)
+        for command, ended in (("simulate", Ended(0, b"", b"")), ("simulate", end(13, "cif: script.txt: line 1: 27 NotEnabled\n")),
+                               ("simulate", end(13, "cif: a.cif: line 1: 27 NotEnabled\n", b"start\n")), ("simulate", end(13, "cif: script.txt: 27 NotEnabled\n", b"start\n")),
+                               ("simulate", end(16, "cif: 54 NoEvent\n")), ("why", end(13, "cif: script.txt: line 0: 29 BadLine\n")), ("simulate", Ended(0, b"start", b"")),
+                               ("why", end(13, "cif: script.txt: line 1: 29 BadLine\n", b"enabled\n")), ("why", end(16, "cif: a.cif: 54 NoEvent\n"))):
+            self.assertIsNotNone(judged(command, ["a.cif", "script.txt"], ended), ended)
         for ended in (end(10, "cif: a.st: 44 Header column 3\n"), end(11, "cif: a.st: 40 Overflow\n"), end(11, "cif: a.st: row 0: 40 Overflow\n"), Ended(0, b"", b"")):
             self.assertIsNotNone(judged("replay", ["a.st", "rows.csv"], ended), ended)
 
@@ -110,7 +119,23 @@ class Playing(unittest.TestCase):
         self.assertIn("another answer in a second run", self.faults(f"[ -e again ] && rm again && echo ok && exit 0; : >again; {refuses}", "check", 8))
         self.assertIn("a generated program is not replayed: b'cif: a.st: row 1: 40 Overflow\\n'", self.faults(
             'case $1 in check) echo ok ;; generate) echo PROGRAM ;; *) echo "cif: a.st: row 1: 40 Overflow" >&2; exit 11 ;; esac', "generate", 1))
-        self.assertIn("words.py has another answer", self.faults('echo "cif: not a command line" >&2; exit 2', "words", 12))
+        self.assertIn("words.py has another answer", self.faults('echo "cif: not a command line" >&2; exit 2', "words", 40))
+
+    def test_attacks_of_runs(self):
+        self.assertEqual(self.faults('echo start', "simulate", 8), {None})
+        self.assertEqual(self.faults('echo "cif: a.cif: 4 NotRead at 0" >&2; exit 7', "why", 4), {None})
+        self.assertIn("check refuses the source in another way", self.faults('[ "$1" = check ] && echo ok && exit 0; echo "cif: a.cif: 4 NotRead at 0" >&2; exit 7', "why", 2))
+        self.assertEqual(self.faults('[ "$1" = why ] && echo enabled || echo start', "why", 4), {None})
+        found = self.faults('[ "$1" = why ] && echo "blocks a" || echo start', "why", 2)
+        self.assertIn("why has b'blocks a\\n' and status 0, and simulate b''", found)
+
+    def test_scripts(self):
+        choose = random.Random(1)
+        texts = Texts(1, lambda text: b"PROGRAM p END_PROGRAM")
+        made = [(*texts.source_to_run(choose, number), number) for number in range(20)]
+        self.assertTrue(any(b"." in path for _, paths, _ in made for path in paths))
+        scripts = [script(choose, paths) for _, paths, _ in made]
+        self.assertTrue(any(b"fire " in it for it in scripts) and any(b"set " in it for it in scripts))
 
     def test_texts(self):
         """An attack is made of its number alone, whatever was made before."""
