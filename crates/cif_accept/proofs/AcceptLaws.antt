@@ -1,6 +1,5 @@
 -- What the clauses about one source say, from how a call over it came to its end.
-use Rattle.std.proofs.Common.{◌≡◌, ℕ, ◌<◌, ◌≤◌, ◌⊎◌, length, Option, Some, refl, sym, ap, subst, ◌∙◌, inl, inr, arith}
-use Rattle.std.specs.Prelude.{IfSome, MatchOption}
+use Rattle.std.proofs.Common.{◌≡◌, ℕ, ◌≤◌, length, Some, refl, sym, subst, inl, inr, arith}
 use Rattle.grammar.specs.Pieces.{Text}
 use Rattle.cif_io.specs.Faults.{Rose}
 use Rattle.cif_run.specs.declared.status.Status.{Status}
@@ -9,15 +8,15 @@ use Rattle.cif_run.specs.declared.status.ProfileWhy.TheVariants as profile
 use Rattle.cif_run.specs.declared.status.Refusal.{Refusal}
 use Rattle.cif_run.specs.declared.ended.Ended.{Ended}
 use Rattle.cif_run.specs.Groups.{group_of, IsUnlessMemory}
-use Rattle.cif_run.specs.Works.{Comes, Content, Failed, Holds, Input, IsLonger, Overlong, Reading, StopsIn, Unread, Work, Writing}
-use Rattle.cif_run.proofs.CallLaws.{IsWhole, IsWithin, answers, came_whole, ended_so, finished}
+use Rattle.cif_run.specs.Works.{Comes, Content, Failed, Holds, Input, Overlong, Reading, StopsIn, Unread, Work, Writing}
+use Rattle.cif_run.proofs.CallLaws.{IsWhole, IsWithin, came_whole, ended_so, finished}
 use Rattle.cif_source.specs.Source.{Source}
 use Rattle.cif_front.specs.Loads.{ReadsAsSource}
-use Rattle.cif_accept.specs.Refused.{HasTooMany, IsRefused}
 use Rattle.cif_net.specs.declared.guarded.Guarded.{Guarded}
 use Rattle.cif_front.specs.Loads.{Loads}
-use Rattle.cif_accept.specs.Accepts.{CommandEnds, FileRefused, IsLoaded, SourceEnds, SourceHas, SourceHasTooMany, SourceIs, SourceRefused, silent_work, source_limit, source_work}
-use Rattle.cif_accept.proofs.SourceLaws.{one_source, refused_of, refused_reads_none, too_many_none}
+use Rattle.cif_accept.specs.Accepts.{CommandEnds, FileRefused, IsLoaded, SourceEnds, SourceHasTooMany, SourceRefused, silent_work, source_input, source_limit, source_work}
+use Rattle.cif_accept.proofs.SourceLaws.{refused_of}
+use Rattle.cif_accept.proofs.OverSource.{IsOverSource, longer_told, not_refused, this}
 
 -- ---- the reader
 
@@ -46,18 +45,15 @@ silent_within content file P E = record {
   halts = λ s text h. absurd h;
 }
 
+-- it is a command over the source
+pub over_source : (content : Content) (file : Text) (P : Source → Text → Type 0) (E : CommandEnds) → IsOverSource (source_work content file P E) content file
+over_source content file P E = record {
+  asks = λ i h. inl h;
+  ends = λ s name h. elim h [ inl x ↦ inl x | inr x ↦ inr (x.0, x.1, tt) ];
+  parts = λ text h. (h.0, h.1, tt);
+}
+
 -- ---- the clauses
-
--- the statuses by which a source is refused
-abbrev Refuses : Content → Text → Status → Type 0
-Refuses content file s = ((why : Refusal) × (s ≡ status.Refused why) × SourceRefused content file why)
-    ⊎ ((count : ℕ) × (s ≡ status.OutsideProfile (profile.TooManyChoices count)) × SourceHasTooMany content file count)
-
-refused_as : (content : Content) (file : Text) (s : Status) (name : Text) → FileRefused content file s name → Refuses content file s
-refused_as content file (status.Refused why) name h = inl (why, refl, (h.0, h.1, h.2, refused_of h.0 why name h.3))
-refused_as content file (status.OutsideProfile (profile.TooManyChoices count)) name h = inr (count, refl, h)
-refused_as content file (status.OutsideProfile (profile.Unclassed event)) name h = absurd h
-refused_as content file _ name h = absurd h
 
 -- a command tells of a source that breaks no rule by statuses of its own
 pub record TellsItsOwn (E : CommandEnds) : Type 0 where
@@ -84,94 +80,30 @@ module _ (file : Text) (P : Source → Text → Type 0) (E : CommandEnds) (c : R
     | inr h ↦ absurd (own.many h.0 count e.variable h.2)
   ]
 
-  module _ (bytes : Text) (told : c.content file ≡ Some bytes) (sure : Rose (c.faults file) (c.faults_after file) → ⊥) where
-    -- what is known of the file is known of these bytes
-    held : (b : Text) → Holds (c.content file) b → b ≡ bytes
-    held b h = subst (λ (x : Option Text). IfSome x (λ y. b ≡ y)) told h
+  module _ (bytes : Text) (told : c.content file ≡ Some bytes) (sure : Rose (c.faults file) (c.faults_after file) → ⊥) (short : length bytes ≤ source_limit)
+      (t : Source) (reads : ReadsAsSource bytes t) where
+    no_file : {B : Type 0} (k : ℕ) → Unread work c k → B
+    no_file k h = absurd (sure (subst (λ (i : Input). Failed c i) h.1 h.3))
 
-    of_bytes : (Q : Text → Type 0) → SourceHas c.content file Q → Q bytes
-    of_bytes Q h = subst Q (held h.0 h.1) h.3
+    not_long : {B : Type 0} (k : ℕ) → e.status ≡ status.TooBig k → Overlong work c k → B
+    not_long k is h = let q = longer_told c h.0 (source_input file) bytes told h.1 h.3 in absurd (omega (arith, q, short))
 
-    read : (k : ℕ) → Unread work c k → ⊥
-    read k h = sure (subst (λ (i : Input). Failed c i) h.1 h.3)
+    tells : {B : Type 0} → (E t e.status e.variable → B) → work.ends e.status e.variable → B
+    tells ends (inl x) = absurd (not_refused c file bytes told t reads e.status e.variable x)
+    tells ends (inr x) = ends (subst (λ u. E u e.status e.variable) (this c file bytes told t reads x.0 x.1) x.2)
 
-    long : (k : ℕ) → Overlong work c k → (k ≡ 1) × (source_limit < length bytes)
-    long k h = (
-      sym h.2 ∙ ap (λ (i : Input). i.word) h.1,
-      subst (λ (x : Option Text). MatchOption x (source_limit < c.most_after file) (λ b. source_limit < length b)) told
-          (subst (λ (i : Input). IsLonger c i) h.1 h.3),
-    )
+    has_text : (text : Text) → work.writes text → P t text
+    has_text text h = subst (λ u. P u text) (this c file bytes told t reads h.0 h.1) h.2
 
-    pub longer_is_too_big : source_limit < length bytes → IsUnlessMemory r (status.TooBig 1)
-    longer_is_too_big more = came_whole work c o e came r same whole (IsUnlessMemory r (status.TooBig 1)) (λ k h. absurd (read k h))
-        (λ k is h. answers work c o e came r same (status.TooBig 1) (is ∙ ap (λ n. status.TooBig n) (long k h).0))
-        (λ h. elim h [
-          | inl x ↦ elim (refused_as c.content file e.status e.variable x) [
-            | inl q ↦ absurd (not_short (λ b. IsRefused b q.0) q.2)
-            | inr q ↦ absurd (not_short (λ b. HasTooMany b q.0) q.2)
-          ]
-          | inr x ↦ absurd (not_short (λ b. ReadsAsSource b x.0) x.1)
-        ])
-        (λ text h w. absurd (not_short (λ b. ReadsAsSource b h.0) h.1))
+    -- a source that breaks no rule has its text, or the command tells of it
+    pub source_is_done : (Rose o.faults o.faults_after → ⊥) → ((s : Status) (name : Text) → E t s name → ⊥) → IsUnlessMemory r status.Done
+    source_is_done quiet none = came_whole work c o e came r same whole (IsUnlessMemory r status.Done) no_file not_long
+        (tells (λ h. absurd (none e.status e.variable h)))
+        (λ text h w. finished work c o e came r same quiet whole.never text e.status refl w)
         (λ m. inr m)
-      where
-        not_short : (Q : Text → Type 0) → SourceHas c.content file Q → ⊥
-        not_short Q h = let also = ap length (held h.0 h.1) in let short = h.2 in absurd (omega (arith, short, also, more))
 
-    module _ (short : length bytes ≤ source_limit) where
-      not_long : (k : ℕ) → Overlong work c k → ⊥
-      not_long k h = let q = (long k h).1 in absurd (omega (arith, q, short))
-
-      pub other_text_is_refused : ((t : Source) → ReadsAsSource bytes t → ⊥)
-          → ((why : Refusal) × (r ≡ status.Refused why)) ⊎ ((count : ℕ) × (r ≡ status.OutsideProfile (profile.TooManyChoices count))) ⊎ (r ≡ status.Memory)
-      other_text_is_refused none =
-          came_whole work c o e came r same whole (((why : Refusal) × (r ≡ status.Refused why)) ⊎ ((count : ℕ) × (r ≡ status.OutsideProfile (profile.TooManyChoices count))) ⊎ (r ≡ status.Memory))
-          (λ k h. absurd (read k h))
-          (λ k is h. absurd (not_long k h))
-          (λ h. elim h [
-            | inl x ↦ elim (refused_as c.content file e.status e.variable x) [
-              | inl q ↦ elim (answers work c o e came r same (status.Refused q.0) q.1) [ inl z ↦ inl (q.0, z) | inr z ↦ inr (inr z) ]
-              | inr q ↦ elim (answers work c o e came r same (status.OutsideProfile (profile.TooManyChoices q.0)) q.1) [ inl z ↦ inr (inl (q.0, z)) | inr z ↦ inr (inr z) ]
-            ]
-            | inr x ↦ absurd (none x.0 (of_bytes (λ b. ReadsAsSource b x.0) x.1))
-          ])
-          (λ text h w. absurd (none h.0 (of_bytes (λ b. ReadsAsSource b h.0) h.1)))
-          (λ m. inr (inr m))
-
-      module _ (t : Source) (reads : ReadsAsSource bytes t) where
-        not_refused : FileRefused c.content file e.status e.variable → ⊥
-        not_refused x = elim (refused_as c.content file e.status e.variable x) [
-          | inl q ↦ refused_reads_none bytes t reads q.0 (of_bytes (λ b. IsRefused b q.0) q.2)
-          | inr q ↦ too_many_none bytes t reads q.0 (of_bytes (λ b. HasTooMany b q.0) q.2)
-        ]
-
-        this : (u : Source) → SourceIs c.content file u → u ≡ t
-        this u h = one_source bytes u t (of_bytes (λ b. ReadsAsSource b u) h) reads
-
-        -- a source that breaks no rule has its text, or the command tells of it
-        pub of_source : (B : Type 0) → (E t e.status e.variable → B) → ((text : Text) → P t text → (Rose o.faults o.faults_after → ⊥) → IsUnlessMemory r status.Done → B)
-            → (Rose o.faults o.faults_after → ⊥) → (r ≡ status.Memory → B) → B
-        of_source B ends wrote quiet memory = came_whole work c o e came r same whole B
-            (λ k h. absurd (read k h))
-            (λ k is h. absurd (not_long k h))
-            (λ h. elim h [
-              | inl x ↦ absurd (not_refused x)
-              | inr x ↦ ends (subst (λ u. E u e.status e.variable) (this x.0 x.1) x.2)
-            ])
-            (λ text h w. wrote text (subst (λ u. P u text) (this h.0 h.1) h.2) quiet (finished work c o e came r same quiet whole.never text e.status refl w))
-            memory
-
-        pub source_is_done : (Rose o.faults o.faults_after → ⊥) → ((s : Status) (name : Text) → E t s name → ⊥) → IsUnlessMemory r status.Done
-        source_is_done quiet none = of_source (IsUnlessMemory r status.Done) (λ h. absurd (none e.status e.variable h)) (λ text p q d. d) quiet (λ m. inr m)
-
-        -- what has no text is told by the command, whether the output fails or not
-        pub told_of : (B : Type 0) → (E t e.status e.variable → B) → ((text : Text) → P t text → ⊥) → (r ≡ status.Memory → B) → B
-        told_of B ends none memory = came_whole work c o e came r same whole B
-            (λ k h. absurd (read k h))
-            (λ k is h. absurd (not_long k h))
-            (λ h. elim h [
-              | inl x ↦ absurd (not_refused x)
-              | inr x ↦ ends (subst (λ u. E u e.status e.variable) (this x.0 x.1) x.2)
-            ])
-            (λ text h w. absurd (none text (subst (λ u. P u text) (this h.0 h.1) h.2)))
-            memory
+    -- what has no text is told by the command, whether the output fails or not
+    pub told_of : (B : Type 0) → (E t e.status e.variable → B) → ((text : Text) → P t text → ⊥) → (r ≡ status.Memory → B) → B
+    told_of B ends none memory = came_whole work c o e came r same whole B no_file not_long (tells ends)
+        (λ text h w. absurd (none text (has_text text h)))
+        memory

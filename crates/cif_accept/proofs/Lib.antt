@@ -1,3 +1,4 @@
 pub mod SourceLaws
+pub mod OverSource
 pub mod AcceptLaws
 pub mod ReadingLaws

@@ -37,6 +37,13 @@ SourceHasTooMany content file count = SourceHas content file (λ bytes. HasTooMa
 abbrev pub SourceIs : Content → Text → Source → Type 0
 SourceIs content file t = SourceHas content file (λ bytes. ReadsAsSource bytes t)
 
+-- the file holds a source, and this is so of it
+abbrev pub OfSource : Content → (file : Text) → (Source → Type 0) → Type 0
+OfSource content file P = (t : Source) × SourceIs content file t × P t
+
+abbrev pub HasSource : Content → (file : Text) → Type 0
+HasSource content file = OfSource content file (λ t. Unit {0})
+
 -- the net is that of the source in the file
 abbrev pub IsLoaded : Content → Text → Guarded → Type 0
 IsLoaded content file g = (t : Source) × SourceIs content file t × Stands (net_tree g.plain.net) t
