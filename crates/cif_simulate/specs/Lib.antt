@@ -1,2 +1,5 @@
 pub mod Words
 pub mod Requests
+pub mod Scripts
+pub mod Simulates
+pub mod Running

@@ -5,24 +5,11 @@ ghost use Rattle.cif_simulate.specs.Words as spec;
 ghost use Rattle.cif_simulate.specs.Words.{IsSimulate, IsSteps};
 ghost use Rattle.cif_simulate.specs.Requests.{simulate_of};
 
+use crate::request::{FirstSteps, Simulate, Which};
 use cif_base::read_int;
 
 /// The most steps that `--first` gives.
 const MOST_STEPS: i64 = 1_000_000;
-
-/// The run of `simulate`: that of a script's file, or at most so many steps of the first event with one.
-#[derive(Drop)]
-pub enum Which<'a> {
-    Script(&'a str),
-    First(u32),
-}
-
-/// The request of `simulate`.
-#[derive(Drop)]
-pub struct Simulate<'a> {
-    pub file: &'a str,
-    pub which: Which<'a>,
-}
 
 /// A number of steps in canonical decimal.
 fn steps_of(word: &str) -> Option<u32>
@@ -68,10 +55,10 @@ fn of_first<'a>(command: &str, file: &'a str, option: &str, number: &str) -> Opt
     if command != "simulate" || file.is_empty() || option != "--first" {
         return None;
     }
-    let steps = steps_of(number)?;
+    let count = steps_of(number)?;
     Some(Simulate {
         file,
-        which: Which::First(steps),
+        which: Which::First(FirstSteps { count }),
     })
 }
 
