@@ -5,13 +5,7 @@ ghost use Rattle.cif_why.specs.Words as spec;
 ghost use Rattle.cif_why.specs.Words.{IsWhy};
 ghost use Rattle.cif_why.specs.Requests.{why_of};
 
-/// The request of `why`: the files of the source and of the script, and the path of an event.
-#[derive(Drop)]
-pub struct Why<'a> {
-    pub file: &'a str,
-    pub script: &'a str,
-    pub event: &'a str,
-}
+use crate::request::Why;
 
 /// Reads `why FILE SCRIPT EVENT`; `None` for other words.
 pub fn read_words(words: &[String]) -> Option<Why<'_>>
