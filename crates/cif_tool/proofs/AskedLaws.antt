@@ -7,7 +7,9 @@ use Rattle.cif_run.proofs.CallLaws.{IsWithin}
 use Rattle.cif_check.proofs.WordLemmas.{check_named, one_check}
 use Rattle.cif_generate.proofs.WordLemmas.{generate_named, one_generate}
 use Rattle.cif_replay.proofs.WordLemmas.{replay_named, one_replay}
-use Rattle.cif_tool.specs.Commands.{Command, check, generate, replay, name_of, command_of, Request, IsFor, work_of}
+use Rattle.cif_simulate.proofs.WordLemmas.{simulate_named, one_simulate}
+use Rattle.cif_why.proofs.WordLemmas.{why_named, one_why}
+use Rattle.cif_tool.specs.Commands.{Command, check, generate, replay, simulate, why, name_of, command_of, Request, IsFor, work_of}
 use Rattle.cif_tool.specs.Asks.{Asked, IsAsked, tool_work}
 
 -- each name is that of one command
@@ -15,17 +17,23 @@ names_differ : (k : Command) → command_of (name_of k) ≡ Some k
 names_differ check = refl
 names_differ generate = refl
 names_differ replay = refl
+names_differ simulate = refl
+names_differ why = refl
 
 -- the first word is the command's name
 named : (k : Command) (words : List Text) (q : Request k) → IsFor k words q → command_word words ≡ name_of k
 named check words q h = check_named words q h
 named generate words q h = generate_named words q h
 named replay words q h = replay_named words q h
+named simulate words q h = simulate_named words q h
+named why words q h = why_named words q h
 
 one_request : (k : Command) (words : List Text) (p q : Request k) → IsFor k words p → IsFor k words q → p ≡ q
 one_request check words p q h g = one_check words p q h g
 one_request generate words p q h g = one_generate words p q h g
 one_request replay words p q h g = one_replay words p q h g
+one_request simulate words p q h g = one_simulate words p q h g
+one_request why words p q h g = one_why words p q h g
 
 one_command : (j k : Command) (words : List Text) (p : Request j) (q : Request k) → IsFor j words p → IsFor k words q → k ≡ j
 one_command j k words p q h g =

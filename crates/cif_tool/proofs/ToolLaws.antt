@@ -1,7 +1,9 @@
 -- What the clauses of the tool say, each by a law of the commands, from how its call came to its end, where the answer is the
 -- status of that end or want of memory.
-use Rattle.std.proofs.Common.{◌≡◌, ℕ, ◌<◌, ◌≤◌, ◌⊎◌, length, List, Some, refl, sym, subst, inl, inr}
+use Rattle.std.proofs.Common.{◌≡◌, ℕ, ◌<◌, ◌≤◌, ◌⊎◌, length, List, Some, None, refl, sym, ap, subst, ◌∙◌, inl, inr}
 use Rattle.grammar.specs.Pieces.{Text}
+use Rattle.sim_face.specs.Simulation.{Runs, StopsAt as StopsIn}
+use Rattle.sim_shown.specs.Sources.{names_of}
 use Rattle.cif_io.specs.Faults.{Rose}
 use Rattle.cif_io.specs.Written.{grown}
 use Rattle.st_ast.specs.Exec.{OutOfTurns}
@@ -14,28 +16,42 @@ use Rattle.cif_run.specs.declared.status.Status.TheVariants as status
 use Rattle.cif_run.specs.declared.status.ProfileWhy.TheVariants as profile
 use Rattle.cif_run.specs.declared.status.Refusal.{Refusal}
 use Rattle.cif_run.specs.declared.status.StRefusal.{StRefusal}
+use Rattle.cif_run.specs.declared.status.StopWhy.{StopWhy}
 use Rattle.cif_run.specs.declared.ended.Ended.{Ended}
 use Rattle.cif_run.specs.Groups.{judged, group_of, IsUnlessMemory}
-use Rattle.cif_run.specs.Works.{Comes, Content, Reading, StopsIn, Writing}
+use Rattle.cif_run.specs.Works.{Comes, Content, Output, Reading, StopsIn as Stopping, Work, Writing}
 use Rattle.cif_run.proofs.CallLaws.{answers, came_how, ended_so, within_comes, wrote_begins}
+use Rattle.cif_run.proofs.CallLaws as call
 use Rattle.cif_source.specs.Source.{Source}
+use Rattle.cif_source.specs.Step.{system_of}
 use Rattle.cif_front.specs.Loads.{ReadsAsSource}
-use Rattle.cif_accept.specs.Accepts.{CommandEnds, SourceHasTooMany, SourceIs, SourceRefused, no_ends, source_limit, source_work}
+use Rattle.cif_accept.specs.Accepts.{CommandEnds, OfSource, SourceHasTooMany, SourceIs, SourceRefused, no_ends, source_limit, source_work}
 use Rattle.cif_image.specs.NetRules.{UnclassedDue}
 use Rattle.cif_accept.proofs.AcceptLaws as accept
+use Rattle.cif_accept.proofs.OverSource as source
+use Rattle.cif_accept.proofs.OverSource.{IsOverSource}
 use Rattle.cif_accept.proofs.SourceLaws.{refused_of}
 use Rattle.cif_check.specs.Words.{Check, IsCheck}
-use Rattle.cif_check.specs.Checks.{accepted}
+use Rattle.cif_check.specs.Checks.{accepted, check_work}
 use Rattle.cif_check.proofs.CheckLaws as checks
 use Rattle.cif_generate.specs.Words.{Generate, IsGenerate}
 use Rattle.cif_generate.specs.Meaning.{AreClassed, IsTextOf}
-use Rattle.cif_generate.specs.Generates.{is_unclassed}
+use Rattle.cif_generate.specs.Generates.{generate_work, is_unclassed}
 use Rattle.cif_generate.proofs.GenerateLaws as generates
 use Rattle.cif_replay.specs.Words.{Replay, IsReplay}
 use Rattle.cif_replay.specs.Replaying.{AreRowsRefused, IsStRefused, StopsAt}
 use Rattle.cif_replay.specs.Replays.{OfBoth, OfFirst}
-use Rattle.cif_tool.specs.Commands.{Command, check, generate, replay, Request, IsFor, work_of, source_of}
-use Rattle.cif_tool.specs.Asks.{Asked, AsksSource, Generated, IsAsked, NamesSource, NoCommand, tool_work}
+use Rattle.cif_simulate.specs.Words.{Simulate, Which, by_script, by_first, IsSimulate}
+use Rattle.cif_simulate.specs.Scripts.{OfScript, cause, script_limit}
+use Rattle.cif_simulate.specs.Simulates.{IsFirstText, IsPartOfRun, halts_by, simulate_work}
+use Rattle.cif_simulate.proofs.ByWhich.{first_within, is_over_script, is_over_source, tells_nothing}
+use Rattle.cif_simulate.proofs.OverScript as both
+use Rattle.cif_simulate.proofs.OverScript.{IsOverScript}
+use Rattle.cif_why.specs.Words.{Why, IsWhy}
+use Rattle.cif_why.specs.Explains.{LacksEvent, why_work}
+use Rattle.cif_why.proofs.ByEvent as event
+use Rattle.cif_tool.specs.Commands.{Command, check, generate, replay, simulate, why, Request, IsFor, work_of, script_in, script_of, source_of}
+use Rattle.cif_tool.specs.Asks.{Asked, AsksNoScript, AsksScript, AsksSource, AsksUnknown, Generated, IsAsked, NamesScript, NamesSource, NoCommand, Quiet, tool_work}
 use Rattle.cif_tool.proofs.AskedLaws.{of_tool, within_tool}
 
 -- no command ends with Usage
@@ -43,6 +59,8 @@ no_usage : (k : Command) (q : Request k) (content : Content) (name : Text) → (
 no_usage check q content name h = elim h [ inl x ↦ x | inr x ↦ x.2 ]
 no_usage generate q content name h = elim h [ inl x ↦ x | inr x ↦ x.2 ]
 no_usage replay q content name h = h
+no_usage simulate q content name h = h
+no_usage why q content name h = elim h [ inl x ↦ x | inr x ↦ let other = x.0 in cc ]
 
 -- nor does its call
 pub not_usage : (k : Command) (q : Request k) (c : Reading) (o : Writing) (e : Ended) → Comes (work_of k q c.content) c o e → e.status ≡ status.Usage → ⊥
@@ -51,13 +69,15 @@ not_usage k q c o e came is =
 
 -- words that ask no command for anything ask for nothing
 pub no_command_of : (words : List Text) → ((k : Check) → IsCheck words k → ⊥) → ((g : Generate) → IsGenerate words g → ⊥) → ((x : Replay) → IsReplay words x → ⊥)
-    → NoCommand words
-no_command_of words nor neither none asked h = go asked.command asked.request h
+    → ((s : Simulate) → IsSimulate words s → ⊥) → ((y : Why) → IsWhy words y → ⊥) → NoCommand words
+no_command_of words no_check no_generate no_replay no_simulate no_why asked h = go asked.command asked.request h
   where
     go : (k : Command) (q : Request k) → IsFor k words q → ⊥
-    go check q is = nor q is
-    go generate q is = neither q is
-    go replay q is = none q is
+    go check q is = no_check q is
+    go generate q is = no_generate q is
+    go replay q is = no_replay q is
+    go simulate q is = no_simulate q is
+    go why q is = no_why q is
 
 -- a call of the command that the words ask for is one of the tool
 pub command_comes : (words : List Text) (k : Command) (q : Request k) → IsFor k words q → (c : Reading) (o : Writing) (e : Ended) → Comes (work_of k q c.content) c o e
@@ -69,7 +89,56 @@ command_comes words k q is c o e came =
 pub nothing_comes : (words : List Text) (c : Reading) (o : Writing) (e : Ended) → NoCommand words → e.status ≡ status.Usage → o.new ≡ o.old
     → Comes (tool_work words c.content) c o e
 nothing_comes words c o e none is same =
-    inl (subst (λ s. StopsIn (tool_work words c.content) c e (group_of s)) (sym is) (inr (is, none)), same)
+    inl (subst (λ s. Stopping (tool_work words c.content) c e (group_of s)) (sym is) (inr (is, none)), same)
+
+-- ---- commands over a source, and over a script of it
+
+over_of : (content : Content) (k : Command) (q : Request k) (file : Text) → source_of k q ≡ Some file → IsOverSource (work_of k q content) content file
+over_of content check q file at =
+    let same : q.file ≡ file = cc in
+    subst (λ f. IsOverSource (check_work q content) content f) same (accept.over_source content q.file (λ t text. text ≡ accepted) no_ends)
+over_of content generate q file at =
+    let same : q.file ≡ file = cc in
+    subst (λ f. IsOverSource (generate_work q content) content f) same (accept.over_source content q.file (IsTextOf q.unc q.con) is_unclassed)
+over_of content replay q file at = absurd cc
+over_of content simulate q file at = let same : q.file ≡ file = cc in subst (λ f. IsOverSource (simulate_work q content) content f) same (is_over_source q content)
+over_of content why q file at =
+    let same : q.file ≡ file = cc in
+    subst (λ f. IsOverSource (why_work q content) content f) same (both.over_source (why_work q content) content q.file q.script (event.tells_event q.event) (event.is_over_script q content))
+
+-- what a command over a script tells of the source, beside a refusal
+abbrev tells_of : (k : Command) → Request k → both.Tells
+tells_of why q = event.tells_event q.event
+tells_of _ q = tells_nothing
+
+over_both : (content : Content) (k : Command) (q : Request k) (file script : Text) → source_of k q ≡ Some file → script_of k q ≡ Some script
+    → IsOverScript (work_of k q content) content file script (tells_of k q)
+over_both content check q file script at with_script = absurd cc
+over_both content generate q file script at with_script = absurd cc
+over_both content replay q file script at with_script = absurd cc
+over_both content simulate q file script at with_script =
+    let same : q.file ≡ file = cc in
+    subst (λ f. IsOverScript (simulate_work q content) content f script tells_nothing) same (by q.which refl)
+  where
+    by : (w : Which) → q.which ≡ w → IsOverScript (simulate_work q content) content q.file script tells_nothing
+    by (by_script other) which =
+        let named : Some other ≡ Some script = sym (ap script_in which) ∙ with_script in
+        let here : other ≡ script = cc in
+        is_over_script q content script (which ∙ ap by_script here)
+    by (by_first steps) which = let none : None ≡ Some script = sym (ap script_in which) ∙ with_script in absurd cc
+over_both content why q file script at with_script =
+    let same : q.file ≡ file = cc in
+    let here : q.script ≡ script = cc in
+    subst (λ f. IsOverScript (why_work q content) content f script (event.tells_event q.event)) same
+    (subst (λ s. IsOverScript (why_work q content) content q.file s (event.tells_event q.event)) here (event.is_over_script q content))
+
+-- it tells nothing where no event is asked for that the source lacks
+knows : (words : List Text) (k : Command) (q : Request k) → IsFor k words q → (t : Source) → (AsksUnknown words t → ⊥) → (s : Status) → tells_of k q t s → ⊥
+knows words check q is t known s h = h
+knows words generate q is t known s h = h
+knows words replay q is t known s h = h
+knows words simulate q is t known s h = h
+knows words why q is t known s h = known (q, is, h.1)
 
 module _ (words : List Text) (c : Reading) (o : Writing) (e : Ended) (came : Comes (tool_work words c.content) c o e) (r : Status)
     (same : IsUnlessMemory r e.status) where
@@ -104,7 +173,7 @@ module _ (words : List Text) (c : Reading) (o : Writing) (e : Ended) (came : Com
 
   -- ---- a source
 
-  -- a command over a source, which tells of the source where it has an event without a class
+  -- a command over a source and no script, which tells of the source where it has an event without a class
   record Over (file : Text) : Type 1 where
     P : Source → Text → Type 0
     E : CommandEnds
@@ -117,8 +186,8 @@ module _ (words : List Text) (c : Reading) (o : Writing) (e : Ended) (came : Com
   classed_silent t are (status.OutsideProfile (profile.TooManyChoices n)) name h = h
   classed_silent t are _ name h = h
 
-  as_source : (file : Text) → AsksSource words file → Over file
-  as_source file h = go h.0.command h.0.request h.1 h.2
+  as_source : (file : Text) → AsksSource words file → AsksNoScript words → Over file
+  as_source file h none = go h.0.command h.0.request h.1 h.2
     where
       here : (P : Source → Text → Type 0) (E : CommandEnds) (f : Text) → Some f ≡ Some file → Comes (source_work c.content f P E) c o e → Comes (source_work c.content file P E) c o e
       here P E f is w = let at : f ≡ file = cc in subst (λ n. Comes (source_work c.content n P E) c o e) at w
@@ -137,15 +206,33 @@ module _ (words : List Text) (c : Reading) (o : Writing) (e : Ended) (came : Com
         silent = λ t are. classed_silent t (are q is);
       }
       go replay q is at = absurd cc
+      go simulate q is at = by q.which refl
+        where
+          by : (w : Which) → q.which ≡ w → Over file
+          by (by_script script) which = absurd (none q.file script (record { command = simulate; request = q }, is, refl, ap script_in which))
+          by (by_first steps) which = record {
+            P = λ t. IsFirstText (names_of t) (system_of t) steps;
+            E = no_ends;
+            comes = here (λ t. IsFirstText (names_of t) (system_of t) steps) no_ends q.file at
+                (within_comes (simulate_work q c.content) (source_work c.content q.file (λ t. IsFirstText (names_of t) (system_of t) steps) no_ends)
+                (first_within q c.content steps which) c o e (of_command simulate q is));
+            silent = λ t are s name h. h;
+          }
+      go why q is at = absurd (none q.file q.script (record { command = why; request = q }, is, refl, refl))
 
-  pub refused : (why : Refusal) → r ≡ status.Refused why → (file : Text) × AsksSource words file × SourceRefused c.content file why
-  refused why z = let h = ended (status.Refused why) (λ x. cc) refl (λ x. cc) z in go h.0.command h.0.request h.1 h.2
+  pub refused : (reason : Refusal) → r ≡ status.Refused reason → (file : Text) × AsksSource words file × SourceRefused c.content file reason
+  refused reason z = let h = ended (status.Refused reason) (λ x. cc) refl (λ x. cc) z in go h.0.command h.0.request h.1 h.2
     where
-      go : (k : Command) (q : Request k) → IsFor k words q → (work_of k q c.content).ends (status.Refused why) e.variable
-          → (file : Text) × AsksSource words file × SourceRefused c.content file why
-      go check q is h = elim h [ inl x ↦ (q.file, (record { command = check; request = q }, is, refl), (x.0, x.1, x.2, refused_of x.0 why e.variable x.3)) | inr x ↦ absurd x.2 ]
-      go generate q is h = elim h [ inl x ↦ (q.file, (record { command = generate; request = q }, is, refl), (x.0, x.1, x.2, refused_of x.0 why e.variable x.3)) | inr x ↦ absurd x.2 ]
+      go : (k : Command) (q : Request k) → IsFor k words q → (work_of k q c.content).ends (status.Refused reason) e.variable
+          → (file : Text) × AsksSource words file × SourceRefused c.content file reason
+      go check q is h = elim h [ inl x ↦ (q.file, (record { command = check; request = q }, is, refl), (x.0, x.1, x.2, refused_of x.0 reason e.variable x.3)) | inr x ↦ absurd x.2 ]
+      go generate q is h = elim h [ inl x ↦ (q.file, (record { command = generate; request = q }, is, refl), (x.0, x.1, x.2, refused_of x.0 reason e.variable x.3)) | inr x ↦ absurd x.2 ]
       go replay q is h = absurd h
+      go simulate q is h = (q.file, (record { command = simulate; request = q }, is, refl), (h.0, h.1, h.2, refused_of h.0 reason e.variable h.3))
+      go why q is h = elim h [
+        | inl x ↦ (q.file, (record { command = why; request = q }, is, refl), (x.0, x.1, x.2, refused_of x.0 reason e.variable x.3))
+        | inr x ↦ let other = x.0 in absurd cc
+      ]
 
   pub too_many_choices : (count : ℕ) → r ≡ status.OutsideProfile (profile.TooManyChoices count) → (file : Text) × AsksSource words file × SourceHasTooMany c.content file count
   too_many_choices count z = let h = ended (status.OutsideProfile (profile.TooManyChoices count)) (λ x. cc) refl (λ x. cc) z in go h.0.command h.0.request h.1 h.2
@@ -155,6 +242,8 @@ module _ (words : List Text) (c : Reading) (o : Writing) (e : Ended) (came : Com
       go check q is h = elim h [ inl x ↦ (q.file, (record { command = check; request = q }, is, refl), x) | inr x ↦ absurd x.2 ]
       go generate q is h = elim h [ inl x ↦ (q.file, (record { command = generate; request = q }, is, refl), x) | inr x ↦ absurd x.2 ]
       go replay q is h = absurd h
+      go simulate q is h = (q.file, (record { command = simulate; request = q }, is, refl), h)
+      go why q is h = elim h [ inl x ↦ (q.file, (record { command = why; request = q }, is, refl), x) | inr x ↦ let other = x.0 in absurd cc ]
 
   pub unclassed : (event : ℕ) → r ≡ status.OutsideProfile (profile.Unclassed event)
       → (g : Generate) × IsGenerate words g × ((t : Source) × SourceIs c.content g.file t × UnclassedDue t event)
@@ -165,6 +254,8 @@ module _ (words : List Text) (c : Reading) (o : Writing) (e : Ended) (came : Com
       go check q is h = elim h [ inl x ↦ absurd x | inr x ↦ absurd x.2 ]
       go generate q is h = elim h [ inl x ↦ absurd x | inr x ↦ (q, is, (x.0, x.1, x.2.0)) ]
       go replay q is h = absurd h
+      go simulate q is h = absurd h
+      go why q is h = elim h [ inl x ↦ absurd x | inr x ↦ let other = x.0 in absurd cc ]
 
   pub unclassed_is_told : (g : Generate) (bytes : Text) → IsGenerate words g → c.content g.file ≡ Some bytes → (Rose (c.faults g.file) (c.faults_after g.file) → ⊥)
       → length bytes ≤ source_limit → (t : Source) → ReadsAsSource bytes t → (event : ℕ) → UnclassedDue t event
@@ -172,20 +263,27 @@ module _ (words : List Text) (c : Reading) (o : Writing) (e : Ended) (came : Com
   unclassed_is_told g bytes is = generates.unclassed_is_told g c o e (of_command generate g is) r same bytes
 
   module _ (file bytes : Text) (names : NamesSource words c.content file bytes) (sure : Rose (c.faults file) (c.faults_after file) → ⊥) where
-    over : Over file
-    over = as_source file names.0
+    abbrev command : Command
+    command = names.0.0.command
+
+    abbrev request : Request command
+    request = names.0.0.request
+
+    over : IsOverSource (work_of command request c.content) c.content file
+    over = over_of c.content command request file names.0.2
 
     pub longer_is_too_big : source_limit < length bytes → IsUnlessMemory r (status.TooBig 1)
-    longer_is_too_big = accept.longer_is_too_big file over.P over.E c o e over.comes r same bytes names.1 sure
+    longer_is_too_big = source.longer_is_too_big (work_of command request c.content) c o e (of_command command request names.0.1) r same file over bytes names.1 sure
 
     pub other_text_is_refused : length bytes ≤ source_limit → ((t : Source) → ReadsAsSource bytes t → ⊥)
-        → ((why : Refusal) × (r ≡ status.Refused why)) ⊎ ((count : ℕ) × (r ≡ status.OutsideProfile (profile.TooManyChoices count))) ⊎ (r ≡ status.Memory)
-    other_text_is_refused = accept.other_text_is_refused file over.P over.E c o e over.comes r same bytes names.1 sure
+        → ((reason : Refusal) × (r ≡ status.Refused reason)) ⊎ ((count : ℕ) × (r ≡ status.OutsideProfile (profile.TooManyChoices count))) ⊎ (r ≡ status.Memory)
+    other_text_is_refused = source.other_text_is_refused (work_of command request c.content) c o e (of_command command request names.0.1) r same file over bytes names.1 sure
 
-    pub source_is_done : length bytes ≤ source_limit → (Rose o.faults o.faults_after → ⊥) → (t : Source) → ReadsAsSource bytes t
+    pub source_is_done : length bytes ≤ source_limit → AsksNoScript words → (Rose o.faults o.faults_after → ⊥) → (t : Source) → ReadsAsSource bytes t
         → ((g : Generate) → IsGenerate words g → AreClassed t) → IsUnlessMemory r status.Done
-    source_is_done short quiet t reads classed =
-        accept.source_is_done file over.P over.E c o e over.comes r same bytes names.1 sure short t reads quiet (over.silent t classed)
+    source_is_done short none quiet t reads classed =
+        let alone = as_source file names.0 none in
+        accept.source_is_done file alone.P alone.E c o e alone.comes r same bytes names.1 sure short t reads quiet (alone.silent t classed)
 
   pub checked : r ≡ status.Done → (k : Check) → IsCheck words k → ((t : Source) × SourceIs c.content k.file t) × (o.new ≡ grown o.old accepted)
   checked q k is = checks.checked k c o e (of_command check k is) r same q
@@ -194,25 +292,102 @@ module _ (words : List Text) (c : Reading) (o : Writing) (e : Ended) (came : Com
       → Generated r words c.content o.old o.new P
   generated P from q g is = generates.writes g c o e (of_command generate g is) r same (P g) (from g) q
 
+  -- ---- a script
+
+  module _ (file script bytes us : Text) (names : NamesScript words c.content file script bytes us) (sure : Quiet file script c.faults c.faults_after)
+      (short : length bytes ≤ source_limit) (t : Source) (reads : ReadsAsSource bytes t) (known : AsksUnknown words t → ⊥) where
+    abbrev asked : Asked
+    asked = names.0.0
+
+    abbrev run : Work
+    run = work_of asked.command asked.request c.content
+
+    came_run : Comes run c o e
+    came_run = of_command asked.command asked.request names.0.1
+
+    by_both : IsOverScript run c.content file script (tells_of asked.command asked.request)
+    by_both = over_both c.content asked.command asked.request file script names.0.2 names.0.3
+
+    silent : (s : Status) → tells_of asked.command asked.request t s → ⊥
+    silent = knows words asked.command asked.request names.0.1 t known
+
+    pub longer_script_is_too_big : script_limit < length us → IsUnlessMemory r (status.TooBig 2)
+    longer_script_is_too_big =
+        both.longer_script_is_too_big run c o e came_run r same file script (tells_of asked.command asked.request) by_both bytes names.1 sure.0 short t reads silent us names.2 sure.1
+
+    module _ (few : length us ≤ script_limit) (quiet : Rose o.faults o.faults_after → ⊥) where
+      pub script_is_done : Runs (names_of t) (system_of t) us → IsUnlessMemory r status.Done
+      script_is_done =
+          both.script_is_done run c o e came_run r same file script (tells_of asked.command asked.request) by_both bytes names.1 sure.0 short t reads silent us names.2 sure.1 few quiet
+
+      pub stopped_script_is_told : (k : ℕ) (reason : StopWhy) → StopsIn (names_of t) (system_of t) us k (cause reason) → IsUnlessMemory r (status.Stopped k reason)
+      stopped_script_is_told =
+          both.stopped_script_is_told run c o e came_run r same file script (tells_of asked.command asked.request) by_both bytes names.1 sure.0 short t reads silent us names.2 sure.1 few quiet
+
+  -- the command that stops on its way runs a script
+  pub stopped_at : (k : ℕ) (reason : StopWhy) → r ≡ status.Stopped k reason
+      → (file : Text) × (script : Text) × AsksScript words file script × OfScript c.content file script (λ t us. StopsIn (names_of t) (system_of t) us k (cause reason))
+  stopped_at k reason z = let w = call.halted_so (tool_work words c.content) c o e came r same k reason z in go w.1.0.command w.1.0.request w.1.1 w.0 w.1.2
+    where
+      go : (j : Command) (q : Request j) → IsFor j words q → (text : Text) → (work_of j q c.content).halts (status.Stopped k reason) text
+          → (file : Text) × (script : Text) × AsksScript words file script × OfScript c.content file script (λ t us. StopsIn (names_of t) (system_of t) us k (cause reason))
+      go check q is text h = absurd h
+      go generate q is text h = absurd h
+      go replay q is text h = absurd h
+      go simulate q is text h = by q.which refl
+        where
+          by : (w : Which) → q.which ≡ w
+              → (file : Text) × (script : Text) × AsksScript words file script × OfScript c.content file script (λ t us. StopsIn (names_of t) (system_of t) us k (cause reason))
+          by (by_script script) which = (
+            q.file,
+            script,
+            (record { command = simulate; request = q }, is, refl, ap script_in which),
+            (is_over_script q c.content script which).halts (status.Stopped k reason) text h,
+          )
+          by (by_first steps) which = absurd (subst (λ w. halts_by c.content q.file w (status.Stopped k reason) text) which h)
+      go why q is text h =
+          (q.file, q.script, (record { command = why; request = q }, is, refl, refl), (event.is_over_script q c.content).halts (status.Stopped k reason) text h)
+
+  pub part_of_run : r ≡ status.WriteFault → (q : Simulate) → IsSimulate words q → IsPartOfRun c.content q o.old o.new
+  part_of_run z q is = subst (λ s. Output (simulate_work q c.content) o.old o.new s) z (call.output (simulate_work q c.content) c o e (of_command simulate q is) r same)
+
+  pub part_at_memory : r ≡ status.Memory → (q : Simulate) → IsSimulate words q → (o.new ≡ o.old) ⊎ IsPartOfRun c.content q o.old o.new
+  part_at_memory z q is = subst (λ s. Output (simulate_work q c.content) o.old o.new s) z (call.output (simulate_work q c.content) c o e (of_command simulate q is) r same)
+
+  pub no_event : r ≡ status.NoEvent → (q : Why) × IsWhy words q × OfSource c.content q.file (λ t. LacksEvent t q.event)
+  no_event z = let h = ended status.NoEvent (λ x. cc) refl (λ x. cc) z in go h.0.command h.0.request h.1 h.2
+    where
+      go : (j : Command) (q : Request j) → IsFor j words q → (work_of j q c.content).ends status.NoEvent e.variable
+          → (y : Why) × IsWhy words y × OfSource c.content y.file (λ t. LacksEvent t y.event)
+      go check q is h = elim h [ inl x ↦ absurd x | inr x ↦ absurd x.2 ]
+      go generate q is h = elim h [ inl x ↦ absurd x | inr x ↦ absurd x.2 ]
+      go replay q is h = absurd h
+      go simulate q is h = absurd h
+      go why q is h = elim h [ inl x ↦ absurd x | inr x ↦ (q, is, x.1) ]
+
   -- ---- a program and rows
 
-  pub program_refused : (why : StRefusal) → r ≡ status.StRefused why → (x : Replay) × IsReplay words x × OfFirst c.content x (λ st. IsStRefused st why)
-  program_refused why z = let h = ended (status.StRefused why) (λ x. cc) refl (λ x. cc) z in go h.0.command h.0.request h.1 h.2
+  pub program_refused : (reason : StRefusal) → r ≡ status.StRefused reason → (x : Replay) × IsReplay words x × OfFirst c.content x (λ st. IsStRefused st reason)
+  program_refused reason z = let h = ended (status.StRefused reason) (λ x. cc) refl (λ x. cc) z in go h.0.command h.0.request h.1 h.2
     where
-      go : (k : Command) (q : Request k) → IsFor k words q → (work_of k q c.content).ends (status.StRefused why) e.variable
-          → (x : Replay) × IsReplay words x × OfFirst c.content x (λ st. IsStRefused st why)
+      go : (k : Command) (q : Request k) → IsFor k words q → (work_of k q c.content).ends (status.StRefused reason) e.variable
+          → (x : Replay) × IsReplay words x × OfFirst c.content x (λ st. IsStRefused st reason)
       go replay q is h = (q, is, (h.0, h.1, h.2, h.3.0))
       go check q is h = elim h [ inl x ↦ absurd x | inr x ↦ absurd x.2 ]
       go generate q is h = elim h [ inl x ↦ absurd x | inr x ↦ absurd x.2 ]
+      go simulate q is h = absurd h
+      go why q is h = elim h [ inl x ↦ absurd x | inr x ↦ let other = x.0 in absurd cc ]
 
-  pub rows_refused : (why : RowErr) → r ≡ status.RowRefused why → (x : Replay) × IsReplay words x × OfBoth c.content x (λ st rows. AreRowsRefused st rows why)
-  rows_refused why z = let h = ended (status.RowRefused why) (λ x. cc) refl (λ x. cc) z in go h.0.command h.0.request h.1 h.2
+  pub rows_refused : (reason : RowErr) → r ≡ status.RowRefused reason → (x : Replay) × IsReplay words x × OfBoth c.content x (λ st rows. AreRowsRefused st rows reason)
+  rows_refused reason z = let h = ended (status.RowRefused reason) (λ x. cc) refl (λ x. cc) z in go h.0.command h.0.request h.1 h.2
     where
-      go : (k : Command) (q : Request k) → IsFor k words q → (work_of k q c.content).ends (status.RowRefused why) e.variable
-          → (x : Replay) × IsReplay words x × OfBoth c.content x (λ st rows. AreRowsRefused st rows why)
+      go : (k : Command) (q : Request k) → IsFor k words q → (work_of k q c.content).ends (status.RowRefused reason) e.variable
+          → (x : Replay) × IsReplay words x × OfBoth c.content x (λ st rows. AreRowsRefused st rows reason)
       go replay q is h = (q, is, h)
       go check q is h = elim h [ inl x ↦ absurd x | inr x ↦ absurd x.2 ]
       go generate q is h = elim h [ inl x ↦ absurd x | inr x ↦ absurd x.2 ]
+      go simulate q is h = absurd h
+      go why q is h = elim h [ inl x ↦ absurd x | inr x ↦ let other = x.0 in absurd cc ]
 
   pub scan_fault : (k : ℕ) (f : ScanErr) → r ≡ status.ScanFault k f
       → (x : Replay) × IsReplay words x × (f ≡ scan.Budget → ⊥) × OfBoth c.content x (λ st rows. StopsAt st rows k (stopped f))
@@ -223,6 +398,8 @@ module _ (words : List Text) (c : Reading) (o : Writing) (e : Ended) (came : Com
       go replay q is h = (q, is, h.0, (h.1.0, h.1.1, h.1.2, h.1.3, h.1.4, h.1.5, h.1.6.0))
       go check q is h = elim h [ inl x ↦ absurd x | inr x ↦ absurd x.2 ]
       go generate q is h = elim h [ inl x ↦ absurd x | inr x ↦ absurd x.2 ]
+      go simulate q is h = absurd h
+      go why q is h = elim h [ inl x ↦ absurd x | inr x ↦ let other = x.0 in absurd cc ]
 
   pub budget : (k : ℕ) → r ≡ status.Budget k → (x : Replay) × IsReplay words x × OfBoth c.content x (λ st rows. StopsAt st rows k OutOfTurns)
   budget k z = let h = ended (status.Budget k) (λ x. cc) refl (λ x. cc) z in go h.0.command h.0.request h.1 h.2
@@ -232,3 +409,5 @@ module _ (words : List Text) (c : Reading) (o : Writing) (e : Ended) (came : Com
       go replay q is h = (q, is, h)
       go check q is h = elim h [ inl x ↦ absurd x | inr x ↦ absurd x.2 ]
       go generate q is h = elim h [ inl x ↦ absurd x | inr x ↦ absurd x.2 ]
+      go simulate q is h = absurd h
+      go why q is h = elim h [ inl x ↦ absurd x | inr x ↦ let other = x.0 in absurd cc ]

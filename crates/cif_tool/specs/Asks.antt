@@ -9,7 +9,9 @@ use Rattle.cif_source.specs.Source.{Source}
 use Rattle.cif_generate.specs.Words.{Generate, IsGenerate}
 use Rattle.cif_generate.specs.Generates.{Writes}
 use Rattle.cif_replay.specs.Words.{Replay, IsReplay}
-use Rattle.cif_tool.specs.Commands.{Command, Request, IsFor, work_of, source_of}
+use Rattle.cif_why.specs.Words.{Why, IsWhy}
+use Rattle.cif_why.specs.Explains.{LacksEvent}
+use Rattle.cif_tool.specs.Commands.{Command, Request, IsFor, work_of, script_of, source_of}
 
 -- a command, and what it is asked for
 pub record Asked : Type 0 where
@@ -35,6 +37,10 @@ tool_work words content = record {
   halted_begins = λ s text h. (h.0, h.1, (work_of h.0.command h.0.request content).halted_begins s text h.2);
 }
 
+-- no count of faults of the two files rose
+abbrev pub Quiet : (one other : Text) → (before after : Text → ℕ) → Type 0
+Quiet one other before after = (Rose (before one) (after one) → ⊥) × (Rose (before other) (after other) → ⊥)
+
 -- ---- a source
 
 -- the words ask for a command over the source in this file
@@ -49,12 +55,27 @@ NamesSource words content file bytes = AsksSource words file × (content file �
 abbrev pub Generated : Status → List Text → Content → Option Text → Option Text → (Generate → Source → Text → Type 0) → Type 0
 Generated s words content old new P = s ≡ status.Done → (g : Generate) → IsGenerate words g → Writes content g.file old new (P g)
 
+-- ---- a script
+
+-- the words ask for a command over the source and the script in these files
+abbrev pub AsksScript : List Text → (file script : Text) → Type 0
+AsksScript words file script =
+    (a : Asked) × IsAsked words a × (source_of a.command a.request ≡ Some file) × (script_of a.command a.request ≡ Some script)
+
+-- the same, and the files are told to hold these bytes
+abbrev pub NamesScript : List Text → Content → (file script bytes us : Text) → Type 0
+NamesScript words content file script bytes us = AsksScript words file script × (content file ≡ Some bytes) × (content script ≡ Some us)
+
+-- the words ask for no script
+abbrev pub AsksNoScript : List Text → Type 0
+AsksNoScript words = (file script : Text) → AsksScript words file script → ⊥
+
+-- the words ask for the reasons of an event, and no event of the source has its path
+abbrev pub AsksUnknown : List Text → Source → Type 0
+AsksUnknown words t = (q : Why) × IsWhy words q × LacksEvent t q.event
+
 -- ---- a program and rows
 
 -- the words ask for `replay`, and its files are told to hold these bytes
 abbrev pub NamesBoth : List Text → Content → Replay → Text → Text → Type 0
 NamesBoth words content r st rows = IsReplay words r × (content r.st ≡ Some st) × (content r.rows ≡ Some rows)
-
--- no count of faults of the two files rose
-abbrev pub Quiet : Replay → (Text → ℕ) → (Text → ℕ) → Type 0
-Quiet r before after = (Rose (before r.st) (after r.st) → ⊥) × (Rose (before r.rows) (after r.rows) → ⊥)

@@ -4,7 +4,9 @@ use Rattle.cif_run.specs.Works.{reading, writing}
 use Rattle.cif_check.specs.Checks.{check_of}
 use Rattle.cif_generate.specs.Generates.{generate_of}
 use Rattle.cif_replay.specs.Replays.{replay_of}
-use Rattle.cif_tool.specs.Commands.{check, generate, replay}
+use Rattle.cif_simulate.specs.Requests.{simulate_of}
+use Rattle.cif_why.specs.Requests.{why_of}
+use Rattle.cif_tool.specs.Commands.{check, generate, replay, simulate, why}
 use Rattle.cif_tool.proofs.ToolLaws.{command_comes, not_usage}
 use Rattle.cif_tool.proofs.running.run_words.Goals as goal
 
@@ -49,3 +51,31 @@ returns-in-Some-read_words-2-clause-nothing_read g c is =
     (reading (g.F.Files.content c.args.files.now) (g.F.Files.faults c.args.files.now) (g.F.Files.faults c.replay.new.files) (g.F.Files.most c.replay.new.files))
     (writing (g.O.Sink.written c.args.out.now) (g.O.Sink.written c.replay.new.out) (g.O.Sink.faults c.args.out.now) (g.O.Sink.faults c.replay.new.out))
     c.replay.result c.replay.ensures.came is)
+
+pub returns-in-Some-read_words-3-clause-came : goal.returns-in-Some-read_words-3-clause-came
+returns-in-Some-read_words-3-clause-came g c =
+    command_comes (map string_bytes c.args.words.now) simulate (simulate_of c.in-Some-read_words-3.asked) c.in-Some-read_words-3.ensures.some
+    (reading (g.F.Files.content c.args.files.now) (g.F.Files.faults c.args.files.now) (g.F.Files.faults c.simulate.new.files) (g.F.Files.most c.simulate.new.files))
+    (writing (g.O.Sink.written c.args.out.now) (g.O.Sink.written c.simulate.new.out) (g.O.Sink.faults c.args.out.now) (g.O.Sink.faults c.simulate.new.out))
+    c.simulate.result c.simulate.ensures.came
+
+pub returns-in-Some-read_words-3-clause-nothing_read : goal.returns-in-Some-read_words-3-clause-nothing_read
+returns-in-Some-read_words-3-clause-nothing_read g c is =
+    absurd (not_usage simulate (simulate_of c.in-Some-read_words-3.asked)
+    (reading (g.F.Files.content c.args.files.now) (g.F.Files.faults c.args.files.now) (g.F.Files.faults c.simulate.new.files) (g.F.Files.most c.simulate.new.files))
+    (writing (g.O.Sink.written c.args.out.now) (g.O.Sink.written c.simulate.new.out) (g.O.Sink.faults c.args.out.now) (g.O.Sink.faults c.simulate.new.out))
+    c.simulate.result c.simulate.ensures.came is)
+
+pub returns-in-Some-read_words-4-clause-came : goal.returns-in-Some-read_words-4-clause-came
+returns-in-Some-read_words-4-clause-came g c =
+    command_comes (map string_bytes c.args.words.now) why (why_of c.in-Some-read_words-4.asked) c.in-Some-read_words-4.ensures.some
+    (reading (g.F.Files.content c.args.files.now) (g.F.Files.faults c.args.files.now) (g.F.Files.faults c.why.new.files) (g.F.Files.most c.why.new.files))
+    (writing (g.O.Sink.written c.args.out.now) (g.O.Sink.written c.why.new.out) (g.O.Sink.faults c.args.out.now) (g.O.Sink.faults c.why.new.out))
+    c.why.result c.why.ensures.came
+
+pub returns-in-Some-read_words-4-clause-nothing_read : goal.returns-in-Some-read_words-4-clause-nothing_read
+returns-in-Some-read_words-4-clause-nothing_read g c is =
+    absurd (not_usage why (why_of c.in-Some-read_words-4.asked)
+    (reading (g.F.Files.content c.args.files.now) (g.F.Files.faults c.args.files.now) (g.F.Files.faults c.why.new.files) (g.F.Files.most c.why.new.files))
+    (writing (g.O.Sink.written c.args.out.now) (g.O.Sink.written c.why.new.out) (g.O.Sink.faults c.args.out.now) (g.O.Sink.faults c.why.new.out))
+    c.why.result c.why.ensures.came is)

@@ -1,16 +1,25 @@
 -- Each clause is one line from a law of the commands.
 use Rattle.std.proofs.Common.{List, map, string_bytes}
 use Rattle.grammar.specs.Pieces.{Text}
+use Rattle.cif_system.specs.System.{initial}
+use Rattle.sim_face.proofs.RunLaws.{first-runs, scripts-make}
+use Rattle.why_face.proofs.Holding.{reasons-hold}
+use Rattle.sim_shown.specs.Sources.{names_of, told_of}
 use Rattle.plc_face.specs.Face.{HasInterface}
 use Rattle.plc_face.specs.Scans.{NeverFaults, RunsFirstSteps, ScansLegally, ScansExactly, ShowsOutputs, StaysTyped}
 use Rattle.plc_back.specs.Texts.{IsLayoutOf, TheProgram}
 use Rattle.cif_run.specs.declared.status.Status.TheVariants as status
 use Rattle.cif_run.specs.Works.{Reading, Writing, reading, writing}
 use Rattle.cif_run.proofs.CallLaws as call
+use Rattle.cif_source.specs.Step.{system_of}
 use Rattle.cif_generate.specs.Meaning.{AreClassed, StartsInitial, meant_by, shown_of}
 use Rattle.cif_generate.proofs.GenerateLaws as generates
 use Rattle.cif_replay.proofs.ReplayLaws as replays
-use Rattle.cif_tool.specs.Commands.{replay}
+use Rattle.cif_simulate.proofs.SimulateLaws as simulates
+use Rattle.cif_why.proofs.ByEvent as event
+use Rattle.cif_why.proofs.SourceLaws.{read_explains}
+use Rattle.cif_why.proofs.WhyLaws as whys
+use Rattle.cif_tool.specs.Commands.{replay, simulate, why}
 use Rattle.cif_tool.specs.Asks.{tool_work}
 use Rattle.cif_tool.proofs.ToolLaws as tool
 use Rattle.cif_tool.proofs.running.tool.Given.{Over}
@@ -153,3 +162,66 @@ returns-clause-told g c = (c.run_words-ended.result, c.run_words-ended.ensures.c
 
 pub returns-clause-usage_reads_nothing : goal.returns-clause-usage_reads_nothing
 returns-clause-usage_reads_nothing g c is = c.run_words-ended.ensures.nothing_read (call.came_to (tool_work (texts g c) (g.F.Files.content c.args.files.now)) (files_of g c) (out_of g c) c.run_words-ended.result c.run_words-ended.ensures.came c.report.result c.report.ensures.unless_memory status.Usage (λ z. cc) is)
+
+pub returns-clause-stopped : goal.returns-clause-stopped
+returns-clause-stopped g c = tool.stopped_at (texts g c) (files_of g c) (out_of g c) c.run_words-ended.result c.run_words-ended.ensures.came c.report.result c.report.ensures.unless_memory
+
+pub returns-clause-stopped_script_is_told : goal.returns-clause-stopped_script_is_told
+returns-clause-stopped_script_is_told g c file script bytes us names sure short t reads known = tool.stopped_script_is_told (texts g c) (files_of g c) (out_of g c) c.run_words-ended.result c.run_words-ended.ensures.came c.report.result c.report.ensures.unless_memory file script bytes us names sure short t reads known
+
+pub returns-clause-script_is_done : goal.returns-clause-script_is_done
+returns-clause-script_is_done g c file script bytes us names sure short t reads known = tool.script_is_done (texts g c) (files_of g c) (out_of g c) c.run_words-ended.result c.run_words-ended.ensures.came c.report.result c.report.ensures.unless_memory file script bytes us names sure short t reads known
+
+pub returns-clause-longer_script_is_too_big : goal.returns-clause-longer_script_is_too_big
+returns-clause-longer_script_is_too_big g c file script bytes us names sure short t reads known = tool.longer_script_is_too_big (texts g c) (files_of g c) (out_of g c) c.run_words-ended.result c.run_words-ended.ensures.came c.report.result c.report.ensures.unless_memory file script bytes us names sure short t reads known
+
+pub returns-clause-simulated : goal.returns-clause-simulated
+returns-clause-simulated g c done q is = simulates.simulated q (files_of g c) (out_of g c) c.run_words-ended.result
+    (tool.of_command (texts g c) (files_of g c) (out_of g c) c.run_words-ended.result c.run_words-ended.ensures.came c.report.result c.report.ensures.unless_memory simulate q is) c.report.result c.report.ensures.unless_memory done
+
+pub returns-clause-simulated_first : goal.returns-clause-simulated_first
+returns-clause-simulated_first g c done q is = simulates.simulated_first q (files_of g c) (out_of g c) c.run_words-ended.result
+    (tool.of_command (texts g c) (files_of g c) (out_of g c) c.run_words-ended.result c.run_words-ended.ensures.came c.report.result c.report.ensures.unless_memory simulate q is) c.report.result c.report.ensures.unless_memory done
+
+pub returns-clause-stopped_run_is_written : goal.returns-clause-stopped_run_is_written
+returns-clause-stopped_run_is_written g c k reason stops q is = simulates.stopped q (files_of g c) (out_of g c) c.run_words-ended.result
+    (tool.of_command (texts g c) (files_of g c) (out_of g c) c.run_words-ended.result c.run_words-ended.ensures.came c.report.result c.report.ensures.unless_memory simulate q is) c.report.result c.report.ensures.unless_memory k reason stops
+
+pub returns-clause-part_of_run_is_written : goal.returns-clause-part_of_run_is_written
+returns-clause-part_of_run_is_written g c = tool.part_of_run (texts g c) (files_of g c) (out_of g c) c.run_words-ended.result c.run_words-ended.ensures.came c.report.result c.report.ensures.unless_memory
+
+pub returns-clause-part_at_want_of_memory : goal.returns-clause-part_at_want_of_memory
+returns-clause-part_at_want_of_memory g c = tool.part_at_memory (texts g c) (files_of g c) (out_of g c) c.run_words-ended.result c.run_words-ended.ensures.came c.report.result c.report.ensures.unless_memory
+
+pub returns-clause-script_steps_are_steps : goal.returns-clause-script_steps_are_steps
+returns-clause-script_steps_are_steps g c t script = scripts-make (names_of t) (system_of t) script
+
+pub returns-clause-first_steps_are_lowest : goal.returns-clause-first_steps_are_lowest
+returns-clause-first_steps_are_lowest g c t steps = first-runs (system_of t) (initial (system_of t)) steps
+
+pub returns-clause-explained : goal.returns-clause-explained
+returns-clause-explained g c done q is = whys.explained_so q (files_of g c) (out_of g c) c.run_words-ended.result
+    (tool.of_command (texts g c) (files_of g c) (out_of g c) c.run_words-ended.result c.run_words-ended.ensures.came c.report.result c.report.ensures.unless_memory why q is) c.report.result c.report.ensures.unless_memory done
+
+pub returns-clause-stopped_why_writes_nothing : goal.returns-clause-stopped_why_writes_nothing
+returns-clause-stopped_why_writes_nothing g c k reason stops q is = (whys.stopped q (files_of g c) (out_of g c) c.run_words-ended.result
+    (tool.of_command (texts g c) (files_of g c) (out_of g c) c.run_words-ended.result c.run_words-ended.ensures.came c.report.result c.report.ensures.unless_memory why q is) c.report.result c.report.ensures.unless_memory k reason stops).1
+
+pub returns-clause-no_event : goal.returns-clause-no_event
+returns-clause-no_event g c = tool.no_event (texts g c) (files_of g c) (out_of g c) c.run_words-ended.result c.run_words-ended.ensures.came c.report.result c.report.ensures.unless_memory
+
+pub returns-clause-no_event_is_told : goal.returns-clause-no_event_is_told
+returns-clause-no_event_is_told g c q bytes is told sure short t reads = event.no_event_is_told q (files_of g c) (out_of g c) c.run_words-ended.result
+    (tool.of_command (texts g c) (files_of g c) (out_of g c) c.run_words-ended.result c.run_words-ended.ensures.came c.report.result c.report.ensures.unless_memory why q is) c.report.result c.report.ensures.unless_memory bytes told sure short t reads
+
+pub returns-clause-reasons_hold : goal.returns-clause-reasons_hold
+returns-clause-reasons_hold g c t = reasons-hold (system_of t) (told_of t)
+
+pub returns-clause-all_reasons_are_told : goal.returns-clause-all_reasons_are_told
+returns-clause-all_reasons_are_told g c bytes short t reads = (read_explains bytes short t reads).all_are_told
+
+pub returns-clause-enabled_where_none : goal.returns-clause-enabled_where_none
+returns-clause-enabled_where_none g c bytes short t reads = (read_explains bytes short t reads).none_means_step
+
+pub returns-clause-none_where_enabled : goal.returns-clause-none_where_enabled
+returns-clause-none_where_enabled g c bytes short t reads = (read_explains bytes short t reads).step_means_none
