@@ -1,6 +1,5 @@
 pub mod WordLemmas
 pub mod ReplayLemmas
-pub mod ScanLemmas
 pub mod EndLemmas
 pub mod FileLemmas
 pub mod ReplayLaws

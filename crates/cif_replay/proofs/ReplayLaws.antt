@@ -21,10 +21,11 @@ use Rattle.cif_run.specs.Groups.{group_of, IsUnlessMemory}
 use Rattle.cif_run.specs.Works.{Comes, Content, Failed, Holds, Input, IsLonger, Reading, Unread, Work, WroteIn, Writing}
 use Rattle.cif_run.proofs.CallLaws.{IsWhole, came_whole, ended_so, finished, written}
 use Rattle.cif_run.proofs.CallLaws as call
+use Rattle.plc_tables.proofs.EndingLaws.{comes_once, ended_stops_none, one_stop, stopped_stops, out_of_turns_stops}
 use Rattle.cif_replay.specs.Words.{Replay}
 use Rattle.cif_replay.specs.Replaying.{AllEnd, AreRowsRefused, ComesTo, IsRowRefused, IsStRefused, IsTableFor, Reads, StopsAt, status_of_scan}
 use Rattle.cif_replay.specs.Replays.{OfBoth, OfFirst, ReplayEnds, replay_work, rows_input, rows_limit, st_input, st_limit}
-use Rattle.cif_replay.proofs.ReplayLemmas.{refused_reads_none, one_row_error, rows_not_refused, one_rows, comes_once, ended_stops_none, one_stop, stopped_stops, out_of_turns_stops}
+use Rattle.cif_replay.proofs.ReplayLemmas.{refused_reads_none, one_row_error, rows_not_refused, one_rows}
 
 -- which of the ends it was
 ended_how : (content : Content) (x : Replay) (B : Type 0) (s : Status) (name : Text) → ReplayEnds content x s name

@@ -2,6 +2,5 @@ pub mod Words
 pub mod Told
 pub mod Replaying
 pub mod Refusals
-pub mod Scanning
 pub mod Ends
 pub mod Replays

@@ -1,11 +1,9 @@
 -- What a replay comes to: the scans of a program over rows.
-use Rattle.std.specs.Prelude.{◌≡◌, ℕ, zero, suc, ℤ, List, [], ◌∷◌, length, map, slice_get, option_map, unwrap_or}
+use Rattle.std.specs.Prelude.{◌≡◌, ℕ, ℤ, List, [], slice_get, option_map, unwrap_or}
 use Rattle.grammar.specs.Pieces.{Text}
 use Rattle.st_ast.specs.Tree.{Program}
-use Rattle.st_ast.specs.Values.{Memory}
-use Rattle.st_ast.specs.Exec.{Outcome, Ended}
-use Rattle.st_ast.specs.Scan.{start_memory, scan_of, later_memories}
-use Rattle.st_ast.specs.Interface.{output_values}
+use Rattle.st_ast.specs.Exec.{Outcome}
+use Rattle.st_ast.specs.Scan.{start_memory}
 use Rattle.st_ast.specs.Checks.{check_faults}
 use Rattle.st_ast.specs.declared.tree.StVar.{StVar}
 use Rattle.st_ast.specs.ReadsAs.{Derives}
@@ -16,32 +14,15 @@ use Rattle.st_check.specs.declared.error.StCheckErr.TheVariants as check
 use Rattle.st_scan.specs.declared.error.ScanErr.{ScanErr}
 use Rattle.st_scan.specs.declared.error.ScanErr.TheVariants as scan
 use Rattle.plc_rows.specs.Rows.{RowsOf}
-use Rattle.plc_rows.specs.Table.{output_table}
 use Rattle.plc_rows.specs.Told as told
 use Rattle.plc_rows.specs.declared.error.RowErr.{RowErr}
 use Rattle.plc_rows.specs.declared.error.RowErr.TheVariants as row
+pub use Rattle.plc_tables.specs.Scans.{AllEnd, ComesTo, table_of}
 use Rattle.plc_back.specs.Texts.{TheProgram}
 use Rattle.cif_run.specs.declared.status.Status.{Status}
 use Rattle.cif_run.specs.declared.status.Status.TheVariants as status
 use Rattle.cif_run.specs.declared.status.StRefusal.{StRefusal}
 use Rattle.cif_run.specs.declared.status.StRefusal.TheVariants as refusal
-
--- ---- scans
-
--- every scan ends without a fault and within its turns
-abbrev pub AllEnd : Program → List (List ℤ) → Type 0
-AllEnd p rows = length (later_memories p (start_memory p) rows) ≡ length rows
-
--- from this memory on, the scans before that of the row k, counted from 1, end, and that scan comes to this
-abbrev pub ComesTo : Program → Memory → List (List ℤ) → ℕ → Outcome → Type 0
-ComesTo p m [] k o = ⊥
-ComesTo p m (row ∷ rows) zero o = ⊥
-ComesTo p m (row ∷ rows) (suc zero) o = scan_of p m row ≡ o
-ComesTo p m (row ∷ rows) (suc (suc k)) o = (left : ℕ) × (after : Memory) × (scan_of p m row ≡ Ended left after) × ComesTo p after rows (suc k) o
-
--- the output table of the scans over these rows
-abbrev pub table_of : Program → List (List ℤ) → Text
-table_of p rows = output_table p.vars (map (output_values p.vars) (later_memories p (start_memory p) rows))
 
 -- the name of the variable with this number
 abbrev pub name_at : List StVar → ℕ → Text

@@ -4,7 +4,6 @@
 
 mod command;
 mod programs;
-mod scanning;
 mod tables;
 mod words;
 

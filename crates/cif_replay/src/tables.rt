@@ -10,10 +10,9 @@ ghost use Rattle.cif_replay.specs.Refusals.{row_status_of};
 ghost use Rattle.cif_replay.specs.Replaying.{AllEnd, IsTableOf, name_at, status_of_scan, table_of};
 
 use crate::programs::name_of;
-use crate::scanning::{Stopped, scans};
-use cif_base::Memory;
 use cif_run::{Ended, Status};
-use plc_rows::{Row, RowErr, read_rows, rows_text};
+use plc_rows::{Row, RowErr, read_rows};
+use plc_tables::{Stopped, table};
 use st_ast::StVar;
 use st_check::Checked;
 use st_scan::ScanErr;
@@ -49,8 +48,8 @@ fn scan_ended(alloc: Global, vars: &[StVar], row: u32, error: ScanErr) -> Ended
     }
 }
 
-/// The table of the scans of a program over rows.
-fn table(alloc: Global, program: &Checked, rows: &[Row]) -> Result<Vec<u8>, Ended>
+/// The table of the scans of a program over rows, or how a call ends that has none.
+fn table_of_rows(alloc: Global, program: &Checked, rows: &[Row]) -> Result<Vec<u8>, Ended>
     requires { length rows.now ≤ 100000 }
     ensures all { IfOk result (λ text. AllEnd (view program.now) (cells_of rows.now)) }
     ensures table { IfOk result (λ text. text.items ≡ table_of (view program.now) (cells_of rows.now)) }
@@ -58,14 +57,10 @@ fn table(alloc: Global, program: &Checked, rows: &[Row]) -> Result<Vec<u8>, Ende
     ensures named { IfErr result (λ e. IsNamed (view program.now) e.status e.variable) }
 {
     let vars = program.program().vars.as_slice();
-    let shown = match scans(alloc, program, rows) {
-        Ok(shown) => shown,
-        Err(Stopped::Scan { row, error }) => return Err(scan_ended(alloc, vars, row, error)),
-        Err(Stopped::NoMemory) => return Err(Ended::plain(alloc, Status::Memory)),
-    };
-    match rows_text(alloc, program, shown.as_slice()) {
+    match table(alloc, program, rows) {
         Ok(text) => Ok(text),
-        Err(Memory) => Err(Ended::plain(alloc, Status::Memory)),
+        Err(Stopped::Scan { row, error }) => Err(scan_ended(alloc, vars, row, error)),
+        Err(Stopped::NoMemory) => Err(Ended::plain(alloc, Status::Memory)),
     }
 }
 
@@ -78,7 +73,7 @@ pub fn rows_table(alloc: Global, program: &Checked, text: &[u8]) -> Result<Vec<u
     ensures named { IfErr result (λ e. IsNamed (view program.now) e.status e.variable) }
 {
     match read_rows(alloc, text, program) {
-        Ok(rows) => table(alloc, program, rows.rows.as_slice()),
+        Ok(rows) => table_of_rows(alloc, program, rows.rows.as_slice()),
         Err(error) => Err(Ended::plain(alloc, row_status(error))),
     }
 }

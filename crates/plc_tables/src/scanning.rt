@@ -1,36 +1,18 @@
 //! The scans of a program over rows.
 
-ghost use Rattle.std.specs.Prelude.{◌≡◌, ◌≤◌, All, length, map, IfOk, IfErr};
+ghost use Rattle.std.specs.Prelude.{◌≡◌, ◌<◌, ◌^◌, All, length, map, IfOk, IfErr};
 ghost use Rattle.st_ast.specs.Interface.{is_output, numbers_of, output_values};
 ghost use Rattle.st_ast.specs.Scan.{later_memories, start_memory};
 ghost use Rattle.st_ast.specs.View.{view};
 ghost use Rattle.plc_rows.specs.Told.{cells_of};
-ghost use Rattle.cif_replay.specs.Replaying.{AllEnd};
-ghost use Rattle.cif_replay.specs.Scanning.{IsStopped};
+ghost use Rattle.plc_tables.specs.Scans.{AllEnd, IsStopped};
 
+use crate::stopped::Stopped;
 use cif_base::{Items, Memory};
 use plc_rows::Row;
 use st_check::Checked;
-use st_scan::{Machine, ScanErr};
+use st_scan::Machine;
 use std::alloc::Global;
-
-/// Why the scans over rows stopped: the scan of a row, counted from 1, or want of memory.
-#[derive(Clone, Copy, Debug, PartialEq, Eq)]
-pub enum Stopped {
-    Scan { row: u32, error: ScanErr },
-    NoMemory,
-}
-
-impl From<Memory> for Stopped {
-    ghost use Rattle.std.specs.Prelude.{◌≡◌};
-    ghost use Rattle.cif_replay.specs.declared.scanning.Stopped.TheVariants.{NoMemory};
-
-    ghost from_gives = { λ _ e. e ≡ NoMemory };
-
-    fn from(_error: Memory) -> Stopped {
-        Stopped::NoMemory
-    }
-}
 
 /// The values of the outputs.
 fn outputs(alloc: Global, machine: &Machine<'_>) -> Result<Row, Memory>
@@ -46,7 +28,7 @@ fn outputs(alloc: Global, machine: &Machine<'_>) -> Result<Row, Memory>
 
 /// The values of the outputs after each scan.
 pub fn scans(alloc: Global, program: &Checked, rows: &[Row]) -> Result<Items<Row>, Stopped>
-    requires { length rows.now ≤ 100000 }
+    requires { length rows.now < 2 ^ 32 }
     ensures all { IfOk result (λ shown. AllEnd (view program.now) (cells_of rows.now)) }
     ensures values { IfOk result (λ shown. cells_of shown ≡ map (output_values program.now.vars)
         (later_memories (view program.now) (start_memory (view program.now)) (cells_of rows.now))) }

@@ -5,8 +5,8 @@ use Rattle.st_ast.specs.View.{view}
 use Rattle.st_ast.specs.declared.tree.Program.{Program}
 use Rattle.plc_rows.specs.declared.row.Row.{Row}
 use Rattle.st_scan.specs.Endings.{stopped}
-use Rattle.cif_replay.proofs.ScanLemmas.{stop_at, more_at, reaches_all, all_rows, all_more}
-use Rattle.cif_replay.proofs.scanning.scans.Goals as goal
+use Rattle.plc_tables.proofs.ScanLemmas.{stop_at, more_at, reaches_all, all_rows, all_more}
+use Rattle.plc_tables.proofs.scanning.scans.Goals as goal
 
 pub loop-k-init : goal.loop-k-init
 loop-k-init c = (search rules, ([], (refl, search rules), search rules), search rules)

@@ -1,8 +1,8 @@
 use Rattle.std.proofs.Common.{rules, length, ap, ◌∙◌, subst, ◌≤◌}
 use Rattle.st_ast.specs.Interface.{is_output, numbers_of}
 use Rattle.st_ast.specs.declared.tree.Program.{Program}
-use Rattle.cif_replay.proofs.ScanLemmas.{outputs_step, outputs_all, outputs_number}
-use Rattle.cif_replay.proofs.scanning.outputs.Goals as goal
+use Rattle.plc_tables.proofs.ScanLemmas.{outputs_step, outputs_all, outputs_number}
+use Rattle.plc_tables.proofs.scanning.outputs.Goals as goal
 
 pub loop-k-preserved : goal.loop-k-preserved
 loop-k-preserved c =

@@ -11,7 +11,7 @@ use Rattle.st_ast.specs.View.{view}
 use Rattle.st_ast.specs.declared.tree.Program as rust
 use Rattle.plc_rows.specs.Told.{cells_of}
 use Rattle.plc_rows.specs.declared.row.Row.{Row}
-use Rattle.cif_replay.specs.Replaying.{ComesTo}
+use Rattle.plc_tables.specs.Scans.{ComesTo}
 
 -- ---- outputs
 

@@ -6,8 +6,8 @@ use Rattle.st_ast.specs.Values.{Memory}
 use Rattle.st_ast.specs.View.{view}
 use Rattle.plc_rows.specs.Told.{cells_of}
 use Rattle.plc_rows.specs.declared.row.Row.{Row}
-use Rattle.cif_replay.proofs.ScanLemmas.{Reaches}
-use Rattle.cif_replay.proofs.scanning.scans.Given as goal
+use Rattle.plc_tables.proofs.ScanLemmas.{Reaches}
+use Rattle.plc_tables.proofs.scanning.scans.Given as goal
 
 abbrev pub invariant-loop-k : goal.invariant-loop-k
 invariant-loop-k l = (l.machine.program ≡ l.program)
