@@ -15,7 +15,8 @@ use Rattle.cif_run.specs.declared.status.Status.TheVariants as status
 use Rattle.cif_run.specs.declared.ended.Ended.{Ended}
 use Rattle.cif_replay.specs.Refusals.{row_status_of}
 use Rattle.cif_replay.specs.Replaying.{AllEnd, IsTableOf, table_of}
-use Rattle.cif_replay.specs.Ends.{RowsEnds, ScanEnds}
+use Rattle.cif_replay.specs.Ends.{ScanEnds}
+use Rattle.cif_replay.specs.Replays.{RowsEnds}
 
 -- ---- rows
 

@@ -1,11 +1,10 @@
 -- What `replay` promises, from how its call came to its end, where the answer is the status of that end or want of memory.
-use Rattle.std.proofs.Common.{◌≡◌, ℕ, ◌<◌, ◌≤◌, ◌⊎◌, ℤ, List, length, Option, Some, refl, sym, ap, subst, ◌∙◌, inl, inr, arith}
-use Rattle.std.specs.Prelude.{IfSome, MatchOption}
+use Rattle.std.proofs.Common.{◌≡◌, ℕ, ◌<◌, ◌≤◌, ◌⊎◌, ℤ, List, length, Some, refl, subst}
 use Rattle.grammar.specs.Pieces.{Text}
 use Rattle.cif_io.specs.Faults.{Rose}
 use Rattle.cif_io.specs.Written.{grown}
 use Rattle.st_ast.specs.Tree.{Program}
-use Rattle.st_ast.specs.Exec.{Outcome, OutOfTurns}
+use Rattle.st_ast.specs.Exec.{OutOfTurns}
 use Rattle.st_ast.specs.Scan.{start_memory}
 use Rattle.st_ast.specs.ReadsAs.{ReadsAsProgram}
 use Rattle.st_scan.specs.Endings.{stopped}
@@ -13,227 +12,72 @@ use Rattle.st_scan.specs.declared.error.ScanErr.{ScanErr}
 use Rattle.st_scan.specs.declared.error.ScanErr.TheVariants as scan
 use Rattle.plc_rows.specs.Rows.{RowsOf}
 use Rattle.plc_rows.specs.declared.error.RowErr.{RowErr}
+use Rattle.plc_tables.proofs.EndingLaws.{comes_once, ended_stops_none, one_stop, stopped_stops}
 use Rattle.cif_run.specs.declared.status.Status.{Status}
 use Rattle.cif_run.specs.declared.status.Status.TheVariants as status
 use Rattle.cif_run.specs.declared.status.StRefusal.{StRefusal}
 use Rattle.cif_run.specs.declared.ended.Ended.{Ended}
-use Rattle.cif_run.specs.Groups.{group_of, IsUnlessMemory}
-use Rattle.cif_run.specs.Works.{Comes, Content, Failed, Holds, Input, IsLonger, Reading, Unread, Work, WroteIn, Writing}
-use Rattle.cif_run.proofs.CallLaws.{IsWhole, came_whole, ended_so, finished, written}
-use Rattle.cif_run.proofs.CallLaws as call
-use Rattle.plc_tables.proofs.EndingLaws.{comes_once, ended_stops_none, one_stop, stopped_stops, out_of_turns_stops}
+use Rattle.cif_run.specs.Groups.{IsUnlessMemory}
+use Rattle.cif_run.specs.Works.{Comes, Reading, Writing}
 use Rattle.cif_replay.specs.Words.{Replay}
-use Rattle.cif_replay.specs.Replaying.{AllEnd, AreRowsRefused, ComesTo, IsRowRefused, IsStRefused, IsTableFor, Reads, StopsAt, status_of_scan}
-use Rattle.cif_replay.specs.Replays.{OfBoth, OfFirst, ReplayEnds, replay_work, rows_input, rows_limit, st_input, st_limit}
-use Rattle.cif_replay.proofs.ReplayLemmas.{refused_reads_none, one_row_error, rows_not_refused, one_rows}
+use Rattle.cif_replay.specs.Replaying.{AllEnd, AreRowsRefused, ComesTo, IsRowRefused, IsStRefused, IsTableFor, Reads, StopsAt, status_of_scan, table_of}
+use Rattle.cif_replay.specs.Replays.{OfBoth, OfFirst, replay_work, rows_judge, rows_limit, st_limit}
+use Rattle.cif_replay.proofs.JudgedLaws.{Lawful}
+use Rattle.cif_replay.proofs.JudgedLaws as judged
+use Rattle.cif_replay.proofs.ReplayLemmas.{one_row_error, rows_not_refused, one_rows}
 
--- which of the ends it was
-ended_how : (content : Content) (x : Replay) (B : Type 0) (s : Status) (name : Text) → ReplayEnds content x s name
-    → ((why : StRefusal) → s ≡ status.StRefused why → OfFirst content x (λ st. IsStRefused st why) → B)
-    → ((why : RowErr) → s ≡ status.RowRefused why → OfBoth content x (λ st rows. AreRowsRefused st rows why) → B)
-    → ((k : ℕ) (f : ScanErr) → s ≡ status.ScanFault k f → (f ≡ scan.Budget → ⊥) → OfBoth content x (λ st rows. StopsAt st rows k (stopped f)) → B)
-    → ((k : ℕ) → s ≡ status.Budget k → OfBoth content x (λ st rows. StopsAt st rows k OutOfTurns) → B) → B
-ended_how content x B (status.StRefused why) name h a b c d = a why refl (h.0, h.1, h.2, h.3.0)
-ended_how content x B (status.RowRefused why) name h a b c d = b why refl h
-ended_how content x B (status.ScanFault k f) name h a b c d = c k f refl h.0 (h.1.0, h.1.1, h.1.2, h.1.3, h.1.4, h.1.5, h.1.6.0)
-ended_how content x B (status.Budget k) name h a b c d = d k refl h
-ended_how content x B _ name h a b c d = absurd h
+-- rows have one table, one first rule that they break, or one first scan that does not end
+lawful : Lawful rows_judge
+lawful = record {
+  one_rule = one_row_error;
+  not_stopped = λ p text why k f broken h. rows_not_refused p text h.0 why h.1 broken;
+  not_written = λ p text why out broken h. rows_not_refused p text h.0 why h.1 broken;
+  one_scan = λ p text i k f g h s.
+      let same = one_rows p text s.0 h.0 s.1 h.1 in
+      let once = comes_once p (start_memory p) h.0 i k (stopped f) (stopped g) h.2 (subst (λ (l : List (List ℤ)). ComesTo p (start_memory p) l k (stopped g)) same s.2) (stopped_stops f) (stopped_stops g) in
+      (once.0, one_stop f g once.1);
+  stopped_writes_none = λ p text k f out h w.
+      let same = one_rows p text w.0 h.0 w.1 h.1 in
+      ended_stops_none p (start_memory p) h.0 k (stopped f) (subst (λ (l : List (List ℤ)). AllEnd p l) same w.2) h.2 (stopped_stops f);
+}
 
 module _ (x : Replay) (c : Reading) (o : Writing) (e : Ended) (came : Comes (replay_work x c.content) c o e) (r : Status) (same : IsUnlessMemory r e.status) where
-  abbrev work : Work
-  work = replay_work x c.content
-
-  whole : IsWhole work
-  whole = record { parts = λ text h. h; never = λ s text h. h }
-
-  answer : (t : Status) → e.status ≡ t → IsUnlessMemory r t
-  answer = call.answers work c o e came r same
-
   pub replayed : r ≡ status.Done → (text : Text) × OfBoth c.content x (λ st rows. IsTableFor st rows text) × (o.new ≡ grown o.old text)
-  replayed q = written work c o e came r same q
+  replayed = judged.written_whole rows_judge x c o e came r same
 
   pub program_refused : (why : StRefusal) → r ≡ status.StRefused why → OfFirst c.content x (λ st. IsStRefused st why)
-  program_refused why q = let h = ended_so work c o e came r same (status.StRefused why) (λ z. cc) refl q in (h.0, h.1, h.2, h.3.0)
+  program_refused = judged.program_refused rows_judge x c o e came r same
 
   pub rows_refused : (why : RowErr) → r ≡ status.RowRefused why → OfBoth c.content x (λ st rows. AreRowsRefused st rows why)
-  rows_refused why q = ended_so work c o e came r same (status.RowRefused why) (λ z. cc) refl q
+  rows_refused = judged.rows_refused rows_judge x c o e came r same
 
   pub scan_fault : (k : ℕ) (f : ScanErr) → r ≡ status.ScanFault k f → (f ≡ scan.Budget → ⊥) × OfBoth c.content x (λ st rows. StopsAt st rows k (stopped f))
-  scan_fault k f q =
-      let h = ended_so work c o e came r same (status.ScanFault k f) (λ z. cc) refl q in
-      (h.0, (h.1.0, h.1.1, h.1.2, h.1.3, h.1.4, h.1.5, h.1.6.0))
+  scan_fault = judged.scan_fault rows_judge x c o e came r same
 
   pub budget : (k : ℕ) → r ≡ status.Budget k → OfBoth c.content x (λ st rows. StopsAt st rows k OutOfTurns)
-  budget k q = ended_so work c o e came r same (status.Budget k) (λ z. cc) refl q
-
-  -- ---- the program
+  budget = judged.budget rows_judge x c o e came r same
 
   module _ (st : Text) (told : c.content x.st ≡ Some st) (sure : Rose (c.faults x.st) (c.faults_after x.st) → ⊥) where
-    held : (b : Text) → Holds (c.content x.st) b → b ≡ st
-    held b h = subst (λ (y : Option Text). IfSome y (λ z. b ≡ z)) told h
-
-    -- what is so of the first file is so of this text
-    at_first : (P : Text → Type 0) → OfFirst c.content x P → (length st ≤ st_limit) × P st
-    at_first P h = (subst (λ b. length b ≤ st_limit) (held h.0 h.1) h.2, subst P (held h.0 h.1) h.3)
-
-    first_of : (P : Text → Text → Type 0) → OfBoth c.content x P → length st ≤ st_limit
-    first_of P h = subst (λ b. length b ≤ st_limit) (held h.0 h.2) h.4
-
-    long_first : (i : Input) → i ≡ st_input x → IsLonger c i → st_limit < length st
-    long_first i is h = subst (λ (y : Option Text). MatchOption y (st_limit < c.most_after x.st) (λ b. st_limit < length b)) told (subst (λ (j : Input). IsLonger c j) is h)
-
-    not_first : (i : Input) → i ≡ st_input x → Failed c i → ⊥
-    not_first i is h = sure (subst (λ (j : Input). Failed c j) is h)
-
     pub longer_program_is_too_big : st_limit < length st → IsUnlessMemory r (status.TooBig 1)
-    longer_program_is_too_big more =
-        came_whole work c o e came r same whole (IsUnlessMemory r (status.TooBig 1))
-        (λ k h. elim h.1 [ inl a ↦ absurd (not_first h.0 a h.3) | inr a ↦ not_short (at_first Reads a.1).0 ])
-        (λ k is h. elim h.1 [
-          | inl a ↦ answer (status.TooBig 1) (is ∙ ap (λ n. status.TooBig n) (sym h.2 ∙ ap (λ (i : Input). i.word) a))
-          | inr a ↦ not_short (at_first Reads a.1).0
-        ])
-        (λ h. ended_how c.content x (IsUnlessMemory r (status.TooBig 1)) e.status e.variable h
-        (λ why is g. not_short (at_first (λ b. IsStRefused b why) g).0)
-        (λ why is g. not_short (first_of (λ b us. AreRowsRefused b us why) g))
-        (λ k f is nb g. not_short (first_of (λ b us. StopsAt b us k (stopped f)) g))
-        (λ k is g. not_short (first_of (λ b us. StopsAt b us k OutOfTurns) g)))
-        (λ text h w. not_short (first_of (λ b us. IsTableFor b us text) h))
-        (λ m. inr m)
-      where
-        not_short : {B : Type 0} → length st ≤ st_limit → B
-        not_short short = absurd (omega (arith, short, more))
-
-    abbrev Refused : Type 0
-    Refused = ((why : StRefusal) × (r ≡ status.StRefused why)) ⊎ (r ≡ status.Memory)
+    longer_program_is_too_big = judged.longer_program_is_too_big rows_judge x c o e came r same st told sure
 
     pub other_program_is_refused : length st ≤ st_limit → ((p : Program) → ReadsAsProgram st p → ⊥)
         → ((why : StRefusal) × (r ≡ status.StRefused why)) ⊎ (r ≡ status.Memory)
-    other_program_is_refused short none =
-        came_whole work c o e came r same whole Refused
-        (λ k h. elim h.1 [ inl a ↦ absurd (not_first h.0 a h.3) | inr a ↦ absurd (let q = (at_first Reads a.1).1 in none q.0 q.1) ])
-        (λ k is h. elim h.1 [
-          | inl a ↦ let q = long_first h.0 a h.3 in absurd (omega (arith, q, short))
-          | inr a ↦ absurd (let q = (at_first Reads a.1).1 in none q.0 q.1)
-        ])
-        (λ h. ended_how c.content x Refused e.status e.variable h
-        (λ why is g. elim (answer (status.StRefused why) is) [ inl q ↦ inl (why, q) | inr q ↦ inr q ])
-        (λ why is g. absurd (read g.0 (held g.0 g.2) g.6.0 g.6.1))
-        (λ k f is nb g. absurd (read g.0 (held g.0 g.2) g.6.0 g.6.1))
-        (λ k is g. absurd (read g.0 (held g.0 g.2) g.6.0 g.6.1)))
-        (λ text h w. absurd (read h.0 (held h.0 h.2) h.6.0 h.6.1))
-        (λ m. inr m)
-      where
-        read : (b : Text) → b ≡ st → (p : Program) → ReadsAsProgram b p → ⊥
-        read b is p h = none p (subst (λ y. ReadsAsProgram y p) is h)
+    other_program_is_refused = judged.other_program_is_refused rows_judge x c o e came r same st told sure
 
-    -- ---- the rows and the scans
-
-    module _ (rows : Text) (told_rows : c.content x.rows ≡ Some rows) (sure_rows : Rose (c.faults x.rows) (c.faults_after x.rows) → ⊥)
-        (fits : length st ≤ st_limit) where
-      held_rows : (b : Text) → Holds (c.content x.rows) b → b ≡ rows
-      held_rows b h = subst (λ (y : Option Text). IfSome y (λ z. b ≡ z)) told_rows h
-
-      -- what is so of both files is so of these texts
-      at_both : (P : Text → Text → Type 0) → OfBoth c.content x P → (length rows ≤ rows_limit) × P st rows
-      at_both P h = (
-        subst (λ b. length b ≤ rows_limit) (held_rows h.1 h.3) h.5,
-        subst (λ b. P b rows) (held h.0 h.2) (subst (λ b. P h.0 b) (held_rows h.1 h.3) h.6),
-      )
-
-      long_second : (i : Input) → i ≡ rows_input x → IsLonger c i → rows_limit < length rows
-      long_second i is h =
-          subst (λ (y : Option Text). MatchOption y (rows_limit < c.most_after x.rows) (λ b. rows_limit < length b)) told_rows (subst (λ (j : Input). IsLonger c j) is h)
-
-      not_second : (i : Input) → i ≡ rows_input x → Failed c i → ⊥
-      not_second i is h = sure_rows (subst (λ (j : Input). Failed c j) is h)
-
-      no_file : (k : ℕ) → Unread work c k → ⊥
-      no_file k h = elim h.1 [ inl a ↦ not_first h.0 a h.3 | inr a ↦ not_second h.0 a.0 h.3 ]
-
+    module _ (rows : Text) (told_rows : c.content x.rows ≡ Some rows) (sure_rows : Rose (c.faults x.rows) (c.faults_after x.rows) → ⊥) (fits : length st ≤ st_limit) where
       pub longer_rows_are_too_big : Reads st → rows_limit < length rows → IsUnlessMemory r (status.TooBig 2)
-      longer_rows_are_too_big reads more =
-          came_whole work c o e came r same whole (IsUnlessMemory r (status.TooBig 2))
-          (λ k h. absurd (no_file k h))
-          (λ k is h. elim h.1 [
-            | inl a ↦ let q = long_first h.0 a h.3 in absurd (omega (arith, q, fits))
-            | inr a ↦ answer (status.TooBig 2) (is ∙ ap (λ n. status.TooBig n) (sym h.2 ∙ ap (λ (i : Input). i.word) a.0))
-          ])
-          (λ h. ended_how c.content x (IsUnlessMemory r (status.TooBig 2)) e.status e.variable h
-          (λ why is g. absurd (refused_reads_none st why (at_first (λ b. IsStRefused b why) g).1 reads.0 reads.1))
-          (λ why is g. not_short (at_both (λ b us. AreRowsRefused b us why) g).0)
-          (λ k f is nb g. not_short (at_both (λ b us. StopsAt b us k (stopped f)) g).0)
-          (λ k is g. not_short (at_both (λ b us. StopsAt b us k OutOfTurns) g).0))
-          (λ text h w. not_short (at_both (λ b us. IsTableFor b us text) h).0)
-          (λ m. inr m)
-        where
-          not_short : {B : Type 0} → length rows ≤ rows_limit → B
-          not_short short = absurd (omega (arith, short, more))
+      longer_rows_are_too_big = judged.longer_rows_are_too_big rows_judge x c o e came r same st told sure rows told_rows sure_rows fits
 
       module _ (short : length rows ≤ rows_limit) (p : Program) (reads : ReadsAsProgram st p) where
-        -- with files of which none fails or is too long, and a program that is read
-        both : {B : Type 0} → (r ≡ status.Memory → B)
-            → ((why : RowErr) → e.status ≡ status.RowRefused why → AreRowsRefused st rows why → B)
-            → ((k : ℕ) (f : ScanErr) → e.status ≡ status.ScanFault k f → (f ≡ scan.Budget → ⊥) → StopsAt st rows k (stopped f) → B)
-            → ((k : ℕ) → e.status ≡ status.Budget k → StopsAt st rows k OutOfTurns → B)
-            → ((text : Text) → IsTableFor st rows text → WroteIn work text o (group_of e.status) → B)
-            → B
-        both {B = B} m a b d t =
-            came_whole work c o e came r same whole B (λ k h. absurd (no_file k h))
-            (λ k is h. elim h.1 [
-              | inl q ↦ let z = long_first h.0 q h.3 in absurd (omega (arith, z, fits))
-              | inr q ↦ let z = long_second h.0 q.0 h.3 in absurd (omega (arith, z, short))
-            ])
-            (λ h. ended_how c.content x B e.status e.variable h
-            (λ why is g. absurd (refused_reads_none st why (at_first (λ y. IsStRefused y why) g).1 p reads))
-            (λ why is g. a why is (at_both (λ y us. AreRowsRefused y us why) g).1)
-            (λ k f is nb g. b k f is nb (at_both (λ y us. StopsAt y us k (stopped f)) g).1)
-            (λ k is g. d k is (at_both (λ y us. StopsAt y us k OutOfTurns) g).1))
-            (λ text h w. t text (at_both (λ y us. IsTableFor y us text) h).1 w)
-            m
-
-        -- what is said of the program that is read is said of this one
-        of_this : (P : Program → Type 0) → (q : Program) → ((q' : Program) → ReadsAsProgram st q' → q' ≡ q) → P q → P p
-        of_this P q one h = subst P (sym (one p reads)) h
-
-        not_both : (why : RowErr) → IsRowRefused p rows why → (q : Program) → ((q' : Program) → ReadsAsProgram st q' → q' ≡ q) → (us : List (List ℤ)) → RowsOf q.vars rows us → ⊥
-        not_both why broken q one us of = rows_not_refused p rows us why (of_this (λ z. RowsOf z.vars rows us) q one of) broken
-
         pub other_rows_are_refused : (why : RowErr) → IsRowRefused p rows why → IsUnlessMemory r (status.RowRefused why)
-        other_rows_are_refused why broken = both (λ m. inr m)
-            (λ other is h. answer (status.RowRefused why) (is ∙ ap (λ z. status.RowRefused z) (one_row_error p rows other why (of_this (λ z. IsRowRefused z rows other) h.0 h.3 h.2) broken)))
-            (λ k f is nb h. absurd (not_both why broken h.0 h.3 h.2.0 h.2.1))
-            (λ k is h. absurd (not_both why broken h.0 h.3 h.2.0 h.2.1))
-            (λ text h w. absurd (not_both why broken h.0 h.3 h.2.0 h.2.1))
+        other_rows_are_refused = judged.other_rows_are_refused rows_judge x c o e came r same st told sure rows told_rows sure_rows fits short p reads lawful
 
         module _ (rs : List (List ℤ)) (are : RowsOf p.vars rows rs) where
-          -- what a program and rows come to is said of these
-          these : (P : Program → List (List ℤ) → Type 0) → (q : Program) → ReadsAsProgram st q → ((q' : Program) → ReadsAsProgram st q' → q' ≡ q)
-              → (us : List (List ℤ)) → RowsOf q.vars rows us → P q us → P p rs
-          these P q rq one us ru h =
-              subst (λ (l : List (List ℤ)). P p l) (one_rows p rows us rs (of_this (λ z. RowsOf z.vars rows us) q one ru) are) (subst (λ (z : Program). P z us) (sym (one p reads)) h)
-
-          comes : (k : ℕ) (y : Outcome) → StopsAt st rows k y → ComesTo p (start_memory p) rs k y
-          comes k y h = these (λ q us. ComesTo q (start_memory q) us k y) h.0 h.1 h.3 h.2.0 h.2.1 h.2.2
-
           pub stopped_scan_is_told : (k : ℕ) (f : ScanErr) → ComesTo p (start_memory p) rs k (stopped f) → IsUnlessMemory r (status_of_scan k f)
-          stopped_scan_is_told k f so = both (λ m. inr m)
-              (λ why is h. absurd (rows_not_refused p rows rs why are (of_this (λ z. IsRowRefused z rows why) h.0 h.3 h.2)))
-              (λ j g is nb h. let q = comes_once p (start_memory p) rs j k (stopped g) (stopped f) (comes j (stopped g) h) so (stopped_stops g) (stopped_stops f) in
-              told_as j k g f q.0 (one_stop g f q.1) nb is)
-              (λ j is h. let q = comes_once p (start_memory p) rs j k OutOfTurns (stopped f) (comes j OutOfTurns h) so out_of_turns_stops (stopped_stops f) in
-              answer (status_of_scan k f) (is ∙ ap (λ n. status.Budget n) q.0 ∙ ap (λ z. status_of_scan k z) (one_stop scan.Budget f q.1)))
-              (λ text h w. absurd (ended_stops_none p (start_memory p) rs k (stopped f) (these AllEnd h.0 h.1 h.3 h.2.0 h.2.1 h.2.2) so (stopped_stops f)))
-            where
-              told_as : (j k : ℕ) (g f : ScanErr) → j ≡ k → g ≡ f → (g ≡ scan.Budget → ⊥) → e.status ≡ status.ScanFault j g → IsUnlessMemory r (status_of_scan k f)
-              told_as j k scan.Overflow f i q nb is = answer (status_of_scan k f) (is ∙ ap (λ n. status.ScanFault n scan.Overflow) i ∙ ap (λ z. status_of_scan k z) q)
-              told_as j k scan.ZeroDivide f i q nb is = answer (status_of_scan k f) (is ∙ ap (λ n. status.ScanFault n scan.ZeroDivide) i ∙ ap (λ z. status_of_scan k z) q)
-              told_as j k (scan.SubrangeLeft v z) f i q nb is = answer (status_of_scan k f) (is ∙ ap (λ n. status.ScanFault n (scan.SubrangeLeft v z)) i ∙ ap (λ y. status_of_scan k y) q)
-              told_as j k scan.Budget f i q nb is = absurd (nb refl)
+          stopped_scan_is_told k f so =
+              judged.stopped_scan_is_told rows_judge x c o e came r same st told sure rows told_rows sure_rows fits short p reads lawful k f (rs, are, so)
 
           pub replay_is_done : (Rose o.faults o.faults_after → ⊥) → AllEnd p rs → IsUnlessMemory r status.Done
-          replay_is_done still all = both (λ m. inr m)
-              (λ why is h. absurd (rows_not_refused p rows rs why are (of_this (λ z. IsRowRefused z rows why) h.0 h.3 h.2)))
-              (λ j f is nb h. absurd (ended_stops_none p (start_memory p) rs j (stopped f) all (comes j (stopped f) h) (stopped_stops f)))
-              (λ j is h. absurd (ended_stops_none p (start_memory p) rs j OutOfTurns all (comes j OutOfTurns h) out_of_turns_stops))
-              (λ text h w. finished work c o e came r same still whole.never text e.status refl w)
+          replay_is_done still all =
+              judged.rows_are_done rows_judge x c o e came r same st told sure rows told_rows sure_rows fits short p reads lawful still (table_of p rs) (rs, are, all, refl)

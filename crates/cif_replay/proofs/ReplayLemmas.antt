@@ -1,5 +1,5 @@
 -- What a replay comes to is one thing: its answers exclude one another.
-use Rattle.std.proofs.Common.{◌≡◌, ℕ, ◌<◌, ◌≤◌, ◌^◌, ℤ, List, [], length, Some, None, Result, Ok, Err, IfOk, IfErr, refl, sym, ap, subst, ◌∙◌, arith}
+use Rattle.std.proofs.Common.{◌≡◌, ℕ, ◌<◌, ◌≤◌, ◌^◌, ℤ, List, [], length, Option, Some, None, Result, Ok, Err, IfOk, IfErr, refl, sym, ap, subst, ◌∙◌, arith}
 use Rattle.grammar.specs.Pieces.{Text}
 use Rattle.st_ast.specs.Tree.{Program}
 use Rattle.st_ast.specs.Checks.{CheckFault, check_faults, stms_count}
@@ -14,6 +14,7 @@ use Rattle.st_check.specs.Told.{first, IsFirst}
 use Rattle.st_check.specs.declared.error.StCheckErr.{StCheckErr}
 use Rattle.st_check.specs.declared.error.StCheckErr.TheVariants as check
 use Rattle.plc_rows.specs.Rows.{RowFault, header, cell, row_length, too_many_rows, case_boundary, first_row_fault, RowsOf}
+use Rattle.plc_rows.specs.Told.{Tells}
 use Rattle.plc_rows.specs.declared.error.RowErr.{RowErr}
 use Rattle.plc_rows.specs.declared.error.RowErr.TheVariants as row
 use Rattle.cif_run.specs.declared.status.StRefusal.{StRefusal}
@@ -75,26 +76,30 @@ error_of (row_length r) = row.RowLength r
 error_of (too_many_rows n) = row.TooManyRows n
 error_of (case_boundary r) = row.CaseBoundary r
 
-fault_told : (p : Program) (text : Text) (e : RowErr) → IsRowRefused p text e → (f : RowFault) × (first_row_fault p.vars text ≡ Some f) × (e ≡ error_of f)
-fault_told p text (row.Header c) h = (header c, h.1, refl)
-fault_told p text (row.Cell r c) h = (cell r c, h.1, refl)
-fault_told p text (row.RowLength r) h = (row_length r, h.1, refl)
-fault_told p text (row.TooManyRows n) h = (too_many_rows n, h.1, refl)
-fault_told p text (row.CaseBoundary r) h = (case_boundary r, h.1, refl)
-fault_told p text row.Memory h = absurd (h.0 refl)
+-- what an error tells that is no want of memory
+pub fault_told : (fault : Option RowFault) (e : RowErr) → (e ≡ row.Memory → ⊥) × Tells fault e → (f : RowFault) × (fault ≡ Some f) × (e ≡ error_of f)
+fault_told fault (row.Header c) h = (header c, h.1, refl)
+fault_told fault (row.Cell r c) h = (cell r c, h.1, refl)
+fault_told fault (row.RowLength r) h = (row_length r, h.1, refl)
+fault_told fault (row.TooManyRows n) h = (too_many_rows n, h.1, refl)
+fault_told fault (row.CaseBoundary r) h = (case_boundary r, h.1, refl)
+fault_told fault row.Memory h = absurd (h.0 refl)
 
 -- one rule is the first that is broken
-pub one_row_error : (p : Program) (text : Text) (a b : RowErr) → IsRowRefused p text a → IsRowRefused p text b → a ≡ b
-one_row_error p text a b h g =
-    let x = fault_told p text a h in
-    let y = fault_told p text b g in
+pub one_error : (fault : Option RowFault) (a b : RowErr) → (a ≡ row.Memory → ⊥) × Tells fault a → (b ≡ row.Memory → ⊥) × Tells fault b → a ≡ b
+one_error fault a b h g =
+    let x = fault_told fault a h in
+    let y = fault_told fault b g in
     let same : x.0 ≡ y.0 = cc in
     x.2 ∙ ap error_of same ∙ sym y.2
+
+pub one_row_error : (p : Program) (text : Text) (a b : RowErr) → IsRowRefused p text a → IsRowRefused p text b → a ≡ b
+one_row_error p text a b h g = one_error (first_row_fault p.vars text) a b h g
 
 -- rows break no rule
 pub rows_not_refused : (p : Program) (text : Text) (rs : List (List ℤ)) (e : RowErr) → RowsOf p.vars text rs → IsRowRefused p text e → ⊥
 unfolding RowsOf
-rows_not_refused p text rs e of h = let x = fault_told p text e h in let none = of.0 in absurd cc
+rows_not_refused p text rs e of h = let x = fault_told (first_row_fault p.vars text) e h in let none = of.0 in absurd cc
 
 pub one_rows : (p : Program) (text : Text) (a b : List (List ℤ)) → RowsOf p.vars text a → RowsOf p.vars text b → a ≡ b
 unfolding RowsOf

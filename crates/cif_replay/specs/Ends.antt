@@ -11,7 +11,7 @@ use Rattle.st_scan.specs.declared.error.ScanErr.TheVariants as scan
 use Rattle.cif_run.specs.declared.status.Status.{Status}
 use Rattle.cif_run.specs.declared.status.Status.TheVariants as status
 use Rattle.cif_replay.specs.Told.{variable_of}
-use Rattle.cif_replay.specs.Replaying.{ComesTo, IsRowRefused, IsStRefused, Reaches, name_at}
+use Rattle.cif_replay.specs.Replaying.{ComesTo, IsStRefused, name_at}
 
 -- a text is no program
 abbrev pub StEnds : Text → Status → Type 0
@@ -25,14 +25,6 @@ ScanEnds p rows (status.ScanFault k e) = (e ≡ scan.Budget → ⊥) × ComesTo 
 ScanEnds p rows (status.Budget k) = ComesTo p (start_memory p) rows k OutOfTurns
 ScanEnds p rows status.Memory = Unit {0}
 ScanEnds p rows _ = ⊥
-
--- there is no table of the scans over a text of rows
-abbrev pub RowsEnds : Program → Text → Status → Type 0
-RowsEnds p rows (status.RowRefused e) = IsRowRefused p rows e
-RowsEnds p rows (status.ScanFault k e) = (e ≡ scan.Budget → ⊥) × Reaches p rows k (stopped e)
-RowsEnds p rows (status.Budget k) = Reaches p rows k OutOfTurns
-RowsEnds p rows status.Memory = Unit {0}
-RowsEnds p rows _ = ⊥
 
 -- the name is that of the variable that the status tells of
 abbrev pub IsNamed : Program → Status → Text → Type 0

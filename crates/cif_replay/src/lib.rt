@@ -8,4 +8,6 @@ mod tables;
 mod words;
 
 pub use command::replay;
+pub use programs::program_of;
+pub use tables::{row_status, scan_ended};
 pub use words::{Replay, read_words};

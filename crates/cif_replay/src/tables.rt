@@ -5,8 +5,9 @@ ghost use Rattle.st_ast.specs.View.{view};
 ghost use Rattle.plc_rows.specs.Told.{cells_of};
 ghost use Rattle.cif_run.specs.Groups.{IsUnlessMemory};
 ghost use Rattle.cif_replay.specs.Told.{variable_of};
-ghost use Rattle.cif_replay.specs.Ends.{IsNamed, RowsEnds, ScanEnds};
+ghost use Rattle.cif_replay.specs.Ends.{IsNamed, ScanEnds};
 ghost use Rattle.cif_replay.specs.Refusals.{row_status_of};
+ghost use Rattle.cif_replay.specs.Replays.{RowsEnds};
 ghost use Rattle.cif_replay.specs.Replaying.{AllEnd, IsTableOf, name_at, status_of_scan, table_of};
 
 use crate::programs::name_of;
@@ -19,7 +20,7 @@ use st_scan::ScanErr;
 use std::alloc::Global;
 
 /// How a call ends whose rows are refused.
-fn row_status(error: RowErr) -> Status
+pub fn row_status(error: RowErr) -> Status
     ensures { result ≡ row_status_of error }
 {
     match error {
@@ -29,7 +30,7 @@ fn row_status(error: RowErr) -> Status
 }
 
 /// How a call ends that a scan stops, of a program with these variables.
-fn scan_ended(alloc: Global, vars: &[StVar], row: u32, error: ScanErr) -> Ended
+pub fn scan_ended(alloc: Global, vars: &[StVar], row: u32, error: ScanErr) -> Ended
     ensures status { IsUnlessMemory result.status (status_of_scan row error) }
     ensures named { (k : ℕ) → variable_of result.status ≡ Some k → result.variable ≡ name_at vars.now k }
 {
