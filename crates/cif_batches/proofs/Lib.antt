@@ -1,0 +1,4 @@
+pub mod WordLemmas
+pub mod RowNumbers
+pub mod TableLemmas
+pub mod BatchLaws
