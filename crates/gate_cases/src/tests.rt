@@ -1,0 +1,117 @@
+//! What no clause says of `batch`, and its answer for several numbers of workers.
+
+ghost use Rattle.std.specs.Prelude.{◌≤◌, length};
+
+use crate::both::Both;
+use cif_base::Text;
+use cif_batch::{CaseErr, Gate, NoGate, batch};
+use cif_replay::program_of;
+use plc_rows::read_cases;
+use st_scan::ScanErr;
+use std::alloc::Global;
+use std::thread::Threads;
+
+/// A program that shows its input; its output takes no more than 3.
+const PROGRAM: &[u8] =
+    b"PROGRAM p VAR_INPUT a : LINT (0..9); END_VAR VAR_OUTPUT y : LINT (0..3); END_VAR y := a; END_PROGRAM";
+
+/// What `batch` returns for a text of cases.
+fn answer<R: Threads + Sync, G: Gate + Sync>(
+    rt: &R,
+    alloc: Global,
+    text: &[u8],
+    workers: u32,
+    gate: &G,
+) -> Result<Vec<Text>, CaseErr>
+    requires workers { (1 ≤ workers) × (workers ≤ 64) }
+    requires size { length text.now ≤ 67108864 }
+{
+    let Ok(program) = program_of(alloc, PROGRAM) else {
+        return Err(CaseErr::Memory);
+    };
+    let Ok(cases) = read_cases(alloc, text, &program) else {
+        return Err(CaseErr::Memory);
+    };
+    batch(rt, alloc, &program, &cases, workers, gate)
+}
+
+#[test]
+fn two_cases_are_at_work_at_once(rt: HostRuntime) -> Result<(), std::test::Fail> {
+    let gate = Both::new();
+    let texts = answer(&rt, rt.alloc(), b"scan,a\n1,1\n1,3\n", 2, &gate)?;
+    assert!(rt; gate.is_passed());
+    assert_eq!(rt; texts.len(), 2);
+    assert_eq!(rt; texts[0].as_slice(), b"scan,y\n1,1\n".as_slice());
+    assert_eq!(rt; texts[1].as_slice(), b"scan,y\n1,3\n".as_slice());
+    Ok(())
+}
+
+#[test]
+fn one_worker_does_not_pass_the_gate(rt: HostRuntime) -> Result<(), std::test::Fail> {
+    let gate = Both::new();
+    let texts = answer(&rt, rt.alloc(), b"scan,a\n1,1\n1,3\n", 1, &gate)?;
+    assert!(rt; !gate.is_passed());
+    assert_eq!(rt; texts.len(), 2);
+    Ok(())
+}
+
+/// Ten cases, of one row to ten.
+const TEN: &[u8] =
+    b"scan,a\n1,0\n1,1\n2,2\n1,3\n2,0\n3,1\n1,2\n2,3\n3,0\n4,1\n1,2\n2,3\n3,0\n4,1\n5,2\n1,3\n2,3\n3,3\n4,3\n5,3\n6,3\n1,0\n2,0\n3,0\n4,0\n5,0\n6,0\n7,0\n1,1\n2,0\n3,1\n4,0\n5,1\n6,0\n7,1\n8,0\n1,2\n2,2\n3,2\n4,1\n5,1\n6,1\n7,0\n8,0\n9,0\n1,3\n2,2\n3,1\n4,0\n5,3\n6,2\n7,1\n8,0\n9,3\n10,2\n";
+
+/// Their tables.
+const TABLES: [&[u8]; 10] = [
+    b"scan,y\n1,0\n",
+    b"scan,y\n1,1\n2,2\n",
+    b"scan,y\n1,3\n2,0\n3,1\n",
+    b"scan,y\n1,2\n2,3\n3,0\n4,1\n",
+    b"scan,y\n1,2\n2,3\n3,0\n4,1\n5,2\n",
+    b"scan,y\n1,3\n2,3\n3,3\n4,3\n5,3\n6,3\n",
+    b"scan,y\n1,0\n2,0\n3,0\n4,0\n5,0\n6,0\n7,0\n",
+    b"scan,y\n1,1\n2,0\n3,1\n4,0\n5,1\n6,0\n7,1\n8,0\n",
+    b"scan,y\n1,2\n2,2\n3,2\n4,1\n5,1\n6,1\n7,0\n8,0\n9,0\n",
+    b"scan,y\n1,3\n2,2\n3,1\n4,0\n5,3\n6,2\n7,1\n8,0\n9,3\n10,2\n",
+];
+
+#[test]
+fn each_number_of_workers_gives_one_list(rt: HostRuntime) -> Result<(), std::test::Fail> {
+    for workers in [1, 2, 3, 64] {
+        let texts = answer(&rt, rt.alloc(), TEN, workers, &NoGate)?;
+        assert_eq!(rt; texts.len(), 10);
+        for (text, table) in texts.iter().zip(TABLES) {
+            assert_eq!(rt; text.as_slice(), table);
+        }
+    }
+    Ok(())
+}
+
+#[test]
+fn each_number_of_workers_tells_the_first_case(rt: HostRuntime) -> Result<(), std::test::Fail> {
+    for workers in [1, 2, 3, 64] {
+        let text: &[u8] = b"scan,a\n1,1\n1,2\n2,5\n1,9\n1,0\n";
+        let told = match answer(&rt, rt.alloc(), text, workers, &NoGate) {
+            Ok(_) => CaseErr::Memory,
+            Err(error) => error,
+        };
+        let fault = ScanErr::SubrangeLeft {
+            variable: 1,
+            value: 5,
+        };
+        assert_eq!(rt;
+            told,
+            CaseErr::Fault {
+                case: 2,
+                row: 2,
+                error: fault
+            }
+        );
+    }
+    Ok(())
+}
+
+#[test]
+fn no_case_has_no_table(rt: HostRuntime) -> Result<(), std::test::Fail> {
+    let texts = answer(&rt, rt.alloc(), b"scan,a\n", 4, &NoGate)?;
+    assert!(rt; texts.is_empty());
+    Ok(())
+}
