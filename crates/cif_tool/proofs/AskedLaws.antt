@@ -7,9 +7,10 @@ use Rattle.cif_run.proofs.CallLaws.{IsWithin}
 use Rattle.cif_check.proofs.WordLemmas.{check_named, one_check}
 use Rattle.cif_generate.proofs.WordLemmas.{generate_named, one_generate}
 use Rattle.cif_replay.proofs.WordLemmas.{replay_named, one_replay}
+use Rattle.cif_batches.proofs.WordLemmas.{batch_named, one_batch}
 use Rattle.cif_simulate.proofs.WordLemmas.{simulate_named, one_simulate}
 use Rattle.cif_why.proofs.WordLemmas.{why_named, one_why}
-use Rattle.cif_tool.specs.Commands.{Command, check, generate, replay, simulate, why, name_of, command_of, Request, IsFor, work_of}
+use Rattle.cif_tool.specs.Commands.{Command, check, generate, replay, batch, simulate, why, name_of, command_of, Request, IsFor, work_of}
 use Rattle.cif_tool.specs.Asks.{Asked, IsAsked, tool_work}
 
 -- each name is that of one command
@@ -17,6 +18,7 @@ names_differ : (k : Command) → command_of (name_of k) ≡ Some k
 names_differ check = refl
 names_differ generate = refl
 names_differ replay = refl
+names_differ batch = refl
 names_differ simulate = refl
 names_differ why = refl
 
@@ -25,6 +27,7 @@ named : (k : Command) (words : List Text) (q : Request k) → IsFor k words q �
 named check words q h = check_named words q h
 named generate words q h = generate_named words q h
 named replay words q h = replay_named words q h
+named batch words q h = batch_named words q h
 named simulate words q h = simulate_named words q h
 named why words q h = why_named words q h
 
@@ -32,6 +35,7 @@ one_request : (k : Command) (words : List Text) (p q : Request k) → IsFor k wo
 one_request check words p q h g = one_check words p q h g
 one_request generate words p q h g = one_generate words p q h g
 one_request replay words p q h g = one_replay words p q h g
+one_request batch words p q h g = one_batch words p q h g
 one_request simulate words p q h g = one_simulate words p q h g
 one_request why words p q h g = one_why words p q h g
 

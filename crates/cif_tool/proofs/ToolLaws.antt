@@ -7,6 +7,8 @@ use Rattle.sim_shown.specs.Sources.{names_of}
 use Rattle.cif_io.specs.Faults.{Rose}
 use Rattle.cif_io.specs.Written.{grown}
 use Rattle.st_ast.specs.Exec.{OutOfTurns}
+use Rattle.st_ast.specs.ReadsAs.{ReadsAsProgram}
+use Rattle.st_ast.specs.Tree.{Program}
 use Rattle.st_scan.specs.Endings.{stopped}
 use Rattle.st_scan.specs.declared.error.ScanErr.{ScanErr}
 use Rattle.st_scan.specs.declared.error.ScanErr.TheVariants as scan
@@ -39,8 +41,12 @@ use Rattle.cif_generate.specs.Meaning.{AreClassed, IsTextOf}
 use Rattle.cif_generate.specs.Generates.{generate_work, is_unclassed}
 use Rattle.cif_generate.proofs.GenerateLaws as generates
 use Rattle.cif_replay.specs.Words.{Replay, IsReplay}
-use Rattle.cif_replay.specs.Replaying.{AreRowsRefused, IsStRefused, StopsAt}
-use Rattle.cif_replay.specs.Replays.{OfBoth, OfFirst}
+use Rattle.cif_replay.specs.Judged.{Judge, OfFirst, judged_work, rows_limit, st_limit}
+use Rattle.cif_replay.specs.Replaying.{IsStRefused, Reads}
+use Rattle.cif_replay.specs.Replays.{rows_judge}
+use Rattle.cif_replay.proofs.JudgedLaws as judged
+use Rattle.cif_batches.specs.Words.{Batch, IsBatch}
+use Rattle.cif_batches.specs.Batches.{AsksProgram, cases_judge, files_of}
 use Rattle.cif_simulate.specs.Words.{Simulate, Which, by_script, by_first, IsSimulate}
 use Rattle.cif_simulate.specs.Scripts.{OfScript, cause, script_limit}
 use Rattle.cif_simulate.specs.Simulates.{IsFirstText, IsPartOfRun, halts_by, simulate_work}
@@ -50,8 +56,8 @@ use Rattle.cif_simulate.proofs.OverScript.{IsOverScript}
 use Rattle.cif_why.specs.Words.{Why, IsWhy}
 use Rattle.cif_why.specs.Explains.{LacksEvent, why_work}
 use Rattle.cif_why.proofs.ByEvent as event
-use Rattle.cif_tool.specs.Commands.{Command, check, generate, replay, simulate, why, Request, IsFor, work_of, script_in, script_of, source_of}
-use Rattle.cif_tool.specs.Asks.{Asked, AsksNoScript, AsksScript, AsksSource, AsksUnknown, Generated, IsAsked, NamesScript, NamesSource, NoCommand, Quiet, tool_work}
+use Rattle.cif_tool.specs.Commands.{Command, check, generate, replay, batch, simulate, why, Request, IsFor, work_of, script_in, script_of, source_of}
+use Rattle.cif_tool.specs.Asks.{Asked, AsksNoScript, AsksScript, AsksSource, AsksUnknown, Generated, IsAsked, NamesScript, NamesSource, NoCommand, Quiet, RowsAreRefused, ScanStopsAt, tool_work}
 use Rattle.cif_tool.proofs.AskedLaws.{of_tool, within_tool}
 
 -- no command ends with Usage
@@ -59,6 +65,7 @@ no_usage : (k : Command) (q : Request k) (content : Content) (name : Text) → (
 no_usage check q content name h = elim h [ inl x ↦ x | inr x ↦ x.2 ]
 no_usage generate q content name h = elim h [ inl x ↦ x | inr x ↦ x.2 ]
 no_usage replay q content name h = h
+no_usage batch q content name h = h
 no_usage simulate q content name h = h
 no_usage why q content name h = elim h [ inl x ↦ x | inr x ↦ let other = x.0 in cc ]
 
@@ -69,13 +76,14 @@ not_usage k q c o e came is =
 
 -- words that ask no command for anything ask for nothing
 pub no_command_of : (words : List Text) → ((k : Check) → IsCheck words k → ⊥) → ((g : Generate) → IsGenerate words g → ⊥) → ((x : Replay) → IsReplay words x → ⊥)
-    → ((s : Simulate) → IsSimulate words s → ⊥) → ((y : Why) → IsWhy words y → ⊥) → NoCommand words
-no_command_of words no_check no_generate no_replay no_simulate no_why asked h = go asked.command asked.request h
+    → ((b : Batch) → IsBatch words b → ⊥) → ((s : Simulate) → IsSimulate words s → ⊥) → ((y : Why) → IsWhy words y → ⊥) → NoCommand words
+no_command_of words no_check no_generate no_replay no_batch no_simulate no_why asked h = go asked.command asked.request h
   where
     go : (k : Command) (q : Request k) → IsFor k words q → ⊥
     go check q is = no_check q is
     go generate q is = no_generate q is
     go replay q is = no_replay q is
+    go batch q is = no_batch q is
     go simulate q is = no_simulate q is
     go why q is = no_why q is
 
@@ -101,6 +109,7 @@ over_of content generate q file at =
     let same : q.file ≡ file = cc in
     subst (λ f. IsOverSource (generate_work q content) content f) same (accept.over_source content q.file (IsTextOf q.unc q.con) is_unclassed)
 over_of content replay q file at = absurd cc
+over_of content batch q file at = absurd cc
 over_of content simulate q file at = let same : q.file ≡ file = cc in subst (λ f. IsOverSource (simulate_work q content) content f) same (is_over_source q content)
 over_of content why q file at =
     let same : q.file ≡ file = cc in
@@ -116,6 +125,7 @@ over_both : (content : Content) (k : Command) (q : Request k) (file script : Tex
 over_both content check q file script at with_script = absurd cc
 over_both content generate q file script at with_script = absurd cc
 over_both content replay q file script at with_script = absurd cc
+over_both content batch q file script at with_script = absurd cc
 over_both content simulate q file script at with_script =
     let same : q.file ≡ file = cc in
     subst (λ f. IsOverScript (simulate_work q content) content f script tells_nothing) same (by q.which refl)
@@ -137,6 +147,7 @@ knows : (words : List Text) (k : Command) (q : Request k) → IsFor k words q �
 knows words check q is t known s h = h
 knows words generate q is t known s h = h
 knows words replay q is t known s h = h
+knows words batch q is t known s h = h
 knows words simulate q is t known s h = h
 knows words why q is t known s h = known (q, is, h.1)
 
@@ -206,6 +217,7 @@ module _ (words : List Text) (c : Reading) (o : Writing) (e : Ended) (came : Com
         silent = λ t are. classed_silent t (are q is);
       }
       go replay q is at = absurd cc
+      go batch q is at = absurd cc
       go simulate q is at = by q.which refl
         where
           by : (w : Which) → q.which ≡ w → Over file
@@ -228,6 +240,7 @@ module _ (words : List Text) (c : Reading) (o : Writing) (e : Ended) (came : Com
       go check q is h = elim h [ inl x ↦ (q.file, (record { command = check; request = q }, is, refl), (x.0, x.1, x.2, refused_of x.0 reason e.variable x.3)) | inr x ↦ absurd x.2 ]
       go generate q is h = elim h [ inl x ↦ (q.file, (record { command = generate; request = q }, is, refl), (x.0, x.1, x.2, refused_of x.0 reason e.variable x.3)) | inr x ↦ absurd x.2 ]
       go replay q is h = absurd h
+      go batch q is h = absurd h
       go simulate q is h = (q.file, (record { command = simulate; request = q }, is, refl), (h.0, h.1, h.2, refused_of h.0 reason e.variable h.3))
       go why q is h = elim h [
         | inl x ↦ (q.file, (record { command = why; request = q }, is, refl), (x.0, x.1, x.2, refused_of x.0 reason e.variable x.3))
@@ -242,6 +255,7 @@ module _ (words : List Text) (c : Reading) (o : Writing) (e : Ended) (came : Com
       go check q is h = elim h [ inl x ↦ (q.file, (record { command = check; request = q }, is, refl), x) | inr x ↦ absurd x.2 ]
       go generate q is h = elim h [ inl x ↦ (q.file, (record { command = generate; request = q }, is, refl), x) | inr x ↦ absurd x.2 ]
       go replay q is h = absurd h
+      go batch q is h = absurd h
       go simulate q is h = (q.file, (record { command = simulate; request = q }, is, refl), h)
       go why q is h = elim h [ inl x ↦ (q.file, (record { command = why; request = q }, is, refl), x) | inr x ↦ let other = x.0 in absurd cc ]
 
@@ -254,6 +268,7 @@ module _ (words : List Text) (c : Reading) (o : Writing) (e : Ended) (came : Com
       go check q is h = elim h [ inl x ↦ absurd x | inr x ↦ absurd x.2 ]
       go generate q is h = elim h [ inl x ↦ absurd x | inr x ↦ (q, is, (x.0, x.1, x.2.0)) ]
       go replay q is h = absurd h
+      go batch q is h = absurd h
       go simulate q is h = absurd h
       go why q is h = elim h [ inl x ↦ absurd x | inr x ↦ let other = x.0 in absurd cc ]
 
@@ -334,6 +349,7 @@ module _ (words : List Text) (c : Reading) (o : Writing) (e : Ended) (came : Com
       go check q is text h = absurd h
       go generate q is text h = absurd h
       go replay q is text h = absurd h
+      go batch q is text h = absurd h
       go simulate q is text h = by q.which refl
         where
           by : (w : Which) → q.which ≡ w
@@ -362,52 +378,74 @@ module _ (words : List Text) (c : Reading) (o : Writing) (e : Ended) (came : Com
       go check q is h = elim h [ inl x ↦ absurd x | inr x ↦ absurd x.2 ]
       go generate q is h = elim h [ inl x ↦ absurd x | inr x ↦ absurd x.2 ]
       go replay q is h = absurd h
+      go batch q is h = absurd h
       go simulate q is h = absurd h
       go why q is h = elim h [ inl x ↦ absurd x | inr x ↦ (q, is, x.1) ]
 
-  -- ---- a program and rows
+  -- ---- a program, and rows or cases
 
-  pub program_refused : (reason : StRefusal) → r ≡ status.StRefused reason → (x : Replay) × IsReplay words x × OfFirst c.content x (λ st. IsStRefused st reason)
+  -- what became of a command over a program and a second file, whichever way it judges that file
+  of_judge : (x : Replay) → AsksProgram words x → (j : Judge) × Comes (judged_work j x c.content) c o e
+  of_judge x (inl is) = (rows_judge, of_command replay x is)
+  of_judge x (inr (b, is, at)) = (cases_judge, subst (λ y. Comes (judged_work cases_judge y c.content) c o e) at (of_command batch b is))
+
+  pub program_refused : (reason : StRefusal) → r ≡ status.StRefused reason → (x : Replay) × AsksProgram words x × OfFirst c.content x (λ st. IsStRefused st reason)
   program_refused reason z = let h = ended (status.StRefused reason) (λ x. cc) refl (λ x. cc) z in go h.0.command h.0.request h.1 h.2
     where
       go : (k : Command) (q : Request k) → IsFor k words q → (work_of k q c.content).ends (status.StRefused reason) e.variable
-          → (x : Replay) × IsReplay words x × OfFirst c.content x (λ st. IsStRefused st reason)
-      go replay q is h = (q, is, (h.0, h.1, h.2, h.3.0))
+          → (x : Replay) × AsksProgram words x × OfFirst c.content x (λ st. IsStRefused st reason)
+      go replay q is h = (q, inl is, (h.0, h.1, h.2, h.3.0))
+      go batch q is h = (files_of q, inr (q, is, refl), (h.0, h.1, h.2, h.3.0))
       go check q is h = elim h [ inl x ↦ absurd x | inr x ↦ absurd x.2 ]
       go generate q is h = elim h [ inl x ↦ absurd x | inr x ↦ absurd x.2 ]
       go simulate q is h = absurd h
       go why q is h = elim h [ inl x ↦ absurd x | inr x ↦ let other = x.0 in absurd cc ]
 
-  pub rows_refused : (reason : RowErr) → r ≡ status.RowRefused reason → (x : Replay) × IsReplay words x × OfBoth c.content x (λ st rows. AreRowsRefused st rows reason)
+  pub rows_refused : (reason : RowErr) → r ≡ status.RowRefused reason → RowsAreRefused words c.content reason
   rows_refused reason z = let h = ended (status.RowRefused reason) (λ x. cc) refl (λ x. cc) z in go h.0.command h.0.request h.1 h.2
     where
       go : (k : Command) (q : Request k) → IsFor k words q → (work_of k q c.content).ends (status.RowRefused reason) e.variable
-          → (x : Replay) × IsReplay words x × OfBoth c.content x (λ st rows. AreRowsRefused st rows reason)
-      go replay q is h = (q, is, h)
+          → RowsAreRefused words c.content reason
+      go replay q is h = inl (q, is, h)
+      go batch q is h = inr (q, is, h)
       go check q is h = elim h [ inl x ↦ absurd x | inr x ↦ absurd x.2 ]
       go generate q is h = elim h [ inl x ↦ absurd x | inr x ↦ absurd x.2 ]
       go simulate q is h = absurd h
       go why q is h = elim h [ inl x ↦ absurd x | inr x ↦ let other = x.0 in absurd cc ]
 
   pub scan_fault : (k : ℕ) (f : ScanErr) → r ≡ status.ScanFault k f
-      → (x : Replay) × IsReplay words x × (f ≡ scan.Budget → ⊥) × OfBoth c.content x (λ st rows. StopsAt st rows k (stopped f))
+      → (f ≡ scan.Budget → ⊥) × ScanStopsAt words c.content k (stopped f)
   scan_fault k f z = let h = ended (status.ScanFault k f) (λ x. cc) refl (λ x. cc) z in go h.0.command h.0.request h.1 h.2
     where
       go : (j : Command) (q : Request j) → IsFor j words q → (work_of j q c.content).ends (status.ScanFault k f) e.variable
-          → (x : Replay) × IsReplay words x × (f ≡ scan.Budget → ⊥) × OfBoth c.content x (λ st rows. StopsAt st rows k (stopped f))
-      go replay q is h = (q, is, h.0, (h.1.0, h.1.1, h.1.2, h.1.3, h.1.4, h.1.5, h.1.6.0))
+          → (f ≡ scan.Budget → ⊥) × ScanStopsAt words c.content k (stopped f)
+      go replay q is h = (h.0, inl (q, is, (h.1.0, h.1.1, h.1.2, h.1.3, h.1.4, h.1.5, h.1.6.0)))
+      go batch q is h = (h.0, inr (q, is, (h.1.0, h.1.1, h.1.2, h.1.3, h.1.4, h.1.5, h.1.6.0)))
       go check q is h = elim h [ inl x ↦ absurd x | inr x ↦ absurd x.2 ]
       go generate q is h = elim h [ inl x ↦ absurd x | inr x ↦ absurd x.2 ]
       go simulate q is h = absurd h
       go why q is h = elim h [ inl x ↦ absurd x | inr x ↦ let other = x.0 in absurd cc ]
 
-  pub budget : (k : ℕ) → r ≡ status.Budget k → (x : Replay) × IsReplay words x × OfBoth c.content x (λ st rows. StopsAt st rows k OutOfTurns)
+  pub budget : (k : ℕ) → r ≡ status.Budget k → ScanStopsAt words c.content k OutOfTurns
   budget k z = let h = ended (status.Budget k) (λ x. cc) refl (λ x. cc) z in go h.0.command h.0.request h.1 h.2
     where
       go : (j : Command) (q : Request j) → IsFor j words q → (work_of j q c.content).ends (status.Budget k) e.variable
-          → (x : Replay) × IsReplay words x × OfBoth c.content x (λ st rows. StopsAt st rows k OutOfTurns)
-      go replay q is h = (q, is, h)
+          → ScanStopsAt words c.content k OutOfTurns
+      go replay q is h = inl (q, is, h)
+      go batch q is h = inr (q, is, h)
       go check q is h = elim h [ inl x ↦ absurd x | inr x ↦ absurd x.2 ]
       go generate q is h = elim h [ inl x ↦ absurd x | inr x ↦ absurd x.2 ]
       go simulate q is h = absurd h
       go why q is h = elim h [ inl x ↦ absurd x | inr x ↦ let other = x.0 in absurd cc ]
+
+  module _ (x : Replay) (asks : AsksProgram words x) (st : Text) (told : c.content x.st ≡ Some st) (sure : Rose (c.faults x.st) (c.faults_after x.st) → ⊥) where
+    pub longer_program_is_too_big : st_limit < length st → IsUnlessMemory r (status.TooBig 1)
+    longer_program_is_too_big = let j = of_judge x asks in judged.longer_program_is_too_big j.0 x c o e j.1 r same st told sure
+
+    pub other_program_is_refused : length st ≤ st_limit → ((p : Program) → ReadsAsProgram st p → ⊥)
+        → ((reason : StRefusal) × (r ≡ status.StRefused reason)) ⊎ (r ≡ status.Memory)
+    other_program_is_refused = let j = of_judge x asks in judged.other_program_is_refused j.0 x c o e j.1 r same st told sure
+
+    pub longer_second_is_too_big : (second : Text) → c.content x.rows ≡ Some second → (Rose (c.faults x.rows) (c.faults_after x.rows) → ⊥)
+        → length st ≤ st_limit → Reads st → rows_limit < length second → IsUnlessMemory r (status.TooBig 2)
+    longer_second_is_too_big = let j = of_judge x asks in judged.longer_rows_are_too_big j.0 x c o e j.1 r same st told sure

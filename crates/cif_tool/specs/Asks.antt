@@ -2,6 +2,8 @@
 use Rattle.std.specs.Prelude.{◌≡◌, ℕ, ◌⊎◌, List, Option, Some}
 use Rattle.grammar.specs.Pieces.{Text}
 use Rattle.cif_io.specs.Faults.{Rose}
+use Rattle.st_ast.specs.Exec.{Outcome}
+use Rattle.plc_rows.specs.declared.error.RowErr.{RowErr}
 use Rattle.cif_run.specs.declared.status.Status.{Status}
 use Rattle.cif_run.specs.declared.status.Status.TheVariants as status
 use Rattle.cif_run.specs.Works.{Content, Work}
@@ -9,6 +11,11 @@ use Rattle.cif_source.specs.Source.{Source}
 use Rattle.cif_generate.specs.Words.{Generate, IsGenerate}
 use Rattle.cif_generate.specs.Generates.{Writes}
 use Rattle.cif_replay.specs.Words.{Replay, IsReplay}
+use Rattle.cif_replay.specs.Judged.{OfBoth}
+use Rattle.cif_replay.specs.Replaying.{AreRowsRefused, StopsAt}
+use Rattle.cif_batches.specs.Words.{Batch, IsBatch}
+use Rattle.cif_batches.specs.Batching.{AreCasesRefused, CaseStopsAt}
+use Rattle.cif_batches.specs.Batches.{AsksProgram, files_of}
 use Rattle.cif_why.specs.Words.{Why, IsWhy}
 use Rattle.cif_why.specs.Explains.{LacksEvent}
 use Rattle.cif_tool.specs.Commands.{Command, Request, IsFor, work_of, script_of, source_of}
@@ -74,8 +81,30 @@ AsksNoScript words = (file script : Text) → AsksScript words file script → �
 abbrev pub AsksUnknown : List Text → Source → Type 0
 AsksUnknown words t = (q : Why) × IsWhy words q × LacksEvent t q.event
 
--- ---- a program and rows
+-- ---- a program, and rows or cases
 
--- the words ask for `replay`, and its files are told to hold these bytes
+-- the words ask for a command over a program and a second file, and the files are told to hold these bytes
+abbrev pub NamesProgram : List Text → Content → Replay → Text → Type 0
+NamesProgram words content r st = AsksProgram words r × (content r.st ≡ Some st)
+
+abbrev pub NamesSecond : List Text → Content → Replay → Text → Text → Type 0
+NamesSecond words content r st second = AsksProgram words r × (content r.st ≡ Some st) × (content r.rows ≡ Some second)
+
+-- the same of `replay`
 abbrev pub NamesBoth : List Text → Content → Replay → Text → Text → Type 0
 NamesBoth words content r st rows = IsReplay words r × (content r.st ≡ Some st) × (content r.rows ≡ Some rows)
+
+-- the same of `batch`
+abbrev pub NamesCases : List Text → Content → Batch → Text → Text → Type 0
+NamesCases words content b st cases = IsBatch words b × (content b.st ≡ Some st) × (content b.cases ≡ Some cases)
+
+-- this is the first rule that the rows of `replay` or the cases of `batch` break
+abbrev pub RowsAreRefused : List Text → Content → RowErr → Type 0
+RowsAreRefused words content why = ((r : Replay) × IsReplay words r × OfBoth content r (λ st rows. AreRowsRefused st rows why))
+    ⊎ ((b : Batch) × IsBatch words b × OfBoth content (files_of b) (λ st cases. AreCasesRefused st cases why))
+
+-- The scan of the row k, the first of `replay` or of the first case of `batch` that does not end, comes to this. Rows are counted from 1
+-- in the file.
+abbrev pub ScanStopsAt : List Text → Content → (k : ℕ) → Outcome → Type 0
+ScanStopsAt words content k o = ((r : Replay) × IsReplay words r × OfBoth content r (λ st rows. StopsAt st rows k o))
+    ⊎ ((b : Batch) × IsBatch words b × OfBoth content (files_of b) (λ st cases. CaseStopsAt st cases k o))

@@ -12,7 +12,7 @@ ghost use Rattle.st_ast.specs.Tree.{Program};
 ghost use Rattle.st_ast.specs.Exec.{OutOfTurns};
 ghost use Rattle.st_scan.specs.Endings.{stopped};
 ghost use Rattle.st_scan.specs.declared.error.ScanErr.{ScanErr};
-ghost use Rattle.plc_rows.specs.Rows.{RowsOf};
+ghost use Rattle.plc_rows.specs.Rows.{CasesOf, RowsOf};
 ghost use Rattle.plc_rows.specs.declared.error.RowErr.{RowErr};
 ghost use Rattle.sim_face.specs.Simulation.{Runs, StopsAt as StopsIn, first_text, script_moments, script_text};
 ghost use Rattle.sim_face.specs.Steps.{IsRun, RunsFirst};
@@ -38,16 +38,21 @@ ghost use Rattle.cif_check.specs.Checks.{accepted};
 ghost use Rattle.cif_generate.specs.Meaning.{AreClassed, StartsInitial, meant_by, shown_of};
 ghost use Rattle.cif_generate.specs.Words.{Generate, IsGenerate};
 ghost use Rattle.cif_replay.specs.Words.{Replay, IsReplay};
-ghost use Rattle.cif_replay.specs.Replaying.{AllEnd, AreRowsRefused, ComesTo, IsRowRefused, IsStRefused, IsTableFor, Reads, StopsAt, status_of_scan};
+ghost use Rattle.cif_replay.specs.Replaying.{AllEnd, ComesTo, IsRowRefused, IsStRefused, IsTableFor, Reads, status_of_scan};
 ghost use Rattle.cif_replay.specs.Replays.{OfBoth, OfFirst, rows_limit, st_limit};
+ghost use Rattle.cif_batch.specs.CaseTexts.{AllCasesEnd, Case, FirstStopped, row_of_file};
+ghost use Rattle.cif_batches.specs.Words.{Batch, IsBatch};
+ghost use Rattle.cif_batches.specs.Batching.{AreTablesFor, IsCasesRefused};
+ghost use Rattle.cif_batches.specs.Batches.{AsksProgram, files_of};
 ghost use Rattle.cif_simulate.specs.Words.{Simulate, by_first, by_script, IsSimulate};
 ghost use Rattle.cif_simulate.specs.Scripts.{OfScript, cause, script_limit};
 ghost use Rattle.cif_simulate.specs.Simulates.{IsPartOfRun};
 ghost use Rattle.cif_why.specs.Words.{Why, IsWhy};
 ghost use Rattle.cif_why.specs.Explains.{LacksEvent, event_of, explained};
-ghost use Rattle.cif_tool.specs.Asks.{Asked, AsksNoScript, AsksScript, AsksSource, AsksUnknown, Generated, IsAsked, NamesBoth, NamesScript, NamesSource, NoCommand, Quiet, tool_work};
+ghost use Rattle.cif_tool.specs.Asks.{Asked, AsksNoScript, AsksScript, AsksSource, AsksUnknown, Generated, IsAsked, NamesBoth, NamesCases, NamesProgram, NamesScript, NamesSecond, NamesSource, NoCommand, Quiet, RowsAreRefused, ScanStopsAt, tool_work};
 
 use cif_batch::Gate;
+use cif_batches::batch;
 use cif_check::check;
 use cif_generate::generate;
 use cif_io::{Files, Sink};
@@ -60,12 +65,12 @@ use std::thread::Threads;
 
 /// Runs the command that the words ask for, up to what is told on the standard error.
 fn run_words<R: Threads + Sync, F: Files, O: Sink, G: Gate + Sync>(
-    _rt: &R,
+    rt: &R,
     alloc: Global,
     words: &[String],
     files: &mut F,
     out: &mut O,
-    _gate: &G,
+    gate: &G,
 ) -> Ended
     ensures came { Comes (tool_work (map string_bytes words.now) (F.content files.old))
         (reading (F.content files.old) (F.faults files.old) (F.faults files.new) (F.most files.new))
@@ -85,6 +90,9 @@ fn run_words<R: Threads + Sync, F: Files, O: Sink, G: Gate + Sync>(
     if let Some(asked) = cif_replay::read_words(words) {
         return replay(alloc, &asked, files, out);
     }
+    if let Some(asked) = cif_batches::read_words(words) {
+        return batch(rt, alloc, &asked, files, out, gate);
+    }
     if let Some(asked) = cif_simulate::read_words(words) {
         return simulate(alloc, &asked, files, out);
     }
@@ -95,9 +103,10 @@ fn run_words<R: Threads + Sync, F: Files, O: Sink, G: Gate + Sync>(
 }
 
 /// Runs the command of the words after the program's name: `check FILE`, `generate FILE [--unc N] [--con N]`, where N is 1 to 10,000
-/// and 100 where the option is left out, `replay ST ROWS`, `simulate FILE SCRIPT`, `simulate FILE --first N`, where N is 0 to 1,000,000,
+/// and 100 where the option is left out, `replay ST ROWS`, `batch ST CASES`, `simulate FILE SCRIPT`, `simulate FILE --first N`, where N is 0 to 1,000,000,
 /// or `why FILE SCRIPT EVENT`. Nothing goes to `out` before the whole text is built, but for `simulate`: it writes each line of its run
-/// before the next step. Of these commands none starts a thread or enters the gate.
+/// before the next step. `batch` alone starts threads; the work of each of its cases enters the gate as it begins, with the number of the
+/// case, counted from 1.
 pub fn tool<R: Threads + Sync, F: Files, O: Sink, E: Sink, G: Gate + Sync>(
     rt: &R,
     alloc: Global,
@@ -160,11 +169,11 @@ pub fn tool<R: Threads + Sync, F: Files, O: Sink, E: Sink, G: Gate + Sync>(
         (Rose (F.faults files.old file) (F.faults files.new file) → ⊥) →
         source_limit < length bytes → IsUnlessMemory result (Status.TooBig 1) }
     ensures longer_program_is_too_big { (r : Replay) (st : List ℕ) →
-        IsReplay (map string_bytes words.now) r → F.content files.old r.st ≡ Some st →
+        NamesProgram (map string_bytes words.now) (F.content files.old) r st →
         (Rose (F.faults files.old r.st) (F.faults files.new r.st) → ⊥) →
         st_limit < length st → IsUnlessMemory result (Status.TooBig 1) }
     ensures longer_rows_are_too_big { (r : Replay) (st rows : List ℕ) →
-        NamesBoth (map string_bytes words.now) (F.content files.old) r st rows →
+        NamesSecond (map string_bytes words.now) (F.content files.old) r st rows →
         Quiet r.st r.rows (F.faults files.old) (F.faults files.new) → length st ≤ st_limit → Reads st →
         rows_limit < length rows → IsUnlessMemory result (Status.TooBig 2) }
 
@@ -278,33 +287,37 @@ pub fn tool<R: Threads + Sync, F: Files, O: Sink, E: Sink, G: Gate + Sync>(
     ensures none_where_enabled { (bytes : List ℕ) → length bytes ≤ source_limit → (t : Source) → ReadsAsSource bytes t →
         (s : State) (event : ℕ) (next : State) → Step (system_of t) s event next → reasons_of (system_of t) (told_of t) s event ≡ [] }
 
-    // The program of `replay`: it is refused exactly where it reads as none.
+    // The program of `replay` and `batch`: it is refused exactly where it reads as none.
     ensures program_refused { (why : StRefusal) → result ≡ Status.StRefused why → (r : Replay)
-        × IsReplay (map string_bytes words.now) r
+        × AsksProgram (map string_bytes words.now) r
         × OfFirst (F.content files.old) r (λ st. IsStRefused st why) }
     ensures other_program_is_refused { (r : Replay) (st : List ℕ) →
-        IsReplay (map string_bytes words.now) r → F.content files.old r.st ≡ Some st →
+        NamesProgram (map string_bytes words.now) (F.content files.old) r st →
         (Rose (F.faults files.old r.st) (F.faults files.new r.st) → ⊥) → length st ≤ st_limit →
         ((p : Program) → ReadsAsProgram st p → ⊥) →
         ((why : StRefusal) × (result ≡ Status.StRefused why)) ⊎ (result ≡ Status.Memory) }
 
-    // The rows of `replay`: the first rule that they break is told.
-    ensures rows_refused { (why : RowErr) → result ≡ Status.RowRefused why → (r : Replay)
-        × IsReplay (map string_bytes words.now) r
-        × OfBoth (F.content files.old) r (λ st rows. AreRowsRefused st rows why) }
+    // The rows of `replay` and the cases of `batch`: the first rule that they break is told.
+    ensures rows_refused { (why : RowErr) → result ≡ Status.RowRefused why →
+        RowsAreRefused (map string_bytes words.now) (F.content files.old) why }
     ensures other_rows_are_refused { (r : Replay) (st rows : List ℕ) →
         NamesBoth (map string_bytes words.now) (F.content files.old) r st rows →
         Quiet r.st r.rows (F.faults files.old) (F.faults files.new) → length st ≤ st_limit → length rows ≤ rows_limit →
         (p : Program) → ReadsAsProgram st p → (why : RowErr) → IsRowRefused p rows why →
         IsUnlessMemory result (Status.RowRefused why) }
 
-    // The scans of `replay`: the first that ends in a fault, or out of turns, is told, and else their table is written.
-    ensures scan_fault { (k : ℕ) (e : ScanErr) → result ≡ Status.ScanFault k e → (r : Replay)
-        × IsReplay (map string_bytes words.now) r
-        × (e ≡ ScanErr.Budget → ⊥) × OfBoth (F.content files.old) r (λ st rows. StopsAt st rows k (stopped e)) }
-    ensures budget { (k : ℕ) → result ≡ Status.Budget k → (r : Replay)
-        × IsReplay (map string_bytes words.now) r
-        × OfBoth (F.content files.old) r (λ st rows. StopsAt st rows k OutOfTurns) }
+    ensures other_cases_are_refused { (b : Batch) (st cases : List ℕ) →
+        NamesCases (map string_bytes words.now) (F.content files.old) b st cases →
+        Quiet b.st b.cases (F.faults files.old) (F.faults files.new) → length st ≤ st_limit → length cases ≤ rows_limit →
+        (p : Program) → ReadsAsProgram st p → (why : RowErr) → IsCasesRefused p cases why →
+        IsUnlessMemory result (Status.RowRefused why) }
+
+    // The scans of `replay`, and of each case of `batch` by itself: the first that ends in a fault, or out of turns, is told, of `batch`
+    // that of the first case in order that has one; and else their tables are written.
+    ensures scan_fault { (k : ℕ) (e : ScanErr) → result ≡ Status.ScanFault k e → (e ≡ ScanErr.Budget → ⊥)
+        × ScanStopsAt (map string_bytes words.now) (F.content files.old) k (stopped e) }
+    ensures budget { (k : ℕ) → result ≡ Status.Budget k →
+        ScanStopsAt (map string_bytes words.now) (F.content files.old) k OutOfTurns }
     ensures stopped_scan_is_told { (r : Replay) (st rows : List ℕ) →
         NamesBoth (map string_bytes words.now) (F.content files.old) r st rows →
         Quiet r.st r.rows (F.faults files.old) (F.faults files.new) → length st ≤ st_limit → length rows ≤ rows_limit →
@@ -319,6 +332,21 @@ pub fn tool<R: Threads + Sync, F: Files, O: Sink, E: Sink, G: Gate + Sync>(
         IsUnlessMemory result Status.Done }
     ensures replayed { result ≡ Status.Done → (r : Replay) → IsReplay (map string_bytes words.now) r →
         (text : List ℕ) × OfBoth (F.content files.old) r (λ st rows. IsTableFor st rows text)
+        × (O.written out.new ≡ grown (O.written out.old) text) }
+    ensures stopped_case_is_told { (b : Batch) (st cases : List ℕ) →
+        NamesCases (map string_bytes words.now) (F.content files.old) b st cases →
+        Quiet b.st b.cases (F.faults files.old) (F.faults files.new) → length st ≤ st_limit → length cases ≤ rows_limit →
+        (p : Program) → ReadsAsProgram st p → (cs : List Case) → CasesOf p.vars cases cs →
+        (number row : ℕ) (e : ScanErr) → FirstStopped p cs number row (stopped e) →
+        IsUnlessMemory result (status_of_scan (row_of_file cs number row) e) }
+    ensures batch_is_done { (b : Batch) (st cases : List ℕ) →
+        NamesCases (map string_bytes words.now) (F.content files.old) b st cases →
+        Quiet b.st b.cases (F.faults files.old) (F.faults files.new) → length st ≤ st_limit → length cases ≤ rows_limit →
+        (Rose (O.faults out.old) (O.faults out.new) → ⊥) →
+        (p : Program) → ReadsAsProgram st p → (cs : List Case) → CasesOf p.vars cases cs → AllCasesEnd p cs →
+        IsUnlessMemory result Status.Done }
+    ensures batched { result ≡ Status.Done → (b : Batch) → IsBatch (map string_bytes words.now) b →
+        (text : List ℕ) × OfBoth (F.content files.old) (files_of b) (λ st cases. AreTablesFor st cases text)
         × (O.written out.new ≡ grown (O.written out.old) text) }
 
     // What is written, after each status: the whole text of what is asked for, its beginning, or nothing.

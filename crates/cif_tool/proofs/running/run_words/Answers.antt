@@ -4,9 +4,10 @@ use Rattle.cif_run.specs.Works.{reading, writing}
 use Rattle.cif_check.specs.Checks.{check_of}
 use Rattle.cif_generate.specs.Generates.{generate_of}
 use Rattle.cif_replay.specs.Replays.{replay_of}
+use Rattle.cif_batches.specs.Batches.{batch_of}
 use Rattle.cif_simulate.specs.Requests.{simulate_of}
 use Rattle.cif_why.specs.Requests.{why_of}
-use Rattle.cif_tool.specs.Commands.{check, generate, replay, simulate, why}
+use Rattle.cif_tool.specs.Commands.{check, generate, replay, batch, simulate, why}
 use Rattle.cif_tool.proofs.ToolLaws.{command_comes, not_usage}
 use Rattle.cif_tool.proofs.running.run_words.Goals as goal
 
@@ -54,28 +55,42 @@ returns-in-Some-read_words-2-clause-nothing_read g c is =
 
 pub returns-in-Some-read_words-3-clause-came : goal.returns-in-Some-read_words-3-clause-came
 returns-in-Some-read_words-3-clause-came g c =
-    command_comes (map string_bytes c.args.words.now) simulate (simulate_of c.in-Some-read_words-3.asked) c.in-Some-read_words-3.ensures.some
+    command_comes (map string_bytes c.args.words.now) batch (batch_of c.in-Some-read_words-3.asked) c.in-Some-read_words-3.ensures.some
+    (reading (g.F.Files.content c.args.files.now) (g.F.Files.faults c.args.files.now) (g.F.Files.faults c.batch.new.files) (g.F.Files.most c.batch.new.files))
+    (writing (g.O.Sink.written c.args.out.now) (g.O.Sink.written c.batch.new.out) (g.O.Sink.faults c.args.out.now) (g.O.Sink.faults c.batch.new.out))
+    c.batch.result c.batch.ensures.came
+
+pub returns-in-Some-read_words-3-clause-nothing_read : goal.returns-in-Some-read_words-3-clause-nothing_read
+returns-in-Some-read_words-3-clause-nothing_read g c is =
+    absurd (not_usage batch (batch_of c.in-Some-read_words-3.asked)
+    (reading (g.F.Files.content c.args.files.now) (g.F.Files.faults c.args.files.now) (g.F.Files.faults c.batch.new.files) (g.F.Files.most c.batch.new.files))
+    (writing (g.O.Sink.written c.args.out.now) (g.O.Sink.written c.batch.new.out) (g.O.Sink.faults c.args.out.now) (g.O.Sink.faults c.batch.new.out))
+    c.batch.result c.batch.ensures.came is)
+
+pub returns-in-Some-read_words-4-clause-came : goal.returns-in-Some-read_words-4-clause-came
+returns-in-Some-read_words-4-clause-came g c =
+    command_comes (map string_bytes c.args.words.now) simulate (simulate_of c.in-Some-read_words-4.asked) c.in-Some-read_words-4.ensures.some
     (reading (g.F.Files.content c.args.files.now) (g.F.Files.faults c.args.files.now) (g.F.Files.faults c.simulate.new.files) (g.F.Files.most c.simulate.new.files))
     (writing (g.O.Sink.written c.args.out.now) (g.O.Sink.written c.simulate.new.out) (g.O.Sink.faults c.args.out.now) (g.O.Sink.faults c.simulate.new.out))
     c.simulate.result c.simulate.ensures.came
 
-pub returns-in-Some-read_words-3-clause-nothing_read : goal.returns-in-Some-read_words-3-clause-nothing_read
-returns-in-Some-read_words-3-clause-nothing_read g c is =
-    absurd (not_usage simulate (simulate_of c.in-Some-read_words-3.asked)
+pub returns-in-Some-read_words-4-clause-nothing_read : goal.returns-in-Some-read_words-4-clause-nothing_read
+returns-in-Some-read_words-4-clause-nothing_read g c is =
+    absurd (not_usage simulate (simulate_of c.in-Some-read_words-4.asked)
     (reading (g.F.Files.content c.args.files.now) (g.F.Files.faults c.args.files.now) (g.F.Files.faults c.simulate.new.files) (g.F.Files.most c.simulate.new.files))
     (writing (g.O.Sink.written c.args.out.now) (g.O.Sink.written c.simulate.new.out) (g.O.Sink.faults c.args.out.now) (g.O.Sink.faults c.simulate.new.out))
     c.simulate.result c.simulate.ensures.came is)
 
-pub returns-in-Some-read_words-4-clause-came : goal.returns-in-Some-read_words-4-clause-came
-returns-in-Some-read_words-4-clause-came g c =
-    command_comes (map string_bytes c.args.words.now) why (why_of c.in-Some-read_words-4.asked) c.in-Some-read_words-4.ensures.some
+pub returns-in-Some-read_words-5-clause-came : goal.returns-in-Some-read_words-5-clause-came
+returns-in-Some-read_words-5-clause-came g c =
+    command_comes (map string_bytes c.args.words.now) why (why_of c.in-Some-read_words-5.asked) c.in-Some-read_words-5.ensures.some
     (reading (g.F.Files.content c.args.files.now) (g.F.Files.faults c.args.files.now) (g.F.Files.faults c.why.new.files) (g.F.Files.most c.why.new.files))
     (writing (g.O.Sink.written c.args.out.now) (g.O.Sink.written c.why.new.out) (g.O.Sink.faults c.args.out.now) (g.O.Sink.faults c.why.new.out))
     c.why.result c.why.ensures.came
 
-pub returns-in-Some-read_words-4-clause-nothing_read : goal.returns-in-Some-read_words-4-clause-nothing_read
-returns-in-Some-read_words-4-clause-nothing_read g c is =
-    absurd (not_usage why (why_of c.in-Some-read_words-4.asked)
+pub returns-in-Some-read_words-5-clause-nothing_read : goal.returns-in-Some-read_words-5-clause-nothing_read
+returns-in-Some-read_words-5-clause-nothing_read g c is =
+    absurd (not_usage why (why_of c.in-Some-read_words-5.asked)
     (reading (g.F.Files.content c.args.files.now) (g.F.Files.faults c.args.files.now) (g.F.Files.faults c.why.new.files) (g.F.Files.most c.why.new.files))
     (writing (g.O.Sink.written c.args.out.now) (g.O.Sink.written c.why.new.out) (g.O.Sink.faults c.args.out.now) (g.O.Sink.faults c.why.new.out))
     c.why.result c.why.ensures.came is)

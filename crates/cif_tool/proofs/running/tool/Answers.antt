@@ -15,11 +15,12 @@ use Rattle.cif_source.specs.Step.{system_of}
 use Rattle.cif_generate.specs.Meaning.{AreClassed, StartsInitial, meant_by, shown_of}
 use Rattle.cif_generate.proofs.GenerateLaws as generates
 use Rattle.cif_replay.proofs.ReplayLaws as replays
+use Rattle.cif_batches.proofs.BatchLaws as batches
 use Rattle.cif_simulate.proofs.SimulateLaws as simulates
 use Rattle.cif_why.proofs.ByEvent as event
 use Rattle.cif_why.proofs.SourceLaws.{read_explains}
 use Rattle.cif_why.proofs.WhyLaws as whys
-use Rattle.cif_tool.specs.Commands.{replay, simulate, why}
+use Rattle.cif_tool.specs.Commands.{replay, batch, simulate, why}
 use Rattle.cif_tool.specs.Asks.{tool_work}
 use Rattle.cif_tool.proofs.ToolLaws as tool
 use Rattle.cif_tool.proofs.running.tool.Given.{Over}
@@ -130,16 +131,13 @@ pub returns-clause-source_is_done : goal.returns-clause-source_is_done
 returns-clause-source_is_done g c file bytes names sure = tool.source_is_done (texts g c) (files_of g c) (out_of g c) c.run_words-ended.result c.run_words-ended.ensures.came c.report.result c.report.ensures.unless_memory file bytes names sure
 
 pub returns-clause-longer_program_is_too_big : goal.returns-clause-longer_program_is_too_big
-returns-clause-longer_program_is_too_big g c x st is told sure = replays.longer_program_is_too_big x (files_of g c) (out_of g c) c.run_words-ended.result
-    (tool.of_command (texts g c) (files_of g c) (out_of g c) c.run_words-ended.result c.run_words-ended.ensures.came c.report.result c.report.ensures.unless_memory replay x is) c.report.result c.report.ensures.unless_memory st told sure
+returns-clause-longer_program_is_too_big g c x st names sure = tool.longer_program_is_too_big (texts g c) (files_of g c) (out_of g c) c.run_words-ended.result c.run_words-ended.ensures.came c.report.result c.report.ensures.unless_memory x names.0 st names.1 sure
 
 pub returns-clause-other_program_is_refused : goal.returns-clause-other_program_is_refused
-returns-clause-other_program_is_refused g c x st is told sure = replays.other_program_is_refused x (files_of g c) (out_of g c) c.run_words-ended.result
-    (tool.of_command (texts g c) (files_of g c) (out_of g c) c.run_words-ended.result c.run_words-ended.ensures.came c.report.result c.report.ensures.unless_memory replay x is) c.report.result c.report.ensures.unless_memory st told sure
+returns-clause-other_program_is_refused g c x st names sure = tool.other_program_is_refused (texts g c) (files_of g c) (out_of g c) c.run_words-ended.result c.run_words-ended.ensures.came c.report.result c.report.ensures.unless_memory x names.0 st names.1 sure
 
 pub returns-clause-longer_rows_are_too_big : goal.returns-clause-longer_rows_are_too_big
-returns-clause-longer_rows_are_too_big g c x st rows names quiet fits = replays.longer_rows_are_too_big x (files_of g c) (out_of g c) c.run_words-ended.result
-    (tool.of_command (texts g c) (files_of g c) (out_of g c) c.run_words-ended.result c.run_words-ended.ensures.came c.report.result c.report.ensures.unless_memory replay x names.0) c.report.result c.report.ensures.unless_memory st names.1 quiet.0 rows names.2 quiet.1 fits
+returns-clause-longer_rows_are_too_big g c x st rows names quiet fits = tool.longer_second_is_too_big (texts g c) (files_of g c) (out_of g c) c.run_words-ended.result c.run_words-ended.ensures.came c.report.result c.report.ensures.unless_memory x names.0 st names.1 quiet.0 rows names.2 quiet.1 fits
 
 pub returns-clause-other_rows_are_refused : goal.returns-clause-other_rows_are_refused
 returns-clause-other_rows_are_refused g c x st rows names quiet fits short p reads = replays.other_rows_are_refused x (files_of g c) (out_of g c) c.run_words-ended.result
@@ -225,3 +223,19 @@ returns-clause-enabled_where_none g c bytes short t reads = (read_explains bytes
 
 pub returns-clause-none_where_enabled : goal.returns-clause-none_where_enabled
 returns-clause-none_where_enabled g c bytes short t reads = (read_explains bytes short t reads).step_means_none
+
+pub returns-clause-other_cases_are_refused : goal.returns-clause-other_cases_are_refused
+returns-clause-other_cases_are_refused g c b st cases names quiet fits short p reads = batches.other_cases_are_refused b (files_of g c) (out_of g c) c.run_words-ended.result
+    (tool.of_command (texts g c) (files_of g c) (out_of g c) c.run_words-ended.result c.run_words-ended.ensures.came c.report.result c.report.ensures.unless_memory batch b names.0) c.report.result c.report.ensures.unless_memory st names.1 quiet.0 cases names.2 quiet.1 fits short p reads
+
+pub returns-clause-stopped_case_is_told : goal.returns-clause-stopped_case_is_told
+returns-clause-stopped_case_is_told g c b st cases names quiet fits short p reads cs are = batches.stopped_case_is_told b (files_of g c) (out_of g c) c.run_words-ended.result
+    (tool.of_command (texts g c) (files_of g c) (out_of g c) c.run_words-ended.result c.run_words-ended.ensures.came c.report.result c.report.ensures.unless_memory batch b names.0) c.report.result c.report.ensures.unless_memory st names.1 quiet.0 cases names.2 quiet.1 fits short p reads cs are
+
+pub returns-clause-batch_is_done : goal.returns-clause-batch_is_done
+returns-clause-batch_is_done g c b st cases names quiet fits short still p reads cs are all = batches.batch_is_done b (files_of g c) (out_of g c) c.run_words-ended.result
+    (tool.of_command (texts g c) (files_of g c) (out_of g c) c.run_words-ended.result c.run_words-ended.ensures.came c.report.result c.report.ensures.unless_memory batch b names.0) c.report.result c.report.ensures.unless_memory st names.1 quiet.0 cases names.2 quiet.1 fits short p reads cs are still all
+
+pub returns-clause-batched : goal.returns-clause-batched
+returns-clause-batched g c done b is = batches.batched b (files_of g c) (out_of g c) c.run_words-ended.result
+    (tool.of_command (texts g c) (files_of g c) (out_of g c) c.run_words-ended.result c.run_words-ended.ensures.came c.report.result c.report.ensures.unless_memory batch b is) c.report.result c.report.ensures.unless_memory done
