@@ -17,7 +17,7 @@ _cif() {
     --test) mapfile -t COMPREPLY < <(compgen -W 'all proved' -- "$current") && return ;;
   esac
   if [ -z "$command" ]; then
-    _cif_words check generate replay simulate why explain legend wave draw wrap -o --places --proved --prove --test --status --version --help -h
+    _cif_words check generate replay batch simulate why explain legend wave draw wrap -o --places --proved --prove --test --status --version --help -h
     return
   fi
   case $command:$current in
@@ -30,8 +30,8 @@ _cif() {
       case $command:$place in
         check:0 | generate:0 | simulate:0 | why:0 | legend:0 | wave:0 | draw:0 | wrap:0) _cif_files cif ;;
         simulate:1 | why:1) _cif_files txt ;;
-        replay:0 | legend:1) _cif_files st ;;
-        replay:1 | wave:1 | wave:2) _cif_files csv ;;
+        replay:0 | batch:0 | legend:1) _cif_files st ;;
+        replay:1 | batch:1 | wave:1 | wave:2) _cif_files csv ;;
       esac
       ;;
   esac

@@ -64,6 +64,7 @@ RULES = {
     45: "The cell has no value of its column.",
     46: "The row has another number of fields than the header.",
     47: "There are more than 100,000 rows.",
+    48: "The number under `scan` neither begins a case nor continues one.",
     54: "No event has this path.",
 }
 # The line of the refusal that is told without a file.
@@ -220,6 +221,8 @@ def places_of(refusal, text, words):
         places = replay.variable_places(text, refusal.fields["variable"])
     elif refusal.number in {44, 45, 46}:
         places = [replay.row_place(text, refusal.count("row") or 0, refusal.count("column"))]
+    elif refusal.number == 48:
+        places = [replay.row_place(text, refusal.count("row"), replay.scan_column(text))]
     found = [(refusal.file, text, it) for it in places if it is not None]
     if refusal.row:
         rows = content(words[2])
@@ -244,9 +247,13 @@ def sentence_of(refusal, text, words):
     if refusal.number == 44:
         return replay.header_sentence(content(words[1]))
     if refusal.number == 45:
-        return replay.cell_sentence(content(words[1]), text, refusal.count("row"), refusal.count("column"))
+        return replay.cell_sentence(content(words[1]), text, refusal.count("row"), refusal.count("column"), words[0] == "batch")
     if refusal.number == 46:
         return replay.length_sentence(text, refusal.count("row"))
+    if refusal.number == 48:
+        return replay.boundary_sentence(text, refusal.count("row"))
+    if refusal.number == 47 and words[0] == "batch":
+        return "Split the file where a case begins."
     return replay.ADVICE.get(refusal.number)
 
 
@@ -261,7 +268,7 @@ def status_sentence(line, words):
                 return "There is no such file."
             return "The file may not be read: see its permissions."
         if line.startswith(f"cif: {file} is longer than "):
-            return "A source and a script have at most 4,194,304 bytes, a program 16,777,216, and a table of rows 67,108,864."
+            return "A source and a script have at most 4,194,304 bytes, a program 16,777,216, and a table of rows or of cases 67,108,864."
     if line == NO_EVENT:
         import explain_script
 

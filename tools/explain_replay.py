@@ -163,11 +163,19 @@ def header_sentence(program):
     return f"The header has these fields, in any order: {wanted}"
 
 
-def cell_sentence(program, rows, row, column):
+def scan_column(rows):
+    """The column of `scan`, counted from 1."""
+    names = [content(rows, field) for field in record(rows, 0)]
+    return names.index("scan") + 1 if "scan" in names else None
+
+
+def cell_sentence(program, rows, row, column, of_cases=False):
     header = record(rows, 0)
     if not header or row is None or not 0 < (column or 0) <= len(header):
         return None
     name = content(rows, header[column - 1])
+    if name == "scan" and of_cases:
+        return "Under `scan` a whole number from 1 to 100000 is required, without blanks and zeros in front."
     if name == "scan":
         return f"Under `scan` the number of the row is required: {row}."
     for declared, words in inputs(program):
@@ -184,6 +192,15 @@ def length_sentence(rows, row):
     if not header or not fields:
         return None
     return f"The header has {len(header)} fields, and this row {len(fields)}."
+
+
+def boundary_sentence(rows, row):
+    """What may stand under `scan` in a row of cases: 1, or the number behind that of the row before."""
+    column = scan_column(rows)
+    if row == 1 or column is None:
+        return "The first row begins the first case: under `scan` it has 1."
+    before = record(rows, row - 1)
+    return f"Under `scan` {int(content(rows, before[column - 1])) + 1} continues the case, and 1 begins the next one."
 
 
 class Point:

@@ -227,6 +227,8 @@ class Completion(unittest.TestCase):
         self.assertEqual(self.complete("cif", "simulate", "a.cif", "tools/wrong_s"), {"tools/wrong_sources.txt"})
         self.assertEqual(self.complete("cif", "replay", "examples/t"), {"examples/tank.st"})
         self.assertEqual(self.complete("cif", "replay", "a.st", "examples/la"), {"examples/lamp-rows.csv"})
+        self.assertEqual(self.complete("cif", "batch", "examples/t"), {"examples/tank.st"})
+        self.assertEqual(self.complete("cif", "batch", "a.st", "examples/la"), {"examples/lamp-rows.csv"})
         self.assertEqual(self.complete("cif", "wave", "a.cif", "examples/ro"), {"examples/rows.csv"})
         self.assertIn("examples", self.complete("cif", "check", "ex"))
 
@@ -243,7 +245,7 @@ class Completion(unittest.TestCase):
 class Manual(unittest.TestCase):
     def test_page(self):
         text = man_page.page(man_page.usage())
-        for word in ("cif", "check", "generate", "replay", "\\-\\-unc", "\\-\\-version"):
+        for word in ("cif", "check", "generate", "replay", "batch", "\\-\\-unc", "\\-\\-version"):
             self.assertIn(f"\\fB{word}", text)
         self.assertEqual(text.count(".RS"), text.count(".RE"))
 

@@ -24,7 +24,7 @@ PROGRAM = pathlib.Path(GIVEN).resolve() if GIVEN else next(filter(pathlib.Path.e
 STACK = 64 << 20
 # The exit code of each refusal.
 CODES = {**dict.fromkeys(range(1, 25), 7), 25: 8, 28: 8, **dict.fromkeys(range(31, 40), 9)}
-CODES.update({26: 13, 27: 13, 29: 13, 40: 11, 41: 11, 42: 11, 43: 12, **dict.fromkeys(range(44, 48), 10), 54: 16})
+CODES.update({26: 13, 27: 13, 29: 13, 40: 11, 41: 11, 42: 11, 43: 12, **dict.fromkeys(range(44, 49), 10), 54: 16})
 
 sys.path.insert(0, str(TOP / "tools"))
 import explain  # noqa: E402
@@ -124,7 +124,7 @@ class Page(Shown):
     def test_explained_by_number(self):
         for number, name, text in self.numbered:
             self.assertEqual(explain_number(number), f"## {number} {name}\n{text.rstrip()}\n")
-        for word in ("0", "30", "48", "x", "", "1 "):
+        for word in ("0", "30", "49", "x", "", "1 "):
             self.assertEqual(explained("number", word), (2, ""))
 
     @unittest.skipUnless(PROGRAM, "there is no program")
@@ -300,7 +300,7 @@ class Places(Shown):
                  for field in ("", " at 3", " at 99999999999999999999", " statement 7 ", " row 9 column 9", " variable x value y")]
         lines += ["", "cif: ", "cif: a.cif: ", "cif: a.cif: 4", "\udcff"]
         for line in lines:
-            for words in (["check", "a.cif"], ["replay", "a.cif", "r.csv"], ["simulate", "a.cif", "r.csv"]):
+            for words in (["check", "a.cif"], ["replay", "a.cif", "r.csv"], ["batch", "a.cif", "r.csv"], ["simulate", "a.cif", "r.csv"]):
                 error = explain.refusal_in(line, words)
                 if error and error.number in explain.RULES:
                     explain.rule_of(error)
@@ -332,8 +332,8 @@ class Replays(Shown):
                    "IF go THEN\n  y := level;\nELSIF level > 1 THEN y := 1; END_IF;\nWHILE go DO y := 2; END_WHILE;\nEND_PROGRAM\n")
         self.write("r.csv", "scan,level,go\n\n1,2,TRUE\n2,\"4\",x\n3,1\n")
 
-    def shown(self, line):
-        return explained("shown", f"cif: {line}", "replay", "a.st", "r.csv", folder=self.work)[1].splitlines()
+    def shown(self, line, command="replay"):
+        return explained("shown", f"cif: {line}", command, "a.st", "r.csv", folder=self.work)[1].splitlines()
 
     def test_statements_and_variables(self):
         for number, place in enumerate(("4:1", "5:3", "6:22", "7:1", "7:13")):
@@ -350,6 +350,20 @@ class Replays(Shown):
         self.assertEqual(self.shown("r.csv: 45 Cell row 2 column 3")[-1], "Under `go` one of TRUE, FALSE, true, false, 1 and 0 is required.")
         self.assertEqual(self.shown("r.csv: 45 Cell row 2 column 1")[-1], "Under `scan` the number of the row is required: 2.")
         self.assertEqual(self.shown("r.csv: 46 RowLength row 3")[-1], "The header has 3 fields, and this row 2.")
+        self.assertEqual(self.shown("r.csv: 47 TooManyRows count 100001")[-1], "Split the table. Each replay begins with the first values.")
+
+    def test_cases(self):
+        def shown(line):
+            return self.shown(f"r.csv: {line}", "batch")
+        self.write("r.csv", "level,scan,go\n\n2,1,TRUE\n0,2,TRUE\n0,\"4\",x\n0,1,1\n0,3,0\n")
+        self.assertEqual(shown("48 CaseBoundary row 3"), ["r.csv:5:3", '0,"4",x', "  ^", explain.RULES[48], "Under `scan` 3 continues the case, and 1 begins the next one."])
+        self.assertEqual(shown("48 CaseBoundary row 5")[0::4], ["r.csv:7:3", "Under `scan` 2 continues the case, and 1 begins the next one."])
+        self.assertEqual(shown("48 CaseBoundary row 1")[0::4], ["r.csv:3:3", "The first row begins the first case: under `scan` it has 1."])
+        self.assertEqual(shown("45 Cell row 2 column 2")[-1], "Under `scan` a whole number from 1 to 100000 is required, without blanks and zeros in front.")
+        self.assertEqual(shown("45 Cell row 3 column 3")[-1], "Under `go` one of TRUE, FALSE, true, false, 1 and 0 is required.")
+        self.assertEqual(shown("47 TooManyRows count 100001")[-1], "Split the file where a case begins.")
+        found = self.shown("a.st: row 4: 42 SubrangeLeft variable y value 4", "batch")
+        self.assertEqual([it for it in found if re.match(r"\w\.\w+:", it)], ["a.st:3:5", "r.csv:6:1"])
 
     @unittest.skipUnless(PROGRAM, "there is no program")
     def test_programs(self):

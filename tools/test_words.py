@@ -19,7 +19,7 @@ import words
 TOP = pathlib.Path(__file__).resolve().parent.parent
 BUILT = [TOP / "crates/cif_cli/out/cif_cli", TOP / "crates/cif_cli/out/unproved/cif_cli"]
 PROGRAM = sys.argv.pop() if len(sys.argv) > 1 and os.path.isfile(sys.argv[-1]) else next((it for it in BUILT if it.exists()), None)
-COMMANDS = ["check", "generate", "replay", "simulate", "simulate", "why"]
+COMMANDS = ["check", "generate", "replay", "batch", "simulate", "simulate", "why"]
 OPTIONS = ["--unc", "--con", "5", "10000", "--first", "--first", "1000000"]
 OTHERS = ["Check", "", "0", "10001", "1000001", "01", "+1", " 5", "5 ", "1\n", "\u0665", "9" * 5000, "--unc=5", "--first=5", "--unc ", "-o", "--places", "\udcff", "none"]
 LISTS = 400

@@ -13,7 +13,7 @@ import sys
 NO_WORDS = "cif: not a command line"
 # How many words each command takes behind it, without options, and these in words. The first two are names of files.
 TAKES = {
-    "check": (1, "FILE"), "generate": (1, "FILE"), "replay": (2, "ST and ROWS"),
+    "check": (1, "FILE"), "generate": (1, "FILE"), "replay": (2, "ST and ROWS"), "batch": (2, "ST and CASES"),
     "simulate": (2, "FILE and SCRIPT, or FILE and --first N"), "why": (3, "FILE, SCRIPT and EVENT"),
 }
 ROUNDS, FIRST = ("--unc", "--con"), "--first"
