@@ -221,7 +221,7 @@ def places_of(refusal, text, words):
         places = replay.variable_places(text, refusal.fields["variable"])
     elif refusal.number in {44, 45, 46}:
         places = [replay.row_place(text, refusal.count("row") or 0, refusal.count("column"))]
-    elif refusal.number == 48:
+    elif refusal.number == 48 and refusal.count("row"):
         places = [replay.row_place(text, refusal.count("row"), replay.scan_column(text))]
     found = [(refusal.file, text, it) for it in places if it is not None]
     if refusal.row:

@@ -165,7 +165,7 @@ def header_sentence(program):
 
 def scan_column(rows):
     """The column of `scan`, counted from 1."""
-    names = [content(rows, field) for field in record(rows, 0)]
+    names = [content(rows, field) for field in record(rows, 0) or []]
     return names.index("scan") + 1 if "scan" in names else None
 
 
@@ -196,11 +196,13 @@ def length_sentence(rows, row):
 
 def boundary_sentence(rows, row):
     """What may stand under `scan` in a row of cases: 1, or the number behind that of the row before."""
-    column = scan_column(rows)
-    if row == 1 or column is None:
+    if row == 1:
         return "The first row begins the first case: under `scan` it has 1."
-    before = record(rows, row - 1)
-    return f"Under `scan` {int(content(rows, before[column - 1])) + 1} continues the case, and 1 begins the next one."
+    column, before = scan_column(rows), record(rows, row - 1) if row else None
+    number = content(rows, before[column - 1]) if before and column and column <= len(before) else ""
+    if not re.fullmatch("[1-9][0-9]{0,5}", number):
+        return None
+    return f"Under `scan` {int(number) + 1} continues the case, and 1 begins the next one."
 
 
 class Point:
