@@ -1,7 +1,7 @@
 #!/usr/bin/env python3
 """Runs the commands of the program on hostile files and words: mutated, spliced, nested, extreme and random ones.
 
-    tools/attack.py PROGRAM [--count N] [--seed S] [--first K] [--minutes M] [check|generate|replay|simulate|why|words ..]
+    tools/attack.py PROGRAM [--count N] [--seed S] [--first K] [--minutes M] [check|generate|replay|batch|simulate|why|words ..]
 
 For each of the commands there are N attacks (1,000), from number K (1) on, or as many as M minutes allow; `words` are command lines. An
 attack is made of the seed and its number alone. Each run has 10 seconds of the processor (60 where the program checks its memory) and 512
@@ -10,7 +10,7 @@ MB of memory, and is judged:
 - it ends, and by no signal; a status of the table in docs/REFUSALS.md, and one line on standard error of the form that is shown there for
   it; no line and an output with status 0, and no output with the others but 4, 5 and 13 of `simulate`
 - `check`, `generate`, `simulate` and `why` refuse the same sources with the same line; what `generate` writes is replayed; an event is
-  enabled for `why` exactly where `simulate` fires it after the same script
+  enabled for `why` exactly where `simulate` fires it after the same script; a file that is one case is for `batch` what it is for `replay`
 - a second run writes the same bytes; a full or closed output gives status 4, and a closed standard error changes no status
 
 A finding is kept in out/attack/, with the words that run it again. The last line is the number of findings, and the status 1 where there
@@ -29,12 +29,13 @@ import time
 from collections import Counter
 
 import words as command_lines
-from attack_texts import Texts, plain_rows, rows, script
+from attack_texts import Texts, cases, plain_rows, rows, script
 from building import TOP
 from limited_runs import Ended, Program
 
 KEPT = TOP / "out/attack"
-FILES = {"check": ["a.cif"], "generate": ["a.cif"], "replay": ["a.st", "rows.csv"], "simulate": ["a.cif", "script.txt"], "why": ["a.cif", "script.txt"]}
+FILES = {"check": ["a.cif"], "generate": ["a.cif"], "replay": ["a.st", "rows.csv"],
+         "batch": ["a.st", "cases.csv"], "simulate": ["a.cif", "script.txt"], "why": ["a.cif", "script.txt"]}
 ATTACKS = [*FILES, "words"]
 MOST_PROGRAM = 16777216
 
@@ -58,12 +59,13 @@ def form_of(field, value):
 
 
 FORMS = forms()
-STATUSES = {7: range(1, 25), 8: (25, 28), 9: range(31, 40), 10: range(44, 48), 11: (40, 41, 42), 12: (43,), 13: (26, 27, 29)}
+STATUSES = {7: range(1, 25), 8: (25, 28), 9: range(31, 40), 10: range(44, 49), 11: (40, 41, 42), 12: (43,), 13: (26, 27, 29)}
 # The statuses of each command, and which of its files a status is about.
 MAY = {"check": (0, 2, 3, 4, 5, 6, 7, 8), "generate": (0, 2, 3, 4, 5, 6, 7, 8), "replay": (0, 2, 3, 4, 5, 6, 9, 10, 11, 12),
+       "batch": (0, 2, 3, 4, 5, 6, 9, 10, 11, 12),
        "simulate": (0, 2, 3, 4, 5, 6, 7, 8, 13), "why": (0, 2, 3, 4, 5, 6, 7, 8, 13, 16)}
 ABOUT = {7: 0, 8: 0, 9: 0, 10: 1, 11: 0, 12: 0, 13: 1}
-LIMITS = {"a.cif": 4194304, "a.st": 16777216, "rows.csv": 67108864, "script.txt": 4194304}
+LIMITS = {"a.cif": 4194304, "a.st": 16777216, "rows.csv": 67108864, "cases.csv": 67108864, "script.txt": 4194304}
 MEMORY = b"cif: out of memory\n"
 
 
@@ -107,12 +109,14 @@ def judged(command, files, ended):
         return f"status {status}"
     if command in ("check", "simulate", "why") and re.match(rb"cif: [^ ]+: 28 ", err):
         return f"28 of {command}"
+    if command == "replay" and re.match(rb"cif: [^ ]+: 48 ", err):
+        return "48 of replay"
     if status in (4, 5):
         pass
     elif command == "simulate" and status in (0, 13):
         if not re.match(rb"start[ \n]", out) or not out.endswith(b"\n"):
             return "no lines of a run"
-    elif status == 0 and (out != b"ok\n" if command == "check" else not out):
+    elif status == 0 and (out != b"ok\n" if command == "check" else not out and command != "batch"):
         return "status 0 without its output"
     elif status and out:
         return f"an output with status {status}"
@@ -226,6 +230,19 @@ class Attack:
         self.last = self.asked("replay", "a.st", "rows.csv")
         self.again(("replay", "a.st", "rows.csv"), self.last)
 
+    def batch(self):
+        """Cases, which `replay` takes where they are one case; without a row `batch` writes nothing."""
+        self.write("a.st", self.texts.program(self.choose))
+        self.write("cases.csv", cases(self.choose, self.files["a.st"]))
+        self.last = self.asked("batch", "a.st", "cases.csv")
+        self.again(("batch", "a.st", "cases.csv"), self.last)
+        self.write("rows.csv", self.files["cases.csv"])
+        replayed = self.asked("replay", "a.st", "rows.csv")
+        if replayed.status == 0 and replayed.out.count(b"\n") == 1:
+            replayed = replayed._replace(out=b"")
+        if replayed.status in (0, 9, 11, 12) and self.last.status != 5 and self.last != replayed:
+            self.blame(f"replay has status {replayed.status} and {replayed.err[:200]!r}", ("batch", "a.st", "cases.csv"))
+
     def write_script(self):
         """Writes a source and a script for it; the paths of what it may declare."""
         text, paths = self.texts.source_to_run(self.choose, self.number)
@@ -267,6 +284,7 @@ class Attack:
         self.write("a.cif", b"event e;")
         self.write("a.st", b"PROGRAM p END_PROGRAM")
         self.write("rows.csv", b"scan\n1\n")
+        self.write("cases.csv", b"scan\n1\n1\n")
         self.write("script.txt", b"fire e")
         given = some_words(self.choose)
         self.last = ended = self.run(*given)
@@ -278,8 +296,8 @@ class Attack:
             self.blame(fault, given)
 
 
-COMMON = ["check", "generate", "replay", "simulate", "why"]
-NAMES = ["a.cif", "a.cif", "a.cif", "a.st", "a.st", "rows.csv", "rows.csv", "script.txt", "script.txt", "none", ".", "..", "/", "/dev/null", "/dev/full", "a.cif/", "a.cif/x", "./a.cif", "n" * 255, "n" * 256,
+COMMON = ["check", "generate", "replay", "batch", "simulate", "why"]
+NAMES = ["a.cif", "a.cif", "a.cif", "a.st", "a.st", "rows.csv", "rows.csv", "cases.csv", "cases.csv", "script.txt", "script.txt", "none", ".", "..", "/", "/dev/null", "/dev/full", "a.cif/", "a.cif/x", "./a.cif", "n" * 255, "n" * 256,
          "d/" * 2000, "x" * 100000, "\n", "a\nb", "\x1b[2J", "\udcff", "a\udcc3(", "\u00e4", "\u202e", "", " ", "-", "--", "--unc", "-o", "/proc/self/mem", "/proc/self/cmdline"]
 WORDS = ["--unc", "--con", "--unc", "--con", "--first", "--first", "1", "5", "100", "10000", "0", "10001", "1000001", "-1", "+1", "01", " 1", "1 ", "1.0", "1e3", "0x10", "", "\u0661", "9" * 100000,
          "--unc=1", "--Unc", "--", "-", "--help", "--version", "-h", "-o", "--places", "check", "\udcff", "\n"]
@@ -287,7 +305,7 @@ WORDS = ["--unc", "--con", "--unc", "--con", "--first", "--first", "1", "5", "10
 
 def some_words(choose):
     """A list of words that is a command line, nearly one, or none."""
-    command = choose.choice(COMMON if choose.random() < 0.9 else NAMES + WORDS + ["Check", "checks", "batch", "make", "trace"])
+    command = choose.choice(COMMON if choose.random() < 0.9 else NAMES + WORDS + ["Check", "checks", "batches", "make", "trace"])
     if choose.random() < 0.02:
         return []
     files = [choose.choice(NAMES) for _ in range(choose.choice([0, 1, 1, 1, 2, 2, 2]))]

@@ -1,4 +1,4 @@
-"""Makes hostile texts for `attack.py`: sources, programs, rows and scripts, whole, mutated and of forms that grow.
+"""Makes hostile texts for `attack.py`: sources, programs, rows, cases and scripts, whole, mutated and of forms that grow.
 
 All is bytes, and each text depends on nothing but the choices of one random.Random and the corpus.
 """
@@ -374,9 +374,13 @@ def inputs_of(text):
 
 def plain_rows(text, scans):
     """Rows that a program takes: its inputs stay at their least values."""
+    return numbered_rows(text, range(1, scans + 1))
+
+
+def numbered_rows(text, numbers):
     inputs = inputs_of(text)
     lines = [b",".join([b"scan"] + [name for name, _ in inputs])]
-    lines += [b",".join([b"%d" % scan] + [value for _, value in inputs]) for scan in range(1, scans + 1)]
+    lines += [b",".join([b"%d" % scan] + [value for _, value in inputs]) for scan in numbers]
     return b"\n".join(lines) + b"\n"
 
 
@@ -384,14 +388,14 @@ CELLS = [b"TRUE", b"true", b"True", b"1", b"0", b"01", b"-0", b"-1", b"2", b" 1"
          b"-9223372036854775808", b"-9223372036854775809", b"9" * 1000, b"x" * 20000, b"\0", b"\xff", b"1\r", b'1"1', b"'1'", b"scan"]
 
 
-def some_rows(choose, text):
-    """Rows with cells of all sorts."""
+def some_rows(choose, text, numbers):
+    """Rows with these numbers and cells of all sorts."""
     inputs = inputs_of(text)
     names = [b"scan"] + [name for name, _ in inputs]
     if choose.random() < 0.3:
         choose.shuffle(names)
     rows = [names]
-    for scan in range(1, choose.choice([0, 1, 1, 2, 3, 10]) + 1):
+    for scan in numbers:
         rows.append([b"%d" % scan if name == b"scan" else choose.choice([dict(inputs)[name], b"1", b"TRUE", b"3"]) for name in names])
     for _ in range(choose.choice([0, 0, 0, 1, 1, 2])):
         row = choose.choice(rows)
@@ -410,10 +414,35 @@ def rows(choose, text):
     if way < 0.04:
         count = choose.choice([1, 1000, 100000, 100001]) if choose.random() < 0.3 else 1000
         return b"scan\n" + b"".join(b"%d\n" % scan for scan in range(1, count + 1))
-    found = plain_rows(text, choose.choice([0, 1, 2, 5])) if way < 0.4 else some_rows(choose, text)
+    found = plain_rows(text, choose.choice([0, 1, 2, 5])) if way < 0.4 else some_rows(choose, text, range(1, choose.choice([0, 1, 1, 2, 3, 10]) + 1))
     if way > 0.75:
         found = mutated(choose, found, lambda _: found)
     return found
+
+
+# ---- cases
+
+def numbers_of_cases(choose):
+    """The numbers under `scan` of some cases; now and then one of them is another."""
+    sizes = [choose.choice([1, 1, 2, 3, 10]) for _ in range(choose.choice([0, 1, 1, 2, 3, 5, 9, 40]))]
+    numbers = [scan for size in sizes for scan in range(1, size + 1)]
+    if numbers and choose.random() < 0.2:
+        numbers[choose.randrange(len(numbers))] = choose.choice([0, 1, 2, 3, 11, 100000, 100001, 2 ** 64 + 1])
+    return numbers
+
+
+def cases(choose, text):
+    """Hostile cases for a program."""
+    way = choose.random()
+    if way < 0.03:
+        return blank(choose)
+    if way < 0.05:
+        count = choose.choice([1000, 100000, 100001]) if choose.random() < 0.3 else 1000
+        size = choose.choice([1, 2, 333, 99999, 100001])
+        return b"scan\n" + b"".join(b"%d\n" % (row % size + 1) for row in range(count))
+    numbers = numbers_of_cases(choose)
+    found = numbered_rows(text, numbers) if way < 0.4 else some_rows(choose, text, numbers)
+    return mutated(choose, found, lambda _: found) if way > 0.75 else found
 
 
 # ---- scripts

@@ -100,8 +100,11 @@ FAULT = "PROGRAM p VAR_INPUT a: LINT (0 .. 9); END_VAR VAR x: LINT; END_VAR VAR_
 REASONS = "controllable e; automaton a: disc int[0..3] x; location: initial; edge e do x := 9; edge e do x := 1; end invariant e needs a.x > 0; invariant a.x != 1;"
 SCRIPT = "set go true\nset level 2\n\nset asked busy\nfire flag\nfire watch.stop\n"
 ROWS = "scan,I0_go,I1_level,I2_asked\n1,TRUE,5,1\n2,FALSE,-2,0\n3,1,0,1\n"
+# Six cases, more than there are workers, of which one has two rows.
+CASES = ROWS.replace("\n3,", "\n1,") + "1,0,1,0\n1,1,2,1\n1,0,3,1\n1,1,4,0\n"
 FILES = {
     **WRONG, "forms.cif": FORMS, "fault.st": FAULT, "fault-rows.csv": "scan,a\n1,2\n2,0\n", "rows.csv": ROWS, "wrong-rows.csv": ROWS + "4,1,6,0\n",
+    "cases.csv": CASES, "wrong-cases.csv": CASES + "3,1,4,0\n", "fault-cases.csv": "scan,a\n1,2\n1,3\n2,0\n1,0\n1,1\n1,0\n",
     "wrong.st": FAULT.replace("6 / a", "6 / b"), "open.st": FAULT.replace("x :=", "x := ("),
     "reasons.cif": REASONS, "script.txt": SCRIPT, "empty.txt": "", "stop.txt": SCRIPT + "set level 6\n", "bad.txt": SCRIPT + "set level\n",
 }
@@ -113,6 +116,8 @@ RUNS = [
     ("simulate forms.cif script.txt", 0), ("simulate forms.cif stop.txt", 13), ("simulate forms.cif bad.txt", 13), ("simulate forms.cif --first 9", 0),
     ("simulate cycle.cif script.txt", 7), ("simulate forms.cif none.txt", 3), ("why forms.cif script.txt give", 0), ("why reasons.cif empty.txt e", 0),
     ("why forms.cif stop.txt tick", 13), ("why forms.cif script.txt go", 16),
+    ("batch lamp.st lamp-rows.csv", 0), ("batch forms.st cases.csv", 0), ("batch fault.st fault-cases.csv", 11), ("batch wrong.st cases.csv", 9),
+    ("batch forms.st wrong-cases.csv", 10), ("batch forms.st none.csv", 3),
     ("generate unclassed.cif", 8), ("check none.cif", 3), ("replay lamp.st none.csv", 3), ("look lamp.cif", 2),
 ]
 

@@ -13,7 +13,7 @@ sys.path[:0] = [str(pathlib.Path(__file__).resolve().parent)]
 import attack  # noqa: E402
 import refuse_memory  # noqa: E402
 from attack import Attack, Ended, judged, placed  # noqa: E402
-from attack_texts import Texts, inputs_of, plain_rows, script  # noqa: E402
+from attack_texts import Texts, cases, inputs_of, plain_rows, script  # noqa: E402
 from building import TOP  # noqa: E402
 from limited_runs import Program  # noqa: E402
 from refuse_memory import chosen, fault_of  # noqa: E402
@@ -58,6 +58,12 @@ class Judged(unittest.TestCase):
             self.assertIsNotNone(judged(command, ["a.cif", "script.txt"], ended), ended)
         for ended in (end(10, "cif: a.st: 44 Header column 3\n"), end(11, "cif: a.st: 40 Overflow\n"), end(11, "cif: a.st: row 0: 40 Overflow\n"), Ended(0, b"", b"")):
             self.assertIsNotNone(judged("replay", ["a.st", "rows.csv"], ended), ended)
+        for ended in (end(11, "cif: a.st: row 12: 42 SubrangeLeft variable x value -4\n"), end(10, "cif: cases.csv: 48 CaseBoundary row 3\n"), OK._replace(out=b""),
+                      Ended(0, b"scan,y\n1,0\nscan,y\n1,0\n", b"")):
+            self.assertIsNone(judged("batch", ["a.st", "cases.csv"], ended), ended)
+        for command, ended in (("replay", end(10, "cif: rows.csv: 48 CaseBoundary row 3\n")), ("batch", end(10, "cif: a.st: 48 CaseBoundary row 3\n")),
+                               ("batch", end(10, "cif: cases.csv: 48 CaseBoundary\n")), ("batch", end(11, "cif: a.st: row 1: 40 Overflow\n", b"scan\n"))):
+            self.assertIsNotNone(judged(command, ["a.st", "cases.csv" if command == "batch" else "rows.csv"], ended), ended)
 
     def test_places(self):
         line = "cif: a.cif: 6 Duplicate at 36 first 13\n"
@@ -128,6 +134,18 @@ class Playing(unittest.TestCase):
         self.assertEqual(self.faults('[ "$1" = why ] && echo enabled || echo start', "why", 4), {None})
         found = self.faults('[ "$1" = why ] && echo "blocks a" || echo start', "why", 2)
         self.assertIn("why has b'blocks a\\n' and status 0, and simulate b''", found)
+
+    def test_attacks_of_cases(self):
+        self.assertEqual(self.faults('printf "scan\\n1\\n"', "batch", 4), {None})
+        self.assertEqual(self.faults('[ "$1" = batch ] || echo scan', "batch", 4), {None})
+        self.assertIn("replay has status 0 and b''", self.faults('[ "$1" = batch ] && printf "scan\\n2\\n" || printf "scan\\n1\\n"', "batch", 2))
+        self.assertIn("replay has status 11 and b'cif: a.st: row 2: 40 Overflow\\n'",
+                      self.faults('echo "cif: a.st: row $([ "$1" = batch ] && echo 1 || echo 2): 40 Overflow" >&2; exit 11', "batch", 2))
+
+    def test_cases(self):
+        choose, text = random.Random(1), b"PROGRAM p VAR_INPUT i: BOOL; END_VAR END_PROGRAM"
+        made = [cases(choose, text) for _ in range(60)]
+        self.assertTrue(any(b"\n1,FALSE\n2,FALSE\n1,FALSE\n" in it for it in made))
 
     def test_scripts(self):
         choose = random.Random(1)
