@@ -1,11 +1,11 @@
 #!/usr/bin/env python3
-"""Compares `replay` with an independent interpreter of Structured Text (IEC 61131-3), on random programs and rows.
+"""Compares `replay` and `batch` with an independent interpreter of Structured Text (IEC 61131-3), on random programs, rows and cases.
 
     tools/compare_programs.py PROGRAM [PROGRAMS [SEED]]
 
-Some programs break a check, some rows the rules of a rows file, and some scans divide by 0, leave a subrange, pass 64 bits or
-loop without end; most do not. Compared are the table, or else the line that is told, and the status. The status is 1 where the
-two differ.
+Some programs break a check, some rows and cases the rules of their files, and some scans divide by 0, leave a subrange, pass 64
+bits or loop without end; most do not. Each program has rows and cases. Compared are the table, or those of the cases in order, or else
+the line that is told, of the first case that stops, and the status. The status is 1 where the two differ.
 """
 import os
 import random
@@ -16,6 +16,7 @@ import tempfile
 from collections import Counter, namedtuple
 
 LEAST, GREATEST = -2 ** 63, 2 ** 63 - 1
+MOST_ROWS = 100000
 # A program whose scan takes more turns is not tried, but for a loop that is empty and has no end: it runs out of the 1,000,000
 # turns of a scan. So how many these are is not compared.
 MOST_TURNS = 2000
@@ -303,13 +304,22 @@ class RowMaker:
         return fields[:place] + [other] + fields[place + 1:]
 
     def records(self, scans):
+        return self.records_of(range(1, scans + 1), ODD_CELLS)
+
+    def case_records(self, sizes):
+        """Cases of these sizes, of which some rows have another number."""
+        numbers = [scan for size in sizes for scan in range(1, size + 1)]
+        if numbers and self.maybe(0.1):
+            numbers[self.choose.randrange(len(numbers))] = self.choose.choice([0, 1, 1, 2, 3, 4, MOST_ROWS, MOST_ROWS + 1])
+        return self.records_of(numbers, ODD_CELLS + ["1", "3"])
+
+    def records_of(self, numbers, odd_cells):
         names = ["scan"] + list(self.inputs)
         self.choose.shuffle(names)
-        rows = [[str(scan) if name == "scan" else self.cell(self.inputs[name]) for name in names]
-                for scan in range(1, scans + 1)]
+        rows = [[str(scan) if name == "scan" else self.cell(self.inputs[name]) for name in names] for scan in numbers]
         for _ in range(self.choose.choice([0] * 14 + [1, 1, 2]) if rows else 0):
             place = self.choose.randrange(len(rows))
-            rows[place] = self.spoiled(rows[place], ODD_CELLS)
+            rows[place] = self.spoiled(rows[place], odd_cells)
         if self.maybe(0.02) and rows:
             rows.pop(self.choose.randrange(len(rows)))
         if self.maybe(0.07):
@@ -411,8 +421,12 @@ def cell_value(variable, cell):
     return int(cell) if low <= int(cell) <= high else None
 
 
-def broken_rows(variables, records):
-    """The first rule that the records break, as it is told."""
+def is_case_number(cell):
+    return re.fullmatch("[1-9][0-9]{0,5}", cell) and int(cell) <= MOST_ROWS
+
+
+def broken_rows(variables, records, of_cases=False):
+    """The first rule that the records of rows, or of cases, break, as it is told."""
     inputs = [variable for variable in variables if variable.block == "VAR_INPUT"]
     names, header = ["scan"] + [variable.name for variable in inputs], records[0] if records else []
     for place, field in enumerate(header):
@@ -420,14 +434,29 @@ def broken_rows(variables, records):
             return "44 Header column %d" % (place + 1)
     if len(header) < len(names):
         return "44 Header column %d" % (len(header) + 1)
-    of_name = {variable.name: variable for variable in inputs}
+    of_name, before = {variable.name: variable for variable in inputs}, 0
     for number, row in enumerate(records[1:], 1):
         if len(row) != len(header):
             return "46 RowLength row %d" % number
         for column, (name, cell) in enumerate(zip(header, row), 1):
-            if name == "scan" and cell != str(number) or name != "scan" and cell_value(of_name[name], cell) is None:
+            fits = cell_value(of_name[name], cell) is not None if name != "scan" else is_case_number(cell) if of_cases else cell == str(number)
+            if not fits:
                 return "45 Cell row %d column %d" % (number, column)
+        scan = int(row[header.index("scan")])
+        if scan not in (1, before + 1):
+            return "48 CaseBoundary row %d" % number
+        before = scan
     return None
+
+
+def cases_of(records):
+    """The rows of each case."""
+    cases = []
+    for row in records[1:]:
+        if row[records[0].index("scan")] == "1":
+            cases.append([])
+        cases[-1].append(row)
+    return cases
 
 
 # ---- scans
@@ -525,45 +554,70 @@ def wanted(variables, body, records):
     why = broken_rows(variables, records)
     if why:
         return 10, "", "cif: rows: %s\n" % why
-    machine = Machine(variables)
-    lines = [["scan"] + [variable.name for variable in variables if variable.block == "VAR_OUTPUT"]]
-    for scan, row in enumerate(records[1:], 1):
-        try:
-            lines.append([str(scan)] + machine.scan(body, dict(zip(records[0], row))))
-        except Stopped as stopped:
-            return 12 if str(stopped) == "43 Budget" else 11, "", "cif: program: row %d: %s\n" % (scan, stopped)
+    return wanted_tables(variables, body, records[0], [records[1:]])
+
+
+def wanted_of_cases(variables, body, records):
+    """The same of `batch`."""
+    why = broken(variables, body)
+    if why:
+        return 9, "", "cif: program: %s\n" % why
+    why = broken_rows(variables, records, of_cases=True)
+    if why:
+        return 10, "", "cif: cases: %s\n" % why
+    return wanted_tables(variables, body, records[0], cases_of(records))
+
+
+def wanted_tables(variables, body, names, cases):
+    """The tables of the cases, each from the first values, one after the other, or how the first of them stops that does."""
+    lines, number = [], 0
+    for case in cases:
+        machine = Machine(variables)
+        lines.append(["scan"] + [variable.name for variable in variables if variable.block == "VAR_OUTPUT"])
+        for scan, row in enumerate(case, 1):
+            number += 1
+            try:
+                lines.append([str(scan)] + machine.scan(body, dict(zip(names, row))))
+            except Stopped as stopped:
+                return 12 if str(stopped) == "43 Budget" else 11, "", "cif: program: row %d: %s\n" % (number, stopped)
     return 0, "".join(",".join(line) + "\n" for line in lines), ""
 
 
-def replayed(program, folder, text, rows):
-    for name, content in (("program", text), ("rows", rows)):
-        with open(os.path.join(folder, name), "wb") as file:
-            file.write(content.encode())
-    run = subprocess.run([program, "replay", "program", "rows"], cwd=folder, capture_output=True, text=True)
+def write(folder, name, content):
+    with open(os.path.join(folder, name), "wb") as file:
+        file.write(content.encode())
+
+
+def answer(program, folder, *words):
+    run = subprocess.run([program, *words], cwd=folder, capture_output=True, text=True)
     return run.returncode, run.stdout, run.stderr
 
 
 def main(program, programs=1000, seed=1):
-    choose, differ, skipped, told = random.Random(seed), 0, 0, Counter()
+    choose, differ, skipped, told, program = random.Random(seed), 0, 0, Counter(), os.path.abspath(program)
     with tempfile.TemporaryDirectory() as folder:
         for _ in range(programs):
             maker = Maker(choose)
             text, body = maker.program()
+            write(folder, "program", text)
             row_maker = RowMaker(choose, maker.variables, maker.near)
-            records = row_maker.records(choose.choice([0, 1, 2, 2, 3, 3, 4, 6]))
-            rows = row_maker.text(records)
-            try:
-                expected = wanted(maker.variables, body, records)
-            except Endless:
-                skipped += 1
-                continue
-            given = replayed(os.path.abspath(program), folder, text, rows)
-            told.update(re.findall(r"\d+ [A-Z]\w+", expected[2]) or ["nothing"])
-            if given != expected:
-                differ += 1
-                print("%s over %r: wanted %r, given %r" % (text, rows, expected, given))
+            sizes = [choose.choice([1, 1, 2, 2, 3, 5]) for _ in range(choose.choice([0, 1, 2, 2, 3, 3, 4, 5, 6, 9]))]
+            for command, file, records, expects in (("replay", "rows", row_maker.records(choose.choice([0, 1, 2, 2, 3, 3, 4, 6])), wanted),
+                                                    ("batch", "cases", row_maker.case_records(sizes), wanted_of_cases)):
+                rows = row_maker.text(records)
+                try:
+                    expected = expects(maker.variables, body, records)
+                except Endless:
+                    skipped += 1
+                    continue
+                write(folder, file, rows)
+                given = answer(program, folder, command, "program", file)
+                told.update(command + " " + why for why in re.findall(r"\d+ [A-Z]\w+", expected[2]) or ["nothing"])
+                if given != expected:
+                    differ += 1
+                    print("%s of %s over %r: wanted %r, given %r" % (command, text, rows, expected, given))
     print("told: " + ", ".join("%s %d times" % (why, times) for why, times in sorted(told.items())))
-    print("%d programs, %d not tried: %d differences" % (programs, skipped, differ))
+    print("%d programs over rows and cases, %d of these not tried: %d differences" % (programs, skipped, differ))
     return 1 if differ else 0
 
 
