@@ -2,10 +2,12 @@
 // REFUSE_ALL those behind it too. The requests are those by malloc and realloc. Their count is kept in the file REFUSE_COUNT.
 //
 // A program with the address sanitizer has an allocator of its own, to which its malloc and realloc jump. There the two jumps are led here.
+// What the sanitizer itself asks for as a thread begins is neither counted nor refused: it stops without it.
 #define _GNU_SOURCE
 #include <dlfcn.h>
 #include <errno.h>
 #include <fcntl.h>
+#include <pthread.h>
 #include <stdint.h>
 #include <stdlib.h>
 #include <string.h>
@@ -13,10 +15,12 @@
 #include <unistd.h>
 
 static uint64_t own_count, *count = &own_count, first;
-static int goes_on;
+static int goes_on, has_sanitizer;
+static __thread int is_exempt __attribute__((tls_model("initial-exec")));
 static void *(*real_malloc)(size_t), *(*real_realloc)(void *, size_t);
 
 static int is_refused(void) {
+  if (is_exempt) return 0;
   uint64_t number = __atomic_add_fetch(count, 1, __ATOMIC_SEQ_CST);
   int is = first && (number == first || (goes_on && number > first));
   if (is) errno = ENOMEM;
@@ -44,6 +48,15 @@ static void *front_realloc(void *at, size_t size) {
 
 void *malloc(size_t size) __attribute__((alias("front_malloc")));
 void *realloc(void *at, size_t size) __attribute__((alias("front_realloc")));
+
+// What the sanitizer calls as a thread begins, which takes memory.
+int pthread_getattr_np(pthread_t thread, pthread_attr_t *attributes) {
+  int (*real)(pthread_t, pthread_attr_t *) = dlsym(RTLD_NEXT, "pthread_getattr_np");
+  is_exempt = has_sanitizer;
+  int result = real(thread, attributes);
+  is_exempt = 0;
+  return result;
+}
 
 #ifdef __x86_64__
 enum { PAGE = 4096, STEP = 1 << 20, STEPS = 1000, JUMP = 5 };
@@ -86,6 +99,7 @@ static void keep_count(const char *file) {
 __attribute__((constructor)) static void begin(void) {
   void *of_malloc = dlsym(RTLD_DEFAULT, "malloc"), *of_realloc = dlsym(RTLD_DEFAULT, "realloc");
   if (of_malloc != (void *)front_malloc) {
+    has_sanitizer = 1;
     real_realloc = led(of_realloc, counted_realloc);
     real_malloc = led(of_malloc, counted_malloc);
     if (!real_realloc || !real_malloc) _exit(99);
