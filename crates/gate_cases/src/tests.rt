@@ -5,7 +5,9 @@ ghost use Rattle.std.specs.Prelude.{◌≤◌, length};
 use crate::both::Both;
 use cif_base::Text;
 use cif_batch::{CaseErr, Gate, NoGate, batch};
+use cif_io::{MemFile, MemFiles, MemSink};
 use cif_replay::program_of;
+use cif_tool::{Status, tool};
 use plc_rows::read_cases;
 use st_scan::ScanErr;
 use std::alloc::Global;
@@ -52,6 +54,41 @@ fn one_worker_does_not_pass_the_gate(rt: HostRuntime) -> Result<(), std::test::F
     let texts = answer(&rt, rt.alloc(), b"scan,a\n1,1\n1,3\n", 1, &gate)?;
     assert!(rt; !gate.is_passed());
     assert_eq!(rt; texts.len(), 2);
+    Ok(())
+}
+
+#[test]
+fn two_cases_of_the_command_are_at_work_at_once(rt: HostRuntime) -> Result<(), std::test::Fail> {
+    let alloc = rt.alloc();
+    let gate = Both::new();
+    let mut files = Vec::new(alloc);
+    files.push(MemFile {
+        name: Text::from_vec(Vec::from_slice(alloc, b"p.st")?),
+        bytes: Text::from_vec(Vec::from_slice(alloc, PROGRAM)?),
+    })?;
+    files.push(MemFile {
+        name: Text::from_vec(Vec::from_slice(alloc, b"c.csv")?),
+        bytes: Text::from_vec(Vec::from_slice(alloc, b"scan,a\n1,1\n1,3\n")?),
+    })?;
+    let mut files = MemFiles::new(alloc, files, Vec::new(alloc))?;
+    let mut words = Vec::new(alloc);
+    for word in ["batch", "p.st", "c.csv"] {
+        words.push(String::from_str(alloc, word)?)?;
+    }
+    let mut out = MemSink::new(alloc, 16, Vec::new(alloc));
+    let mut err = MemSink::new(alloc, 16, Vec::new(alloc));
+    let status = tool(
+        &rt,
+        alloc,
+        words.as_slice(),
+        &mut files,
+        &mut out,
+        &mut err,
+        &gate,
+    );
+    assert!(rt; matches!(status, Status::Done));
+    assert!(rt; gate.is_passed());
+    assert_eq!(rt; out.as_slice(), b"scan,y\n1,1\nscan,y\n1,3\n".as_slice());
     Ok(())
 }
 
