@@ -366,7 +366,7 @@ def grown_program(choose, count):
 def inputs_of(text):
     """The names of the inputs of a program, and the least value of each, or FALSE."""
     found = []
-    for block in re.findall(rb"VAR_INPUT(.*?)END_VAR", text, re.S | re.I):
+    for block in re.findall(rb"\bVAR_INPUT\b(.*?)\bEND_VAR\b", text, re.S | re.I):
         for name, kind, low in re.findall(rb"(\w+)\s*:\s*(BOOL|LINT)\s*(?:\(\s*(-?\s*\d+))?", block, re.I):
             found.append((name, b"FALSE" if kind.upper() == b"BOOL" else low.replace(b" ", b"") or b"0"))
     return found

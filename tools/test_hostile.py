@@ -167,6 +167,8 @@ class Playing(unittest.TestCase):
     def test_rows(self):
         text = (TOP / "examples/tank.st").read_bytes()
         self.assertEqual(inputs_of(text), [(b"start", b"FALSE"), (b"alarm", b"FALSE"), (b"drained", b"0")])
+        named = b"PROGRAM p VAR_INPUT I0_a: BOOL; I1_END_VAR: LINT (2 .. 3); END_VAR END_PROGRAM"
+        self.assertEqual(inputs_of(named), [(b"I0_a", b"FALSE"), (b"I1_END_VAR", b"2")])
         self.assertEqual(plain_rows(text, 1), b"scan,start,alarm,drained\n1,FALSE,FALSE,0\n")
 
     @unittest.skipUnless(shutil.which("gcc"), "there is no gcc, which compiles what refuses memory")
