@@ -1,6 +1,6 @@
 //! Numbers drawn from a seed.
 
-ghost use Rattle.std.specs.Prelude.{◌≡◌, ◌<◌, ◌/◌};
+ghost use Rattle.std.specs.Prelude.{◌≡◌, ◌<◌, ◌^◌, ◌/◌};
 ghost use Rattle.cif_maker.specs.Draws.{stepped, after_draws};
 
 use std::marker::Model;
@@ -12,13 +12,13 @@ pub struct Draws {
 }
 
 impl Model for Draws {
-    ghost use Rattle.std.specs.Prelude.{ℕ, ◌<◌};
+    ghost use Rattle.std.specs.Prelude.{ℕ, ◌<◌, ◌^◌};
 
     ghost Value = { ℕ };
 
     ghost view = { λ d. d.state };
 
-    ghost invariant = { λ d. d.state < 2147483648 };
+    ghost invariant = { λ d. d.state < 2 ^ 31 };
 
     ghost inverse = { λ s. record { state = s } };
 }
@@ -26,7 +26,7 @@ impl Model for Draws {
 impl Draws {
     /// The generator whose first state is the seed.
     pub fn new(seed: u64) -> Draws
-        requires { seed < 2147483648 }
+        requires { seed < 2 ^ 31 }
         ensures { result ≡ seed }
     {
         Draws { state: seed }

@@ -1,6 +1,6 @@
 //! The rows of a made source.
 
-ghost use Rattle.std.specs.Prelude.{◌≡◌, ◌<◌, ◌%◌, ◌+◌, ◌++◌, flat_map, codes, decimal, string_bytes, IfOk, OnOk};
+ghost use Rattle.std.specs.Prelude.{◌≡◌, ◌<◌, ◌^◌, ◌%◌, ◌+◌, ◌++◌, flat_map, codes, decimal, string_bytes, IfOk, OnOk};
 ghost use Rattle.cif_maker.specs.Draws.{after_draws, draw, numbers_below};
 ghost use Rattle.cif_maker.specs.MadeText.{input_name, truth_text, made_rows_text};
 
@@ -14,7 +14,7 @@ const ROWS: u32 = 100;
 /// The rows file of the made source of that seed and size: a header, and 100 rows of TRUE and FALSE for the inputs in order.
 /// The values are drawn by the generator of the source, after the numbers of the source.
 pub fn rows_for(alloc: Global, seed: u64, size: u32) -> Result<Vec<u8>, Memory>
-    requires { seed < 2147483648 }
+    requires { seed < 2 ^ 31 }
     ensures { IfOk result (λ text. text.items ≡ made_rows_text seed size) }
 {
     let mut draws = Draws::new(seed);

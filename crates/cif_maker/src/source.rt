@@ -1,6 +1,6 @@
 //! The text of a made source.
 
-ghost use Rattle.std.specs.Prelude.{◌≡◌, ◌<◌, [], ◌++◌, nat_lt, ◌&&◌, if◌then◌else◌, string_bytes, IfOk, OnOk};
+ghost use Rattle.std.specs.Prelude.{◌≡◌, ◌<◌, ◌^◌, [], ◌++◌, nat_lt, ◌&&◌, if◌then◌else◌, string_bytes, IfOk, OnOk};
 ghost use Rattle.cif_maker.specs.Draws.{next_of};
 ghost use Rattle.cif_maker.specs.MadeText.{concatenated, plant_pieces, need_pieces, made_text};
 
@@ -13,7 +13,7 @@ use std::alloc::Global;
 /// requirement that `ci` needs the next plant idle, the first after the last. The two numbers of `i`, `m` (1 to 9) and whether
 /// it has the requirement, are drawn from the seed by a linear congruential generator.
 pub fn make(alloc: Global, seed: u64, size: u32) -> Result<Vec<u8>, Memory>
-    requires { seed < 2147483648 }
+    requires { seed < 2 ^ 31 }
     ensures { IfOk result (λ text. text.items ≡ made_text seed size) }
 {
     let mut draws = Draws::new(seed);
