@@ -18,8 +18,8 @@ use Rattle.cif_alg.specs.declared.error.AlgErr.TheVariants as alg
 use Rattle.cif_lin.specs.declared.error.LinErr.{LinErr}
 use Rattle.cif_lin.specs.declared.error.LinErr.TheVariants as lin
 use Rattle.cif_source.specs.Source.{Source, source_of}
-use Rattle.cif_image.specs.WellFormed as rule
-use Rattle.cif_image.specs.WellFormed.{Broken}
+use Rattle.cif_inst_model.specs.WellFormed as rule
+use Rattle.cif_inst_model.specs.WellFormed.{Broken}
 use Rattle.cif_front.specs.Paths.{NamesIn}
 use Rattle.cif_front.specs.Dues.{IsDue, LexDue, ParseDue, HasRule, SourceDue, scope_rule, type_rule, inst_rule, alg_rule, lin_rule}
 use Rattle.cif_front.specs.declared.refusal.Refusal.{Refusal as Unloaded}

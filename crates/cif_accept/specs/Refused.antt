@@ -3,7 +3,7 @@ use Rattle.std.specs.Prelude.{ℕ}
 use Rattle.grammar.specs.Pieces.{Text}
 use Rattle.cif_lex.specs.Tokens.{BadByteDue, NumberTooBigDue, OpenCommentDue}
 use Rattle.cif_parse.specs.Grammar.{NotReadDue}
-use Rattle.cif_image.specs.WellFormed as rule
+use Rattle.cif_inst_model.specs.WellFormed as rule
 use Rattle.cif_alg.specs.declared.error.AlgErr.TheVariants as alg
 use Rattle.cif_front.specs.Dues.{SourceDue}
 use Rattle.cif_front.specs.Paths.{NamesIn}

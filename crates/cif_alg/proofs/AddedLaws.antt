@@ -1,10 +1,10 @@
 -- The sizes of algebraic variables that are counted one after the other count as their sum, where the measures stop alike.
 use Rattle.std.proofs.Common.{◌≡◌, ℕ, ◌+◌, List, [], ◌∷◌, map, refl, ◌∙◌, ap, arith}
 use Rattle.std.proofs.lemmas.List.Sums.{sum_by-cons}
-use Rattle.cif_model.specs.Counts.{sizes, stopped, most_nodes}
-use Rattle.cif_model.specs.Counts as counts
-use Rattle.cif_measure.specs.declared.measures.Measure.{Measure}
-use Rattle.cif_measure.specs.Meanings.{as_measure, stopped_measure}
+use Rattle.cif_net_model.specs.Counts.{sizes, stopped, most_nodes}
+use Rattle.cif_net_model.specs.Counts as counts
+use Rattle.cif_alg_measure.specs.declared.measures.Measure.{Measure}
+use Rattle.cif_alg_measure.specs.Meanings.{as_measure, stopped_measure}
 use Rattle.cif_alg.specs.Weighed.{cut}
 use Rattle.cif_alg.specs.Sizes.{sizes_added}
 

@@ -6,9 +6,9 @@ use Rattle.std.proofs.lemmas.List.{append-nil, append_assoc}
 use Rattle.std.proofs.lemmas.List.Sums.{sum_by-cons}
 use Rattle.cif_system.specs.System.{Role, sending, receiving}
 use Rattle.cif_system.specs.Choices.{product_by}
-use Rattle.cif_model.specs.Net.{NetEdge, NetAuto, NetEvent, NetExclusion, NetInvariant}
-use Rattle.cif_model.specs.Listing.{syncs_on}
-use Rattle.cif_model.specs.Counts.{Measure}
+use Rattle.cif_net_model.specs.Net.{NetEdge, NetAuto, NetEvent, NetExclusion, NetInvariant}
+use Rattle.cif_net_model.specs.Listing.{syncs_on}
+use Rattle.cif_net_model.specs.Counts.{Measure}
 use Rattle.cif_alg.specs.declared.weighed.Weighed.{Weighed}
 use Rattle.cif_alg.specs.declared.tally.Tally.{Tally}
 use Rattle.cif_alg.specs.Weighed.{cut, weighed, paired, all_nodes}

@@ -8,8 +8,8 @@ use Rattle.cif_system.specs.System.{Role, sending, receiving}
 use Rattle.cif_system.specs.Step.{Numbered, has_edge}
 use Rattle.cif_system.specs.Choices.{edges_for, options, options_between}
 use Rattle.cif_system.specs.Words.{Member}
-use Rattle.cif_model.specs.Net.{NetAuto, Net}
-use Rattle.cif_model.specs.Meaning.{automaton_in}
+use Rattle.cif_net_model.specs.Net.{NetAuto, Net}
+use Rattle.cif_net_model.specs.Meaning.{automaton_in}
 use Rattle.cif_alg.proofs.SumLaws.{sum-same, sum-nothing, sum-plus, sum-swap, spread}
 use Rattle.cif_alg.proofs.NodeLaws.{weights_of, weights, own_weights, role_weights, total, between, none-weighed}
 

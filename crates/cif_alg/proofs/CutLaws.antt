@@ -1,6 +1,6 @@
 -- Counts that stop on the way are those that stop at the end.
 use Rattle.std.proofs.Common.{◌≡◌, ℕ, ◌+◌, ◌*◌, sym, ◌∙◌, ap, arith}
-use Rattle.cif_model.proofs.CountLaws.{stop-mul}
+use Rattle.cif_net_model.proofs.CountLaws.{stop-mul}
 use Rattle.cif_alg.specs.declared.weighed.Weighed.{Weighed}
 use Rattle.cif_alg.specs.Weighed.{cut, weighed, with_one, paired, all_nodes}
 

@@ -2,7 +2,7 @@
 use Rattle.std.proofs.Common.{◌≡◌, ℕ, List, [], ◌∷◌, drop, length, map, min, refl, ◌∙◌, ap, arith}
 use Rattle.std.proofs.lemmas.List.{drop_all}
 use native.Mathlib.Decide.{dec_lt}
-use Rattle.cif_model.specs.Net as n
+use Rattle.cif_net_model.specs.Net as n
 use Rattle.cif_net.specs.declared.events.Event.{Event}
 use Rattle.cif_net.specs.View.{event_tree}
 use Rattle.cif_alg.specs.declared.tally.Tally.{Tally}

@@ -6,18 +6,18 @@ use Rattle.std.proofs.lemmas.List.Sums.{sum_by-cons, sum_by-append}
 use Rattle.cif_system.specs.System.{Role, syncing, sending, receiving}
 use Rattle.cif_system.specs.Choices.{product_by}
 use Rattle.cif_system.proofs.Lists.{map-length}
-use Rattle.cif_term.specs.Tree.{NetExpr}
-use Rattle.cif_model.specs.Net as n
-use Rattle.cif_model.specs.Meaning.{event_in}
-use Rattle.cif_model.specs.Exprs.{edge_exprs}
-use Rattle.cif_model.specs.Listing.{syncs_on}
-use Rattle.cif_model.specs.Facts.{auto_stands, is_net}
-use Rattle.cif_model.specs.Counts.{no_form, measure, alg_measures, size_of, exclusions_of, invariant_exprs, event_nodes, nodes, weight, stopped, most_nodes}
-use Rattle.cif_model.proofs.Passing.{and-left, and-right}
-use Rattle.cif_measure.specs.declared.measures.Measure.{Measure}
-use Rattle.cif_measure.specs.Meanings.{stopped_measure, table_measure, stopped_table}
-use Rattle.cif_measure.specs.Sizes.{sizes_by, AreMeasured, exprs_counted}
-use Rattle.cif_measure.proofs.SizeLaws.{size-told, size-of_net}
+use Rattle.cif_net_expr.specs.Tree.{NetExpr}
+use Rattle.cif_net_model.specs.Net as n
+use Rattle.cif_net_model.specs.Meaning.{event_in}
+use Rattle.cif_net_model.specs.Exprs.{edge_exprs}
+use Rattle.cif_net_model.specs.Listing.{syncs_on}
+use Rattle.cif_net_model.specs.Facts.{auto_stands, is_net}
+use Rattle.cif_net_model.specs.Counts.{no_form, measure, alg_measures, size_of, exclusions_of, invariant_exprs, event_nodes, nodes, weight, stopped, most_nodes}
+use Rattle.cif_net_model.proofs.Passing.{and-left, and-right}
+use Rattle.cif_alg_measure.specs.declared.measures.Measure.{Measure}
+use Rattle.cif_alg_measure.specs.Meanings.{stopped_measure, table_measure, stopped_table}
+use Rattle.cif_alg_measure.specs.Sizes.{sizes_by, AreMeasured, exprs_counted}
+use Rattle.cif_alg_measure.proofs.SizeLaws.{size-told, size-of_net}
 use Rattle.cif_alg.specs.Weighed.{cut}
 use Rattle.cif_alg.specs.Sizes.{sizes_added}
 use Rattle.cif_alg.specs.Tallies.{edge_nodes, exclusion_nodes, invariants_nodes, counted}

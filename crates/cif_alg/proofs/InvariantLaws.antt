@@ -5,26 +5,26 @@ use Rattle.std.specs.List.{list_all, list_any, AllByRecursion}
 use Rattle.cif_system.specs.System.{State, IsState, initial}
 use Rattle.cif_system.specs.Words.{Member}
 use Rattle.cif_system.proofs.Picks.{append-left, append-right, map-member}
-use Rattle.cif_term.specs.Tree.{NetExpr}
-use Rattle.cif_model.specs.Exprs.{alg_exprs, all_edges, other_exprs}
-use Rattle.cif_model.specs.Facts.{invariant_stands, is_net}
-use Rattle.cif_model.specs.Interval.{truths}
-use Rattle.cif_model.specs.Kinds.{bool_kind}
-use Rattle.cif_model.specs.Meaning.{alg_values, system_of_net}
-use Rattle.cif_model.specs.Net.{NetExclusion, NetInvariant, Net}
-use Rattle.cif_model.specs.Reads.{Read, a_var, an_input, an_alg, a_place, the_received, alg_passes, names_in, names_no_alg, read_of, alg_reads, is_input, reads_input}
-use Rattle.cif_model.specs.Rules.{Evaluated, edge_evaluated, evaluated, holds_first, invariant_keeps, is_plain_expr}
-use Rattle.cif_model.specs.Unfolding.{at_or, unfolded}
-use Rattle.cif_model.specs.Value.{is_true, net_value}
-use Rattle.cif_model.proofs.Passing.{and-left, and-right, all-member}
-use Rattle.cif_model.proofs.PlainLaws.{never}
-use Rattle.cif_model.proofs.ValueLaws.{Setting, Alike, value-alike, ap-two}
+use Rattle.cif_net_expr.specs.Tree.{NetExpr}
+use Rattle.cif_net_model.specs.Exprs.{alg_exprs, all_edges, other_exprs}
+use Rattle.cif_net_model.specs.Facts.{invariant_stands, is_net}
+use Rattle.cif_net_model.specs.Interval.{truths}
+use Rattle.cif_net_model.specs.Kinds.{bool_kind}
+use Rattle.cif_net_model.specs.Meaning.{alg_values, system_of_net}
+use Rattle.cif_net_model.specs.Net.{NetExclusion, NetInvariant, Net}
+use Rattle.cif_net_model.specs.Reads.{Read, a_var, an_input, an_alg, a_place, the_received, alg_passes, names_in, names_no_alg, read_of, alg_reads, is_input, reads_input}
+use Rattle.cif_net_model.specs.Rules.{Evaluated, edge_evaluated, evaluated, holds_first, invariant_keeps, is_plain_expr}
+use Rattle.cif_net_model.specs.Unfolding.{at_or, unfolded}
+use Rattle.cif_net_model.specs.Value.{is_true, net_value}
+use Rattle.cif_net_model.proofs.Passing.{and-left, and-right, all-member}
+use Rattle.cif_net_model.proofs.PlainLaws.{never}
+use Rattle.cif_net_model.proofs.ValueLaws.{Setting, Alike, value-alike, ap-two}
 use Rattle.cif_net.specs.declared.state.State as declared
 use Rattle.cif_net.specs.View.{state_tree}
-use Rattle.cif_safe.specs.Safe.{value_at, IsSafe}
-use Rattle.cif_safe.proofs.First.{first-state}
-use Rattle.cif_safe.proofs.Plain.{net-safe}
-use Rattle.cif_eval.specs.Settings.{told}
+use Rattle.cif_net_model.specs.Safe.{value_at, IsSafe}
+use Rattle.cif_net_model.proofs.First.{first-state}
+use Rattle.cif_net_model.proofs.Plain.{net-safe}
+use Rattle.cif_value.specs.Settings.{told}
 use Rattle.cif_alg.specs.declared.error.AlgErr.TheVariants as err
 use Rattle.cif_alg.specs.Invariants.{IsBroken, Told, checked, and_then, all_checked, AreSafe}
 

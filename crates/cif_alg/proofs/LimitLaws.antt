@@ -2,21 +2,21 @@
 use Rattle.std.proofs.Common.{◌≡◌, ℕ, ◌<◌, ◌^◌, Bool, true, false, ◌||◌, nat_lt, List, map, refl, sym, ◌∙◌, ap, subst, Result, Ok, Err, IfErr, arith}
 use Rattle.std.specs.Result.{IsErrAnd}
 use Rattle.std.proofs.lemmas.Bool.Decides.{nat_tests}
-use Rattle.cif_model.specs.Net as n
-use Rattle.cif_model.specs.Counts.{nodes, depth, stopped, most_nodes, most_depth, is_too_large}
-use Rattle.cif_model.specs.Rules.{IsAcyclic, TooLarge}
+use Rattle.cif_net_model.specs.Net as n
+use Rattle.cif_net_model.specs.Counts.{nodes, depth, stopped, most_nodes, most_depth, is_too_large}
+use Rattle.cif_net_model.specs.Rules.{IsAcyclic, TooLarge}
 use Rattle.cif_net.specs.declared.net.Net.{Net}
 use Rattle.cif_net.specs.View.{net_tree, auto_tree, event_tree, exclusion_tree, invariant_tree}
-use Rattle.cif_measure.specs.declared.measures.Measure.{Measure}
-use Rattle.cif_measure.specs.Meanings.{table_measure}
-use Rattle.cif_measure.specs.Sizes.{AreMeasured}
-use Rattle.cif_measure.specs.declared.error.WidthErr.TheVariants as width
-use Rattle.cif_measure.specs.declared.error.IntervalErr.{IntervalErr}
-use Rattle.cif_measure.specs.declared.error.IntervalErr.TheVariants as interval
-use Rattle.cif_measure.specs.Rules as intervals
-use Rattle.cif_algebraic.specs.declared.error.AlgebraicErr.{AlgebraicErr}
-use Rattle.cif_algebraic.specs.declared.error.AlgebraicErr.TheVariants as algebraic
-use Rattle.cif_algebraic.specs.Orders as orders
+use Rattle.cif_alg_measure.specs.declared.measures.Measure.{Measure}
+use Rattle.cif_alg_measure.specs.Meanings.{table_measure}
+use Rattle.cif_alg_measure.specs.Sizes.{AreMeasured}
+use Rattle.cif_alg_measure.specs.declared.error.WidthErr.TheVariants as width
+use Rattle.cif_alg_measure.specs.declared.error.IntervalErr.{IntervalErr}
+use Rattle.cif_alg_measure.specs.declared.error.IntervalErr.TheVariants as interval
+use Rattle.cif_alg_measure.specs.Rules as intervals
+use Rattle.cif_alg_order.specs.declared.error.AlgebraicErr.{AlgebraicErr}
+use Rattle.cif_alg_order.specs.declared.error.AlgebraicErr.TheVariants as algebraic
+use Rattle.cif_alg_order.specs.Orders as orders
 use Rattle.cif_alg.specs.declared.error.AlgErr.{AlgErr}
 use Rattle.cif_alg.specs.Refusals.{order_refusal, interval_refusal}
 use Rattle.cif_alg.specs.Sizes.{sizes_added}

@@ -7,12 +7,12 @@ use Rattle.std.proofs.lemmas.List.Sums.{sum_by-cons, sum_by-append}
 use Rattle.cif_system.specs.System.{Edge, Role, syncing, sending, receiving}
 use Rattle.cif_system.specs.Step.{Choice, Numbered, has_edge, is_channel, is_for, is_party, numbered}
 use Rattle.cif_system.specs.Choices.{edges_for, number_if, options, options_between, product_of, having, channel_choices, plain_choices, stay}
-use Rattle.cif_term.specs.Tree.{NetExpr}
-use Rattle.cif_model.specs.Net.{NetEdge, NetAuto, Net}
-use Rattle.cif_model.specs.Meaning.{edge_meant, automaton_in, system_of_net}
-use Rattle.cif_model.specs.Exprs.{edge_exprs}
-use Rattle.cif_model.specs.Listing.{NetMove, syncs_on, monitors_event, is_edge_for, move_if, edge_at}
-use Rattle.cif_model.specs.Counts.{measure, size_of, exclusions_of, invariant_exprs, choice_nodes, event_nodes}
+use Rattle.cif_net_expr.specs.Tree.{NetExpr}
+use Rattle.cif_net_model.specs.Net.{NetEdge, NetAuto, Net}
+use Rattle.cif_net_model.specs.Meaning.{edge_meant, automaton_in, system_of_net}
+use Rattle.cif_net_model.specs.Exprs.{edge_exprs}
+use Rattle.cif_net_model.specs.Listing.{NetMove, syncs_on, monitors_event, is_edge_for, move_if, edge_at}
+use Rattle.cif_net_model.specs.Counts.{measure, size_of, exclusions_of, invariant_exprs, choice_nodes, event_nodes}
 use Rattle.cif_alg.proofs.SumLaws.{sum-same, sum-mapped, sum-flat, spread}
 
 -- the party and the expressions of an edge

@@ -1,17 +1,17 @@
 -- Automata, exclusions and state invariants of which the same is counted have as many nodes.
 use Rattle.std.proofs.Common.{◌≡◌, ℕ, ◌+◌, true, List, [], ◌∷◌, map, length, replicate, sum_by, refl, sym, ◌∙◌, ap, arith}
 use Rattle.std.proofs.lemmas.List.Sums.{sum_by-cons}
-use Rattle.cif_model.specs.Net.{NetEdge, NetAuto, NetEvent, NetExclusion, NetInvariant, Net}
-use Rattle.cif_model.specs.Exprs.{edge_exprs}
-use Rattle.cif_model.specs.Facts.{is_net}
-use Rattle.cif_model.specs.Unfolding.{at_or}
-use Rattle.cif_term.specs.Tree.{NetExpr}
-use Rattle.cif_model.specs.Counts.{no_form, alg_measures, measure_by, nodes, stopped, most_nodes}
-use Rattle.cif_model.specs.Counts as counts
-use Rattle.cif_measure.specs.declared.measures.Measure.{Measure}
-use Rattle.cif_measure.specs.Meanings.{stopped_measure, table_measure, stopped_table}
-use Rattle.cif_measure.specs.Sizes.{AreMeasured, sizes_by, exprs_counted}
-use Rattle.cif_measure.proofs.SizeLaws.{size-told, size-of_net}
+use Rattle.cif_net_model.specs.Net.{NetEdge, NetAuto, NetEvent, NetExclusion, NetInvariant, Net}
+use Rattle.cif_net_model.specs.Exprs.{edge_exprs}
+use Rattle.cif_net_model.specs.Facts.{is_net}
+use Rattle.cif_net_model.specs.Unfolding.{at_or}
+use Rattle.cif_net_expr.specs.Tree.{NetExpr}
+use Rattle.cif_net_model.specs.Counts.{no_form, alg_measures, measure_by, nodes, stopped, most_nodes}
+use Rattle.cif_net_model.specs.Counts as counts
+use Rattle.cif_alg_measure.specs.declared.measures.Measure.{Measure}
+use Rattle.cif_alg_measure.specs.Meanings.{stopped_measure, table_measure, stopped_table}
+use Rattle.cif_alg_measure.specs.Sizes.{AreMeasured, sizes_by, exprs_counted}
+use Rattle.cif_alg_measure.proofs.SizeLaws.{size-told, size-of_net}
 use Rattle.cif_alg.specs.declared.tally.Tally.{Tally}
 use Rattle.cif_alg.specs.Sizes.{sizes_added}
 use Rattle.cif_alg.specs.Weighed.{cut}

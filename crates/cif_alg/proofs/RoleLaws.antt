@@ -5,12 +5,12 @@ use Rattle.std.proofs.lemmas.Bool.Decides.{nat_tests}
 use Rattle.cif_system.specs.System.{Role, syncing, sending, receiving}
 use Rattle.cif_system.specs.Step.{same_role, is_channel_of, is_for, has_edge, is_party}
 use Rattle.cif_system.specs.Words.{Member}
-use Rattle.cif_term.specs.Tree.{NetExpr}
-use Rattle.cif_model.specs.Net.{NetChan, no_net_chan, void_net_chan, net_chan_of, NetEdge, NetAuto, NetEvent, Net}
-use Rattle.cif_model.specs.Meaning.{edge_meant, automaton_in, event_in}
-use Rattle.cif_model.specs.Listing.{syncs_on, monitors_event, is_edge_for}
-use Rattle.cif_model.specs.Facts.{channel_of, role_stands, has, has_use, edge_stands, auto_stands}
-use Rattle.cif_model.proofs.Passing.{and-left, and-right, not-true, all-member}
+use Rattle.cif_net_expr.specs.Tree.{NetExpr}
+use Rattle.cif_net_model.specs.Net.{NetChan, no_net_chan, void_net_chan, net_chan_of, NetEdge, NetAuto, NetEvent, Net}
+use Rattle.cif_net_model.specs.Meaning.{edge_meant, automaton_in, event_in}
+use Rattle.cif_net_model.specs.Listing.{syncs_on, monitors_event, is_edge_for}
+use Rattle.cif_net_model.specs.Facts.{channel_of, role_stands, has, has_use, edge_stands, auto_stands}
+use Rattle.cif_net_model.proofs.Passing.{and-left, and-right, not-true, all-member}
 use Rattle.cif_alg.proofs.AutoLaws.{is_channel_there}
 use Rattle.cif_alg.proofs.NodeLaws.{edge_weight, own_edges, stays, own_weights, role_weights, own-weighed, role-weighed}
 use Rattle.cif_alg.proofs.ChannelLaws.{HasOneRole}

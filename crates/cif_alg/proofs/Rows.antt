@@ -2,14 +2,14 @@
 use Rattle.std.proofs.Common.{◌≡◌, ℕ, ◌+◌, ◌*◌, true, List, [], ◌∷◌, ◌++◌, drop, replicate, refl}
 use Rattle.cif_system.specs.System.{plain}
 use Rattle.cif_system.specs.Choices.{all_choices}
-use Rattle.cif_term.specs.Tree.{NetExpr, n_alg, lt, no_net_updates}
-use Rattle.cif_model.specs.Net.{no_net_chan, NetEdge, NetAuto, NetExclusion, NetInvariant, Net}
-use Rattle.cif_model.specs.Meaning.{system_of_net}
-use Rattle.cif_model.specs.Counts.{nodes, depth}
-use Rattle.cif_model.specs.Rules.{is_plain}
-use Rattle.cif_model.proofs.Examples.{here, sure, num, var, compare, event, edge, auto, net_with, counter, channel}
-use Rattle.cif_measure.specs.declared.measures.Measure.{Measure}
-use Rattle.cif_measure.specs.Meanings.{table_measure}
+use Rattle.cif_net_expr.specs.Tree.{NetExpr, n_alg, lt, no_net_updates}
+use Rattle.cif_net_model.specs.Net.{no_net_chan, NetEdge, NetAuto, NetExclusion, NetInvariant, Net}
+use Rattle.cif_net_model.specs.Meaning.{system_of_net}
+use Rattle.cif_net_model.specs.Counts.{nodes, depth}
+use Rattle.cif_net_model.specs.Rules.{is_plain}
+use Rattle.cif_net_model.proofs.Examples.{here, sure, num, var, compare, event, edge, auto, net_with, counter, channel}
+use Rattle.cif_alg_measure.specs.declared.measures.Measure.{Measure}
+use Rattle.cif_alg_measure.specs.Meanings.{table_measure}
 use Rattle.cif_alg.specs.Tallies.{edge_nodes, exclusion_nodes, invariants_nodes, counted}
 use Rattle.cif_alg.specs.Outlines.{AreAsLarge}
 

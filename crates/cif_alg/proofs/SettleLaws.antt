@@ -3,12 +3,12 @@ use Rattle.std.proofs.Common.{◌≡◌, ℕ, true, false, not, ◌&&◌, List, 
 use Rattle.std.specs.Result.{IsErrAnd}
 use Rattle.std.specs.List.{list_all, AllZip}
 use Rattle.cif_system.specs.Words.{Member}
-use Rattle.cif_model.specs.Net.{NetInvariant, Net}
-use Rattle.cif_model.specs.Reads.{reads_input}
-use Rattle.cif_model.specs.Rules.{IsAcyclic, InvariantReadsInput, InvariantFalse, holds_first, invariant_keeps}
-use Rattle.cif_model.proofs.Passing.{and-left, and-right, all-member}
-use Rattle.cif_model.proofs.PlainLaws.{never}
-use Rattle.cif_plain.specs.Invariants.{IsInvariantOf}
+use Rattle.cif_net_model.specs.Net.{NetInvariant, Net}
+use Rattle.cif_net_model.specs.Reads.{reads_input}
+use Rattle.cif_net_model.specs.Rules.{IsAcyclic, InvariantReadsInput, InvariantFalse, holds_first, invariant_keeps}
+use Rattle.cif_net_model.proofs.Passing.{and-left, and-right, all-member}
+use Rattle.cif_net_model.proofs.PlainLaws.{never}
+use Rattle.cif_net_laws.specs.Invariants.{IsInvariantOf}
 use Rattle.cif_alg.specs.declared.error.AlgErr.{AlgErr}
 use Rattle.cif_alg.specs.declared.error.AlgErr.TheVariants as err
 use Rattle.cif_alg.specs.Invariants.{IsBroken}

@@ -3,7 +3,7 @@ use Rattle.std.proofs.Common.{◌≡◌, ℕ, ◌+◌, ◌*◌, List, [], ◌∷
 use Rattle.std.proofs.Math.Nat.{mul_assoc, mul_comm, mul-add, add-mul, suc-mul}
 use Rattle.std.proofs.lemmas.List.Sums.{sum_by-cons, sum_by-append}
 use Rattle.cif_system.specs.Choices.{product_by}
-use Rattle.cif_model.specs.Counts.{weight}
+use Rattle.cif_net_model.specs.Counts.{weight}
 
 pub sum-same : {A : Type 0} (f g : A → ℕ) → ((y : A) → f y ≡ g y) → (ys : List A) → sum_by f ys ≡ sum_by g ys
 sum-same f g h [] = refl

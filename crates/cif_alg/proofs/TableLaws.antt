@@ -2,7 +2,7 @@
 use Rattle.std.proofs.Common.{◌≡◌, ℕ, zero, suc, ◌+◌, ◌≤◌, Bool, true, false, nat_eq, List, [], ◌∷◌, map, replicate, Option, Some, None, slice_get, slice_set, refl, sym, ◌∙◌, ap, if◌then◌else◌, arith}
 use Rattle.std.specs.List.{range_with_len}
 use Rattle.std.proofs.lemmas.Bool.Decides.{nat_tests}
-use Rattle.cif_model.proofs.ListingLaws.{same-cons}
+use Rattle.cif_net_model.proofs.ListingLaws.{same-cons}
 use Rattle.cif_alg.specs.Tallies.{changed, each_changed}
 
 -- a table that has f of each event

@@ -6,9 +6,9 @@ use Rattle.std.proofs.lemmas.List.{append-nil, append_assoc}
 use Rattle.std.proofs.lemmas.List.Sums.{sum_by-cons, sum_by-append}
 use Rattle.cif_system.specs.System.{Role, syncing, sending, receiving}
 use Rattle.cif_system.specs.Step.{same_role}
-use Rattle.cif_model.specs.Net.{NetEdge, NetAuto, NetExclusion}
-use Rattle.cif_model.specs.Listing.{syncs_on}
-use Rattle.cif_model.specs.Counts.{Measure}
+use Rattle.cif_net_model.specs.Net.{NetEdge, NetAuto, NetExclusion}
+use Rattle.cif_net_model.specs.Listing.{syncs_on}
+use Rattle.cif_net_model.specs.Counts.{Measure}
 use Rattle.cif_alg.specs.declared.weighed.Weighed.{Weighed}
 use Rattle.cif_alg.specs.declared.tally.Options.{Options}
 use Rattle.cif_alg.specs.declared.tally.Tally.{Tally}

@@ -2,13 +2,13 @@
 use Rattle.std.specs.Prelude.{◌≡◌, pos, true, false, List, [], ◌∷◌, Result, Ok, Err, if◌then◌else◌}
 use Rattle.std.specs.List.{list_any, AllByRecursion}
 use Rattle.cif_system.specs.Words.{Member}
-use Rattle.cif_model.specs.Net.{NetInvariant, Net}
-use Rattle.cif_model.specs.Reads.{is_input, names_in, reads_input}
-use Rattle.cif_model.specs.Rules.{holds_first}
-use Rattle.cif_model.specs.Value.{is_true}
+use Rattle.cif_net_model.specs.Net.{NetInvariant, Net}
+use Rattle.cif_net_model.specs.Reads.{is_input, names_in, reads_input}
+use Rattle.cif_net_model.specs.Rules.{holds_first}
+use Rattle.cif_net_model.specs.Value.{is_true}
 use Rattle.cif_net.specs.declared.state.State.{State}
-use Rattle.cif_safe.specs.Safe.{value_at, IsSafe}
-use Rattle.cif_eval.specs.Settings.{told}
+use Rattle.cif_net_model.specs.Safe.{value_at, IsSafe}
+use Rattle.cif_value.specs.Settings.{told}
 use Rattle.cif_alg.specs.declared.error.AlgErr.{AlgErr}
 use Rattle.cif_alg.specs.declared.error.AlgErr.TheVariants as err
 

@@ -1,7 +1,7 @@
 -- What a plain net says of the net that it was made from, and why a net is not made plain.
 use Rattle.std.specs.Prelude.{ℕ}
-use Rattle.cif_model.specs.Net.{Net}
-use Rattle.cif_model.specs.Rules.{AlgCycle, ZeroDivisor, TooWide, InvariantReadsInput, InvariantFalse, TooLarge}
+use Rattle.cif_net_model.specs.Net.{Net}
+use Rattle.cif_net_model.specs.Rules.{AlgCycle, ZeroDivisor, TooWide, InvariantReadsInput, InvariantFalse, TooLarge}
 use Rattle.cif_alg.specs.declared.error.AlgErr.{AlgErr}
 use Rattle.cif_alg.specs.declared.error.AlgErr.TheVariants as err
 

@@ -1,13 +1,13 @@
 -- Helper of the code: automata, exclusions and state invariants that may be counted in the place of others.
 use Rattle.std.specs.Prelude.{◌≡◌, ℕ, List, [], ◌∷◌, map}
 use Rattle.cif_system.specs.System.{Role}
-use Rattle.cif_model.specs.Net.{NetEdge, NetAuto, NetExclusion, NetInvariant, Net}
-use Rattle.cif_model.specs.Exprs.{edge_exprs}
-use Rattle.cif_model.specs.Unfolding.{at_or}
-use Rattle.cif_model.specs.Counts as counts
-use Rattle.cif_model.specs.Counts.{no_form, alg_measures}
-use Rattle.cif_measure.specs.declared.measures.Measure.{Measure}
-use Rattle.cif_measure.specs.Meanings.{table_measure}
+use Rattle.cif_net_model.specs.Net.{NetEdge, NetAuto, NetExclusion, NetInvariant, Net}
+use Rattle.cif_net_model.specs.Exprs.{edge_exprs}
+use Rattle.cif_net_model.specs.Unfolding.{at_or}
+use Rattle.cif_net_model.specs.Counts as counts
+use Rattle.cif_net_model.specs.Counts.{no_form, alg_measures}
+use Rattle.cif_alg_measure.specs.declared.measures.Measure.{Measure}
+use Rattle.cif_alg_measure.specs.Meanings.{table_measure}
 use Rattle.cif_alg.specs.Tallies.{cut_size}
 
 -- what is counted of an edge: `size` is that of its expressions, stopped one past the limit

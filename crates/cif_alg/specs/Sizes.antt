@@ -1,6 +1,6 @@
 -- Counts with the sizes of algebraic variables.
 use Rattle.std.specs.Prelude.{ℕ, ◌+◌, List, [], ◌∷◌}
-use Rattle.cif_measure.specs.declared.measures.Measure.{Measure}
+use Rattle.cif_alg_measure.specs.declared.measures.Measure.{Measure}
 use Rattle.cif_alg.specs.Weighed.{cut}
 
 -- one after the other, after what was counted

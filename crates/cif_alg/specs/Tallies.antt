@@ -1,11 +1,11 @@
 -- What is counted for each event, automaton by automaton.
 use Rattle.std.specs.Prelude.{ℕ, ◌+◌, Bool, true, false, List, [], ◌∷◌, length, map, Some, None, option_map, replicate, slice_get, slice_set, if◌then◌else◌}
 use Rattle.cif_system.specs.System.{Role, syncing, sending, receiving}
-use Rattle.cif_term.specs.Tree.{NetExpr}
-use Rattle.cif_model.specs.Net.{no_net_chan, NetEdge, NetAuto, NetEvent, NetExclusion, NetInvariant}
-use Rattle.cif_model.specs.Counts.{Measure}
-use Rattle.cif_model.specs.Exprs.{edge_exprs}
-use Rattle.cif_measure.specs.Sizes.{sizes_by}
+use Rattle.cif_net_expr.specs.Tree.{NetExpr}
+use Rattle.cif_net_model.specs.Net.{no_net_chan, NetEdge, NetAuto, NetEvent, NetExclusion, NetInvariant}
+use Rattle.cif_net_model.specs.Counts.{Measure}
+use Rattle.cif_net_model.specs.Exprs.{edge_exprs}
+use Rattle.cif_alg_measure.specs.Sizes.{sizes_by}
 use Rattle.cif_alg.specs.declared.weighed.Weighed.{Weighed}
 use Rattle.cif_alg.specs.declared.tally.Options.{Options}
 use Rattle.cif_alg.specs.declared.tally.Tally.{Tally}

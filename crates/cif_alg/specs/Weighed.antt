@@ -1,6 +1,6 @@
 -- How many there are and how many nodes they have, where counts stop one past the limit.
 use Rattle.std.specs.Prelude.{ℕ, ◌+◌, ◌*◌}
-use Rattle.cif_model.specs.Counts.{stopped, most_nodes}
+use Rattle.cif_net_model.specs.Counts.{stopped, most_nodes}
 use Rattle.cif_alg.specs.declared.weighed.Weighed.{Weighed}
 
 abbrev pub cut : ℕ → ℕ

@@ -2,13 +2,13 @@
 
 ghost use Rattle.std.specs.Prelude.{◌≡◌, nat_lt, true, false, ◌||◌, map, IfOk, IfErr};
 ghost use Rattle.std.specs.List.{list_all};
-ghost use Rattle.cif_model.specs.Counts.{most_nodes, most_depth, is_too_large};
-ghost use Rattle.cif_model.specs.Rules.{IsAcyclic, evaluated};
+ghost use Rattle.cif_net_model.specs.Counts.{most_nodes, most_depth, is_too_large};
+ghost use Rattle.cif_net_model.specs.Rules.{IsAcyclic, evaluated};
 ghost use Rattle.cif_net.specs.View.{net_tree, auto_tree, exclusion_tree, invariant_tree, event_tree};
-ghost use Rattle.cif_measure.specs.Meanings.{table_measure};
-ghost use Rattle.cif_measure.specs.Rules.{declared_divides, declared_is_narrow};
-ghost use Rattle.cif_measure.specs.Sizes.{AreMeasured};
-ghost use Rattle.cif_algebraic.specs.Orders.{IsOrderOf};
+ghost use Rattle.cif_alg_measure.specs.Meanings.{table_measure};
+ghost use Rattle.cif_alg_measure.specs.Rules.{declared_divides, declared_is_narrow};
+ghost use Rattle.cif_alg_measure.specs.Sizes.{AreMeasured};
+ghost use Rattle.cif_alg_order.specs.Orders.{IsOrderOf};
 ghost use Rattle.cif_alg.specs.Keeps.{KeepsExpressions, due};
 ghost use Rattle.cif_alg.specs.Sizes.{sizes_added};
 ghost use Rattle.cif_alg.specs.Tallies.{counted};
@@ -16,11 +16,11 @@ ghost use Rattle.cif_alg.specs.Tallies.{counted};
 use crate::counting::{choice_nodes, with_sizes};
 use crate::error::AlgErr;
 use crate::making::is_made;
-use cif_algebraic::{
+use cif_alg_measure::{MOST_DEPTH, MOST_NODES, Measure, net_depth};
+use cif_alg_order::{
     algebraic_measures, check_algebraic_intervals, order_algebraic, ordered_nets_are_acyclic,
 };
 use cif_base::{Items, Memory};
-use cif_measure::{MOST_DEPTH, MOST_NODES, Measure, net_depth};
 use cif_net::Net;
 use std::alloc::Global;
 

@@ -2,14 +2,14 @@
 
 ghost use Rattle.std.specs.Prelude.{◌≡◌, map, IfOk};
 ghost use Rattle.cif_net.specs.View.{auto_tree, edge_tree, event_tree, exclusion_tree, invariant_tree};
-ghost use Rattle.cif_measure.specs.Meanings.{table_measure};
+ghost use Rattle.cif_alg_measure.specs.Meanings.{table_measure};
 ghost use Rattle.cif_alg.specs.Sizes.{sizes_added};
 ghost use Rattle.cif_alg.specs.Tallies.{is_channel_event, tallies_nodes, edge_nodes, exclusion_nodes, invariants_nodes, opened_for, edges_noted, stays_noted, closed_for, tallied, all_tallied, exclusions_noted, counted};
 
 use crate::limit::sum;
 use crate::tally::Tally;
+use cif_alg_measure::{Measure, edge_size, exclusion_size, invariants_size};
 use cif_base::{Items, Memory};
-use cif_measure::{Measure, edge_size, exclusion_size, invariants_size};
 use cif_net::{Auto, Event, Exclusion, Invariant, NetChan, NetEdge};
 use std::alloc::Global;
 

@@ -4,9 +4,9 @@ ghost use Rattle.std.specs.Prelude.{◌≡◌};
 ghost use Rattle.cif_alg.specs.Refusals.{order_refusal, interval_refusal};
 ghost use Rattle.cif_alg.specs.declared.error.AlgErr.TheVariants.{Memory as no_memory};
 
-use cif_algebraic::AlgebraicErr;
+use cif_alg_measure::{IntervalErr, WidthErr};
+use cif_alg_order::AlgebraicErr;
 use cif_base::Memory;
-use cif_measure::{IntervalErr, WidthErr};
 
 /// Why a net is not made plain, or that memory ran out. `at` is the byte of the source where the divisor, the part or the state
 /// invariant begins.

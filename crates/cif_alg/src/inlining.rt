@@ -2,21 +2,21 @@
 
 ghost use Rattle.std.specs.Prelude.{◌≡◌, true, false, IfOk, IfErr};
 ghost use Rattle.std.specs.List.{list_all};
-ghost use Rattle.cif_model.specs.Counts.{is_too_large};
-ghost use Rattle.cif_model.specs.Inline.{Unfolds};
-ghost use Rattle.cif_model.specs.Meaning.{system_of_net};
-ghost use Rattle.cif_model.specs.Rules.{evaluated};
+ghost use Rattle.cif_net_model.specs.Counts.{is_too_large};
+ghost use Rattle.cif_net_model.specs.Inline.{Unfolds};
+ghost use Rattle.cif_net_model.specs.Meaning.{system_of_net};
+ghost use Rattle.cif_net_model.specs.Rules.{evaluated};
 ghost use Rattle.cif_net.specs.View.{net_tree};
-ghost use Rattle.cif_measure.specs.Rules.{declared_divides, declared_is_narrow};
-ghost use Rattle.cif_algebraic.specs.Orders.{IsOrderOf};
+ghost use Rattle.cif_alg_measure.specs.Rules.{declared_divides, declared_is_narrow};
+ghost use Rattle.cif_alg_order.specs.Orders.{IsOrderOf};
 ghost use Rattle.cif_alg.specs.Keeps.{KeepsAlgebraic, due};
 
 use crate::checking::check_net;
 use crate::error::AlgErr;
 use crate::invariants::check_invariants;
+use cif_alg_unfold::unfold;
 use cif_net::{Net, Plain, nets_are_nets};
-use cif_plain::{unfolded_nets_are_plain, unfolded_nets_have_plain_expressions};
-use cif_unfold::unfold;
+use cif_net_laws::{unfolded_nets_are_plain, unfolded_nets_have_plain_expressions};
 use std::alloc::Global;
 
 /// The net with algebraic variables replaced by their definitions (CIF 3 language reference, "Algebraic variables"), which means the

@@ -2,16 +2,16 @@
 
 ghost use Rattle.std.specs.Prelude.{◌≡◌, pos, true, map, IfOk, IfErr};
 ghost use Rattle.std.specs.List.{list_all};
-ghost use Rattle.cif_term.specs.View.{view};
-ghost use Rattle.cif_model.specs.Rules.{evaluated, invariant_keeps, is_plain_expr};
+ghost use Rattle.cif_net_expr.specs.View.{view};
+ghost use Rattle.cif_net_model.specs.Rules.{evaluated, invariant_keeps, is_plain_expr};
 ghost use Rattle.cif_net.specs.View.{invariant_tree, net_tree};
-ghost use Rattle.cif_safe.specs.Safe.{IsSafe};
-ghost use Rattle.cif_eval.specs.Settings.{told};
+ghost use Rattle.cif_net_model.specs.Safe.{IsSafe};
+ghost use Rattle.cif_value.specs.Settings.{told};
 ghost use Rattle.cif_alg.specs.Invariants.{IsBroken, checked, all_checked, AreSafe};
 
 use crate::error::AlgErr;
-use cif_eval::{holds, reads_input};
 use cif_net::{Invariant, Net, State, nets_are_nets};
+use cif_value::{holds, reads_input};
 use std::alloc::Global;
 
 /// Whether each state invariant of a net without algebraic variables in its expressions reads no input and holds in the initial

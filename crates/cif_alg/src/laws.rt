@@ -1,12 +1,12 @@
 //! The law on automata that are counted in the place of others, as the contract of a function without a body.
 
 ghost use Rattle.std.specs.Prelude.{◌≡◌, List, true};
-ghost use Rattle.cif_model.specs.Net.{NetAuto, NetExclusion, NetInvariant, Net};
-ghost use Rattle.cif_model.specs.Facts.{is_net};
-ghost use Rattle.cif_model.specs.Counts.{nodes, stopped, most_nodes};
-ghost use Rattle.cif_measure.specs.declared.measures.Measure.{Measure};
-ghost use Rattle.cif_measure.specs.Meanings.{table_measure};
-ghost use Rattle.cif_measure.specs.Sizes.{AreMeasured};
+ghost use Rattle.cif_net_model.specs.Net.{NetAuto, NetExclusion, NetInvariant, Net};
+ghost use Rattle.cif_net_model.specs.Facts.{is_net};
+ghost use Rattle.cif_net_model.specs.Counts.{nodes, stopped, most_nodes};
+ghost use Rattle.cif_alg_measure.specs.declared.measures.Measure.{Measure};
+ghost use Rattle.cif_alg_measure.specs.Meanings.{table_measure};
+ghost use Rattle.cif_alg_measure.specs.Sizes.{AreMeasured};
 ghost use Rattle.cif_alg.specs.Sizes.{sizes_added};
 ghost use Rattle.cif_alg.specs.Tallies.{counted};
 ghost use Rattle.cif_alg.specs.Outlines.{AreAsLarge};

@@ -3,7 +3,7 @@
 ghost use Rattle.std.specs.Prelude.{◌≡◌, ◌+◌, ◌*◌};
 ghost use Rattle.cif_alg.specs.Weighed.{cut};
 
-use cif_measure::MOST_NODES;
+use cif_alg_measure::MOST_NODES;
 
 /// The sum of two counts.
 pub fn sum(left: u64, right: u64) -> u64

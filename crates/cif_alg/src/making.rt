@@ -2,7 +2,7 @@
 //! choices is, but for edges that no choice takes, and for state invariants where there is no choice. No clause speaks of it: it tells
 //! only whether there is memory.
 
-use cif_measure::{MOST_NODES, Measure, edge_size, exclusion_size, invariants_size};
+use cif_alg_measure::{MOST_NODES, Measure, edge_size, exclusion_size, invariants_size};
 use cif_net::{Auto, Exclusion, Net, NetEdge};
 
 /// The most forms that the expressions of a net have together, of those that are made.

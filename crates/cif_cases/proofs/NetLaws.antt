@@ -4,7 +4,7 @@ use Rattle.std.specs.Prelude.{Result, Ok, Err}
 use Rattle.grammar.specs.Pieces.{Text}
 use Rattle.cif_net.specs.View.{net_tree}
 use Rattle.cif_net.specs.declared.guarded.Guarded.{Guarded}
-use Rattle.cif_nesting.specs.Nesting.{is_shallow}
+use Rattle.cif_net_model.specs.Nesting.{is_shallow}
 use Rattle.cif_generate.proofs.ProgramLaws.{read-shallow}
 use Rattle.cif_generate.proofs.UnfoldedLaws.{shallow-unfolded}
 use Rattle.cif_front.specs.Loads.{Loads}

@@ -4,21 +4,21 @@ ghost use Rattle.std.specs.Prelude.{◌≡◌, ◌≤◌, true, length, IfOk};
 ghost use Rattle.cif_ast.specs.Countable.{IsCountable};
 ghost use Rattle.cif_ast.specs.SmallNumbers.{HasSmallNumbers};
 ghost use Rattle.cif_net.specs.View.{net_tree};
-ghost use Rattle.cif_nesting.specs.Nesting.{is_shallow};
+ghost use Rattle.cif_net_model.specs.Nesting.{is_shallow};
 
 use crate::sources::{put_no_tree, spec_of};
 use case_text::{Fault, Fields, Put, put_lines, put_text};
 use cif_alg::inline;
+use cif_alg_measure::{check_intervals, depth_of};
 use cif_ast::Spec;
 use cif_base::Text;
 use cif_front::{Refusal, load};
 use cif_inst::instantiate;
-use cif_measure::{check_intervals, depth_of};
 use cif_net::{Auto, Choice, Class, Event, Guarded, Move, Net, NetEdge, State};
 use cif_resolve::resolve;
 use cif_types::check_kinds;
 use plc_back::generate_text;
-use plc_gen::Bounds;
+use plc_frame::Bounds;
 use std::alloc::Global;
 
 /// The most bytes of a source that is loaded.

@@ -6,8 +6,8 @@ ghost use Rattle.cif_net.specs.declared.guarded.Guarded.{Guarded};
 use crate::nets::loaded;
 use case_text::{Fault, Fields, first_word, number};
 use cif_net::{Class, Guarded};
-use cif_reasons::reasons;
 use cif_sim::Sim;
+use cif_why::reasons;
 use std::alloc::Global;
 
 /// The number of an event.

@@ -5,9 +5,9 @@ use crate::expressions::put_shape;
 use case_text::{Fault, Fields, Put};
 use cif_ast::{Decl, Expr, Param};
 use cif_base::Items;
-use cif_decl::{declaration, given, is_component, parameters};
-use cif_expr::{Read, ReadError, expr};
 use cif_lex::{Token, TokenKind, lex};
+use cif_parse_decl::{declaration, given, is_component, parameters};
+use cif_parse_expr::{Read, ReadError, expr};
 use std::alloc::Global;
 
 /// The most bytes of a source.

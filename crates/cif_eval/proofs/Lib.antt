@@ -1,1 +1,12 @@
-pub mod Named
+pub mod Carried
+pub mod Chosen
+pub mod Copied
+pub mod Facts
+pub mod Lists
+pub mod Moves
+pub mod Ranged
+pub mod Reading
+pub mod Stored
+pub mod Worked
+pub mod Taken
+pub mod Made

@@ -19,10 +19,10 @@ use Rattle.cif_alg.specs.declared.error.AlgErr.TheVariants as alg
 use Rattle.cif_alg.specs.Keeps.{KeepsExpressions, due}
 use Rattle.cif_lin.specs.declared.error.LinErr.{LinErr}
 use Rattle.cif_lin.specs.declared.error.LinErr.TheVariants as lin
-use Rattle.cif_model.specs.Net.{Net}
+use Rattle.cif_net_model.specs.Net.{Net}
 use Rattle.cif_source.specs.Source.{Source, source_of}
 use Rattle.cif_source.specs.Objects.{Declared, algs}
-use Rattle.cif_image.specs.Flat.{net_alg, net_of_source}
+use Rattle.cif_inst_model.specs.Flat.{net_alg, net_of_source}
 use Rattle.cif_front.specs.Dues.{lex_refusal, parse_refusal, scope_refusal, type_refusal, inst_refusal, alg_refusal, lin_refusal}
 use Rattle.cif_front.specs.Paths.{path_in, NamesNothing, NamesOf, NamesIn, NamesFor}
 use Rattle.cif_front.specs.declared.refusal.Refusal.{Refusal}

@@ -2,11 +2,11 @@
 use Rattle.std.proofs.Common.{◌≡◌, ℕ, ◌≤◌, ◌<◌, refl, ◌∙◌, ap, subst, arith}
 use Rattle.cif_system.specs.Words.{Exceeds}
 use Rattle.cif_system.specs.Choices.{all_choices}
-use Rattle.cif_model.specs.Net.{Net}
-use Rattle.cif_model.specs.Counts.{most_choices}
-use Rattle.cif_model.specs.Inline.{Unfolds}
-use Rattle.cif_model.specs.Meaning.{system_of_net}
-use Rattle.cif_model.specs.Rules.{AlgCycle, ZeroDivisor, TooWide, InvariantReadsInput, InvariantFalse, TooLarge}
+use Rattle.cif_net_model.specs.Net.{Net}
+use Rattle.cif_net_model.specs.Counts.{most_choices}
+use Rattle.cif_net_model.specs.Inline.{Unfolds}
+use Rattle.cif_net_model.specs.Meaning.{system_of_net}
+use Rattle.cif_net_model.specs.Rules.{AlgCycle, ZeroDivisor, TooWide, InvariantReadsInput, InvariantFalse, TooLarge}
 use Rattle.cif_source.specs.Source.{Source}
 use Rattle.cif_scope.specs.Scopes.{AreScopesOf, KeepsScoping}
 use Rattle.cif_scope.specs.declared.error.ScopeErr.{ScopeErr}
@@ -24,9 +24,9 @@ use Rattle.cif_alg.specs.declared.error.AlgErr.{AlgErr}
 use Rattle.cif_alg.specs.declared.error.AlgErr.TheVariants as alg
 use Rattle.cif_lin.specs.declared.error.LinErr.{LinErr}
 use Rattle.cif_lin.specs.declared.error.LinErr.TheVariants as lin
-use Rattle.cif_image.specs.Flat.{net_of_source}
-use Rattle.cif_image.specs.Represents.{Represents}
-use Rattle.cif_image.specs.WellFormed.{Refusal, unknown, duplicate, wrong_kind, definition_cycle, mismatch, not_constant, initials, not_own, assigned_twice, equations, alphabet_lacks, role_mixed, too_many_objects, constant_range, alg_cycle, zero_divisor, too_wide, invariant_reads_input, invariant_false, too_large, too_many_choices, Broken, Phase, phase, order, scope as scopes, kinds, instances, algebraic, choices, KeepsBefore}
+use Rattle.cif_inst_model.specs.Flat.{net_of_source}
+use Rattle.cif_inst_model.specs.Represents.{Represents}
+use Rattle.cif_inst_model.specs.WellFormed.{Refusal, unknown, duplicate, wrong_kind, definition_cycle, mismatch, not_constant, initials, not_own, assigned_twice, equations, alphabet_lacks, role_mixed, too_many_objects, constant_range, alg_cycle, zero_divisor, too_wide, invariant_reads_input, invariant_false, too_large, too_many_choices, Broken, Phase, phase, order, scope as scopes, kinds, instances, algebraic, choices, KeepsBefore}
 use Rattle.cif_front.specs.Kept.{KeepsSource}
 use Rattle.cif_front.specs.Loads.{Stands}
 use Rattle.cif_front.specs.Dues.{IsDueOf, scope_refusal, type_refusal, inst_refusal, alg_refusal, lin_refusal}

@@ -10,8 +10,8 @@ use Rattle.cif_parse.specs.declared.error.ParseErr.{ParseErr}
 use Rattle.cif_parse.specs.declared.error.ParseErr.TheVariants as parse
 use Rattle.cif_net.specs.declared.guarded.Guarded.{Guarded}
 use Rattle.cif_source.specs.Source.{source_of}
-use Rattle.cif_image.specs.WellFormed as rule
-use Rattle.cif_image.specs.WellFormed.{Due}
+use Rattle.cif_inst_model.specs.WellFormed as rule
+use Rattle.cif_inst_model.specs.WellFormed.{Due}
 use Rattle.cif_front.specs.declared.refusal.Refusal.{Refusal}
 use Rattle.cif_front.specs.declared.refusal.Refusal.TheVariants as refusal
 use Rattle.cif_front.specs.Dues.{HasRule, IsDue, IsDueOf, SourceDue, lex_refusal, parse_refusal, rule_of}

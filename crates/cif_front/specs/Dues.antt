@@ -19,8 +19,8 @@ use Rattle.cif_alg.specs.declared.error.AlgErr.TheVariants as alg
 use Rattle.cif_lin.specs.declared.error.LinErr.{LinErr}
 use Rattle.cif_lin.specs.declared.error.LinErr.TheVariants as lin
 use Rattle.cif_source.specs.Source.{Source, source_of}
-use Rattle.cif_image.specs.WellFormed as rule
-use Rattle.cif_image.specs.WellFormed.{Due}
+use Rattle.cif_inst_model.specs.WellFormed as rule
+use Rattle.cif_inst_model.specs.WellFormed.{Due}
 use Rattle.cif_front.specs.declared.refusal.Refusal.{Refusal}
 use Rattle.cif_front.specs.declared.refusal.Refusal.TheVariants as refusal
 

@@ -7,11 +7,11 @@ use Rattle.cif_source.specs.Source.{Source, source_of}
 use Rattle.cif_source.specs.Step.{system_of}
 use Rattle.cif_net.specs.declared.guarded.Guarded.{Guarded}
 use Rattle.cif_net.specs.View.{net_tree}
-use Rattle.cif_model.specs.Inline.{Unfolds}
-use Rattle.cif_model.specs.Meaning.{system_of_net}
-use Rattle.cif_model.specs.Net.{Net}
-use Rattle.cif_image.specs.Flat.{net_of_source}
-use Rattle.cif_image.specs.WellFormed.{Refusal, Broken}
+use Rattle.cif_net_model.specs.Inline.{Unfolds}
+use Rattle.cif_net_model.specs.Meaning.{system_of_net}
+use Rattle.cif_net_model.specs.Net.{Net}
+use Rattle.cif_inst_model.specs.Flat.{net_of_source}
+use Rattle.cif_inst_model.specs.WellFormed.{Refusal, Broken}
 
 -- the text reads as a source, which breaks no rule
 pub record ReadsAsSource (text : Text) (t : Source) : Type 0 where

@@ -5,8 +5,8 @@ use Rattle.cif_ast.specs.declared.components.Spec.{Spec}
 use Rattle.cif_parse.specs.Grammar.{Reads as ReadsAsTree}
 use Rattle.cif_source.specs.Source.{Source, source_of}
 use Rattle.cif_source.specs.Objects.{algs}
-use Rattle.cif_image.specs.Flat.{net_alg}
-use Rattle.cif_model.specs.Net.{Net}
+use Rattle.cif_inst_model.specs.Flat.{net_alg}
+use Rattle.cif_net_model.specs.Net.{Net}
 use Rattle.cif_alg.specs.declared.error.AlgErr.{AlgErr}
 use Rattle.cif_alg.specs.declared.error.AlgErr.TheVariants as alg
 use Rattle.cif_front.specs.declared.refusal.Refusal.{Refusal}

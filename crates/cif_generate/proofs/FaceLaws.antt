@@ -1,12 +1,12 @@
 -- The net of a source shows what the source shows.
 use Rattle.std.proofs.Common.{◌≡◌, List, [], ◌∷◌, map, refl}
 use Rattle.cif_system.proofs.Lists.{map-length}
-use Rattle.plc_gen.specs.Faces.{auto_face, stored_face, alg_face_of, face_of_net}
+use Rattle.plc_frame.specs.Faces.{auto_face, stored_face, alg_face_of, face_of_net}
 use Rattle.cif_source.specs.Source.{type_decl, enum_decl, event_decl, const_decl, alg_decl, input_decl, disc_decl, equation_decl, invariant_decl, marked_decl, Source}
 use Rattle.cif_source.specs.Components.{Component, path_of}
 use Rattle.cif_source.specs.Objects.{automata, variables, inputs, algs, Declared, locs_of}
 use Rattle.cif_source.specs.Step.{first_place}
-use Rattle.cif_image.specs.Flat.{dotted, location_name, net_auto, net_stored, net_alg, net_of_source}
+use Rattle.cif_inst_model.specs.Flat.{dotted, location_name, net_auto, net_stored, net_alg, net_of_source}
 use Rattle.cif_generate.specs.Shown.{automaton_face, declared_face, algebraic_face, face_of}
 
 fused : {A B C : Type 0} (f : A → B) (g : B → C) (k : A → C) (xs : List A) → ((x : A) → g (f x) ≡ k x) → map g (map f xs) ≡ map k xs

@@ -10,14 +10,14 @@ use Rattle.cif_system.specs.Step.{is_of}
 use Rattle.cif_source.specs.Objects.{Declared, events}
 use Rattle.cif_net.specs.View.{net_tree}
 use Rattle.cif_net.specs.declared.guarded.Guarded.{Guarded}
-use Rattle.cif_model.specs.Meaning.{system_of_net}
-use Rattle.cif_image.specs.Flat.{net_event, net_of_source}
-use Rattle.cif_image.specs.NetRules.{UnclassedDue}
+use Rattle.cif_net_model.specs.Meaning.{system_of_net}
+use Rattle.cif_inst_model.specs.Flat.{net_event, net_of_source}
+use Rattle.cif_inst_model.specs.NetRules.{UnclassedDue}
 use Rattle.st_ast.specs.Tree.{Program}
-use Rattle.plc_face.specs.Face.{Face, HasInterface}
-use Rattle.plc_face.specs.Scans.{NeverFaults, RunsFirstSteps, ScansLegally, ScansExactly, ShowsOutputs, StaysTyped}
-use Rattle.plc_gen.specs.Faces.{face_of_net}
-use Rattle.cif_nesting.specs.Nesting.{is_shallow}
+use Rattle.plc_model.specs.Face.{Face, HasInterface}
+use Rattle.plc_model.specs.Scans.{NeverFaults, RunsFirstSteps, ScansLegally, ScansExactly, ShowsOutputs, StaysTyped}
+use Rattle.plc_frame.specs.Faces.{face_of_net}
+use Rattle.cif_net_model.specs.Nesting.{is_shallow}
 use Rattle.plc_back.specs.Texts.{IsLayoutOf, TakesInRange, TheProgram}
 use Rattle.plc_back.specs.Written as written
 use Rattle.plc_back.specs.Written.{IsFirstUnclassed}

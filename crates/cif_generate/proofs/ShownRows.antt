@@ -3,7 +3,7 @@ use Rattle.std.proofs.Common.{◌≡◌, pos, [], ◌∷◌, refl}
 use Rattle.std.specs.Prelude.{codes, false, neg_ℤ}
 use Rattle.st_ast.specs.declared.tree.StTy.TheVariants as st
 use Rattle.cif_source.proofs.Rows.{two_classes, counter}
-use Rattle.cif_image.proofs.Trees.{channel, cube}
+use Rattle.cif_inst_model.proofs.Trees.{channel, cube}
 use Rattle.cif_generate.specs.Shown.{face_of}
 
 -- an automaton of two places, which starts in the first

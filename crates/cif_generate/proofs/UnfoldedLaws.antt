@@ -2,11 +2,11 @@
 use Rattle.std.proofs.Common.{◌≡◌, ℕ, suc, max, Bool, ◌&&◌, List, [], ◌∷◌, ◌++◌, map, refl, ◌∙◌, ap}
 use Rattle.std.specs.Prelude.{flat_map, nat_le}
 use Rattle.std.specs.List.{list_all}
-use Rattle.cif_term.specs.Tree.{NetExpr, NetUpdate, net_set, net_choose, NetUpdates, no_net_updates, net_updates, NetUpdateBranches, no_net_update_branches, net_update_branches}
-use Rattle.cif_model.specs.Net.{NetEdge, NetAuto, Net}
-use Rattle.cif_model.specs.Inline.{replaced, updates_replaced, update_replaced, update_branches_replaced, edge_replaced, auto_replaced, alg_replaced, net_replaced, Unfolds}
-use Rattle.cif_nesting.specs.Nesting.{updates_depth, update_depth, branches_depth, most_nesting, is_shallow}
-use Rattle.plc_gen.specs.Faces.{auto_face, alg_face_of, face_of_net}
+use Rattle.cif_net_expr.specs.Tree.{NetExpr, NetUpdate, net_set, net_choose, NetUpdates, no_net_updates, net_updates, NetUpdateBranches, no_net_update_branches, net_update_branches}
+use Rattle.cif_net_model.specs.Net.{NetEdge, NetAuto, Net}
+use Rattle.cif_net_model.specs.Inline.{replaced, updates_replaced, update_replaced, update_branches_replaced, edge_replaced, auto_replaced, alg_replaced, net_replaced, Unfolds}
+use Rattle.cif_net_model.specs.Nesting.{updates_depth, update_depth, branches_depth, most_nesting, is_shallow}
+use Rattle.plc_frame.specs.Faces.{auto_face, alg_face_of, face_of_net}
 
 module _ (by : ℕ → NetExpr) where
   -- ---- what it shows

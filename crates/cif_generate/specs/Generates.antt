@@ -5,7 +5,7 @@ use Rattle.cif_io.specs.Written.{grown}
 use Rattle.cif_run.specs.declared.status.Status.TheVariants as status
 use Rattle.cif_run.specs.declared.status.ProfileWhy.TheVariants as profile
 use Rattle.cif_run.specs.Works.{Content, Work}
-use Rattle.cif_image.specs.NetRules.{UnclassedDue}
+use Rattle.cif_inst_model.specs.NetRules.{UnclassedDue}
 use Rattle.cif_source.specs.Source.{Source}
 use Rattle.cif_accept.specs.Accepts.{CommandEnds, SourceIs, source_work}
 use Rattle.cif_generate.specs.Words.{Generate as Asked}

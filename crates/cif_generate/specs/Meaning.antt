@@ -4,12 +4,12 @@ use Rattle.grammar.specs.Pieces.{Text}
 use Rattle.cif_system.specs.System.{System, initial}
 use Rattle.cif_source.specs.Objects.{events}
 use Rattle.cif_source.specs.Step.{system_of}
-use Rattle.cif_model.specs.Net.{Net}
-use Rattle.cif_image.specs.Flat.{net_event}
-use Rattle.cif_image.specs.NetRules.{UnclassedDue}
+use Rattle.cif_net_model.specs.Net.{Net}
+use Rattle.cif_inst_model.specs.Flat.{net_event}
+use Rattle.cif_inst_model.specs.NetRules.{UnclassedDue}
 use Rattle.st_ast.specs.Tree.{Program}
 use Rattle.st_ast.specs.Scan.{start_memory}
-use Rattle.plc_face.specs.Face.{Face, StateOf}
+use Rattle.plc_model.specs.Face.{Face, StateOf}
 use Rattle.plc_back.specs.Written as written
 use Rattle.cif_front.specs.Loads.{Stands}
 use Rattle.cif_source.specs.Source.{Source}

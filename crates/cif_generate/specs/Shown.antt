@@ -3,15 +3,15 @@ use Rattle.std.specs.Prelude.{pos, [], false, map, length, Option, None}
 use Rattle.cif_ast.specs.Tree.{Tree}
 use Rattle.cif_ast.specs.declared.names.Ident.{Ident}
 use Rattle.st_ast.specs.declared.tree.StTy.TheVariants as st
-use Rattle.plc_face.specs.Face.{AutomatonFace, VariableFace, AlgFace, Face}
-use Rattle.plc_gen.specs.Faces.{st_type, is_boolean}
+use Rattle.plc_model.specs.Face.{AutomatonFace, VariableFace, AlgFace, Face}
+use Rattle.plc_frame.specs.Faces.{st_type, is_boolean}
 use Rattle.cif_source.specs.Source.{TypeTree, alg_decl, input_decl, disc_decl, Source}
 use Rattle.cif_source.specs.Components.{Component, path_of}
 use Rattle.cif_source.specs.Objects.{automata, variables, inputs, algs, Declared, locs_of}
 use Rattle.cif_source.specs.Types.{first_of_type}
 use Rattle.cif_source.specs.Step.{first_place}
-use Rattle.cif_image.specs.Types.{net_type}
-use Rattle.cif_image.specs.Flat.{dotted, own_path}
+use Rattle.cif_inst_model.specs.Types.{net_type}
+use Rattle.cif_inst_model.specs.Flat.{dotted, own_path}
 
 abbrev pub automaton_face : Component → AutomatonFace
 automaton_face a = record { path = dotted (path_of a); places = length (locs_of a); first = first_place a }

@@ -1,7 +1,7 @@
 -- Helper of the code: how the command ends over a net with an event that has no class.
 use Rattle.std.specs.Prelude.{◌≡◌, ℕ, [], Some, None, slice_get}
 use Rattle.grammar.specs.Pieces.{Text}
-use Rattle.cif_model.specs.Net.{Net}
+use Rattle.cif_net_model.specs.Net.{Net}
 use Rattle.cif_run.specs.declared.ended.Ended.{Ended}
 use Rattle.cif_run.specs.declared.status.Status.{Status}
 use Rattle.cif_run.specs.declared.status.Status.TheVariants as status

@@ -2,7 +2,7 @@
 
 ghost use Rattle.std.specs.Prelude.{◌≤◌};
 
-use plc_gen::Bounds;
+use plc_frame::Bounds;
 
 /// What `generate` is asked for. Both classes together have fewer rounds than a scan has loop turns.
 #[derive(Drop)]

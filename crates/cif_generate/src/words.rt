@@ -7,7 +7,7 @@ ghost use Rattle.cif_generate.specs.Generates.{generate_of};
 
 use crate::request::Generate;
 use cif_base::read_int;
-use plc_gen::Bounds;
+use plc_frame::Bounds;
 
 /// The rounds of a class that no option names.
 const ROUNDS: u32 = 100;

@@ -6,17 +6,17 @@ use Rattle.std.proofs.lemmas.List.FromFn.{get_or-map-range_with_len}
 use Rattle.cif_system.specs.Step.{Choice}
 use Rattle.cif_system.specs.Choices.{choices}
 use Rattle.cif_system.proofs.Lists.{map-length}
-use Rattle.cif_term.specs.Tree as t
-use Rattle.cif_term.specs.View.{view, exprs_of as seen_exprs}
-use Rattle.cif_term.specs.declared.expressions.NetExpr.{NetExpr, roll-NetExpr}
-use Rattle.cif_term.specs.declared.expressions.NetForm.TheVariants as form
-use Rattle.cif_term.proofs.ViewLemmas.{view-expr, view_form-Not, view_form-And}
-use Rattle.cif_model.specs.Net as n
-use Rattle.cif_model.specs.Facts.{things}
-use Rattle.cif_model.specs.Meaning.{system_of_net, event_in}
-use Rattle.cif_model.specs.Listing.{NetChoice, exprs_of, all_hold, fails, exclusion_test, event_test, choice_test, linear_choice, guarded_choice, listed, linear_of, guarded_of}
-use Rattle.cif_model.proofs.Passing.{and-left}
-use Rattle.cif_model.proofs.PartLaws.{all-append}
+use Rattle.cif_net_expr.specs.Tree as t
+use Rattle.cif_net_expr.specs.View.{view, exprs_of as seen_exprs}
+use Rattle.cif_net_expr.specs.declared.expressions.NetExpr.{NetExpr, roll-NetExpr}
+use Rattle.cif_net_expr.specs.declared.expressions.NetForm.TheVariants as form
+use Rattle.cif_net_expr.proofs.ViewLemmas.{view-expr, view_form-Not, view_form-And}
+use Rattle.cif_net_model.specs.Net as n
+use Rattle.cif_net_model.specs.Facts.{things}
+use Rattle.cif_net_model.specs.Meaning.{system_of_net, event_in}
+use Rattle.cif_net_model.specs.Listing.{NetChoice, exprs_of, all_hold, fails, exclusion_test, event_test, choice_test, linear_choice, guarded_choice, listed, linear_of, guarded_of}
+use Rattle.cif_net_model.proofs.Passing.{and-left}
+use Rattle.cif_net_model.proofs.PartLaws.{all-append}
 use Rattle.cif_net.specs.declared.net.Net.{Net}
 use Rattle.cif_net.specs.declared.plain.Plain.{Plain}
 use Rattle.cif_net.specs.declared.predicates.Exclusion.{Exclusion}

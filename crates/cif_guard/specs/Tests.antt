@@ -1,9 +1,9 @@
 -- Helper of the code: the tests of an event, by the places of its exclusions, and tests behind those of a choice.
 use Rattle.std.specs.Prelude.{ℕ, List, [], ◌∷◌, ◌++◌, map, flat_map, length, slice_get, slice_index_or, Some, None}
 use Rattle.std.specs.List.{range_with_len}
-use Rattle.cif_term.specs.Tree.{NetExpr, net_expr, NetForm, n_and, NetExprs, no_net_exprs, net_exprs}
-use Rattle.cif_model.specs.Net as n
-use Rattle.cif_model.specs.Listing.{NetChoice, all_hold, exclusion_test}
+use Rattle.cif_net_expr.specs.Tree.{NetExpr, net_expr, NetForm, n_and, NetExprs, no_net_exprs, net_exprs}
+use Rattle.cif_net_model.specs.Net as n
+use Rattle.cif_net_model.specs.Listing.{NetChoice, all_hold, exclusion_test}
 use Rattle.cif_sync.specs.Columns.{places_in}
 
 -- the test of the exclusion at a place, if there is one

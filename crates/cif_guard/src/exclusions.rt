@@ -1,9 +1,9 @@
 //! The tests that exclusions ask of the state before an event.
 
 ghost use Rattle.std.specs.Prelude.{◌≡◌, ◌<◌, ◌^◌, length, map, IfOk};
-ghost use Rattle.cif_term.specs.View.{view};
-ghost use Rattle.cif_model.specs.Net as n;
-ghost use Rattle.cif_model.specs.Listing.{exclusion_test};
+ghost use Rattle.cif_net_expr.specs.View.{view};
+ghost use Rattle.cif_net_model.specs.Net as n;
+ghost use Rattle.cif_net_model.specs.Listing.{exclusion_test};
 ghost use Rattle.cif_net.specs.View.{exclusion_tree};
 ghost use Rattle.cif_guard.specs.Tests.{test_at, tests_at, exclusion_events, exclusion_places};
 

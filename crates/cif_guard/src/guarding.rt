@@ -2,8 +2,8 @@
 
 ghost use Rattle.std.specs.Prelude.{◌≡◌, ◌++◌, ◌<◌, ◌^◌, [], length, map, slice_index_or, IfOk, OnOk};
 ghost use Rattle.std.specs.List.{range_with_len};
-ghost use Rattle.cif_term.specs.View.{view};
-ghost use Rattle.cif_model.specs.Listing.{all_hold, linear_of, guarded_of};
+ghost use Rattle.cif_net_expr.specs.View.{view};
+ghost use Rattle.cif_net_model.specs.Listing.{all_hold, linear_of, guarded_of};
 ghost use Rattle.cif_net.specs.View.{net_tree, choice_tree, linear_tree};
 ghost use Rattle.cif_guard.specs.Tests.{members, exclusion_places, guarded_from, all_guarded};
 

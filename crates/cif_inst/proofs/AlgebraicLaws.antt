@@ -6,32 +6,32 @@ use Rattle.cif_ast.specs.Tree.{Tree}
 use Rattle.cif_ast.specs.declared.names.Ident.{Ident}
 use Rattle.cif_system.specs.Words.{Member}
 use Rattle.cif_system.proofs.Lists.{false-true}
-use Rattle.cif_model.specs.Net.{AlgValue, one_value, by_loc, NetAlg}
+use Rattle.cif_net_model.specs.Net.{AlgValue, one_value, by_loc, NetAlg}
 use Rattle.cif_source.specs.Source.{Text, TypeTree, LocationTree, DeclTree, type_decl, enum_decl, event_decl, const_decl, alg_decl, input_decl, disc_decl, equation_decl, invariant_decl, marked_decl, SourceBody, group_body, automaton_body, Source}
 use Rattle.cif_source.specs.Components.{Component, specification_of, body_of, path_of}
 use Rattle.cif_source.specs.Objects.{components_of, most_objects, decls_in, decls_of, locs_in, locs_of, is_automaton, automaton_number, is_alg, algs}
 use Rattle.cif_source.specs.Value.{decl_equation_for, own_definitions, location_definitions}
 use Rattle.cif_source.proofs.ReachLaws.{frames-listed}
-use Rattle.cif_rules.specs.BodyRules.{EquationsDue}
+use Rattle.cif_source.specs.BodyRules.{EquationsDue}
 use Rattle.cif_scope.specs.Written.{inside_of}
-use Rattle.cif_image.specs.Flat.{net_alg, net_alg_value, net_definition}
-use Rattle.cif_image.specs.Translation.{net_of}
-use Rattle.cif_image.specs.Types.{net_type}
-use Rattle.cif_nets.proofs.Defined.{some-automaton}
-use Rattle.cif_translate.specs.Looking.{component_of}
+use Rattle.cif_inst_model.specs.Flat.{net_alg, net_alg_value, net_definition}
+use Rattle.cif_inst_model.specs.Translation.{net_of}
+use Rattle.cif_inst_model.specs.Types.{net_type}
+use Rattle.cif_inst_laws.proofs.Defined.{some-automaton}
+use Rattle.cif_inst_names.specs.Looking.{component_of}
 use Rattle.cif_inst.specs.Algebraic.{definition_or, definition_in, alg_value, alg_with, home_number, body_algs, rows_algs, HaveTypes, IsBodyOf}
 use Rattle.cif_inst.specs.Declarations.{DatumTree, datum, decl_data, body_data}
 use Rattle.cif_inst.specs.Equations.{Values, value_for, or_else, body_added, location_added}
-use Rattle.cif_rows.specs.Rows.{prefix_of, row_for, rows_of}
+use Rattle.cif_inst_paths.specs.Rows.{prefix_of, row_for, rows_of}
 use Rattle.cif_inst.specs.Typing.{typed_source, AreTypesOf}
-use Rattle.cif_rows.specs.Views.{row_tree}
+use Rattle.cif_inst_paths.specs.Views.{row_tree}
 use Rattle.cif_inst.specs.declared.declarations.Sort.TheVariants as sort
-use Rattle.cif_rows.specs.declared.rows.Row.{Row}
+use Rattle.cif_inst_paths.specs.declared.rows.Row.{Row}
 use Rattle.cif_inst.specs.declared.typing.Typing.{Typing}
 use Rattle.cif_inst.proofs.DeclarationLaws.{made, data-are, IsDatum, IsOf, body-member, datum-below, datum-typed}
 use Rattle.cif_inst.proofs.EquationLaws.{first_of, location-kept, body-kept}
-use Rattle.cif_rows.proofs.RowBodyLaws.{row_below, row_written}
-use Rattle.cif_rows.proofs.RowLaws.{dots-dotted}
+use Rattle.cif_inst_paths.proofs.RowBodyLaws.{row_below, row_written}
+use Rattle.cif_inst_paths.proofs.RowLaws.{dots-dotted}
 
 -- ---- one definition
 

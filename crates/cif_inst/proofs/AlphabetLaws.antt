@@ -12,17 +12,17 @@ use Rattle.cif_source.specs.Uses.{event_asked, asking, param_uses, body_uses, de
 use Rattle.cif_source.specs.Step.{role_of}
 use Rattle.cif_system.specs.System.{Role, syncing}
 use Rattle.cif_system.specs.Step.{same_role}
-use Rattle.cif_rules.specs.InstanceRules.{synchronised_name}
-use Rattle.cif_image.proofs.FoundLaws.{flat-cases}
-use Rattle.cif_image.specs.Flat.{event_number, named_events, alphabet_in, alphabet_of, monitored_in, monitored_events, net_edge}
-use Rattle.cif_translate.specs.Looking.{component_at}
-use Rattle.cif_translate.specs.declared.looking.Looking.{Looking}
+use Rattle.cif_source.specs.InstanceRules.{synchronised_name}
+use Rattle.cif_inst_model.proofs.FoundLaws.{flat-cases}
+use Rattle.cif_inst_model.specs.Flat.{event_number, named_events, alphabet_in, alphabet_of, monitored_in, monitored_events, net_edge}
+use Rattle.cif_inst_names.specs.Looking.{component_at}
+use Rattle.cif_inst_names.specs.declared.looking.Looking.{Looking}
 use Rattle.cif_inst.specs.Edges.{automaton_edges}
 use Rattle.cif_inst.specs.Alphabets.{automaton_used, events_as, synced_events, alphabet_by, alphabet_for, monitors_by, monitors_for}
-use Rattle.cif_rows.proofs.SoundLaws.{IsSound}
+use Rattle.cif_inst_paths.proofs.SoundLaws.{IsSound}
 use Rattle.cif_inst.proofs.EdgeLaws.{role-back}
 use Rattle.cif_inst.proofs.ListedLaws.{used_by, used-edges}
-use Rattle.cif_rows.proofs.EventNameLaws.{event-use, Numbered, used-numbered, named-are}
+use Rattle.cif_inst_paths.proofs.EventNameLaws.{event-use, Numbered, used-numbered, named-are}
 use Rattle.cif_inst.proofs.UseLaws.{edge-event-used}
 
 -- ---- names of events

@@ -4,14 +4,14 @@ use Rattle.cif_ast.specs.declared.edges.Loc.{Loc}
 use Rattle.cif_scope.proofs.Places.{drop-item}
 use Rattle.std.specs.List.{position_or_len}
 use Rattle.cif_source.specs.Source.{Text, AutomatonTree, location_tree}
-use Rattle.cif_image.specs.Flat.{location_name}
+use Rattle.cif_inst_model.specs.Flat.{location_name}
 use Rattle.cif_net.specs.declared.automata.Auto.{Auto}
 use Rattle.cif_net.specs.View.{edge_tree, auto_tree}
 use Rattle.cif_inst.specs.declared.alphabets.Alphabet.{Alphabet}
 use Rattle.cif_inst.specs.Edges.{automaton_edges}
 use Rattle.cif_inst.specs.Alphabets.{automaton_alphabet}
 use Rattle.cif_inst.specs.Autos.{is_initial, without_dot, auto_for}
-use Rattle.cif_translate.specs.declared.looking.Looking.{Looking}
+use Rattle.cif_inst_names.specs.declared.looking.Looking.{Looking}
 
 pub made_auto : (l : Looking) (k : ℕ) (p : Text) (a : AutomatonTree) (y : Alphabet) (x : Auto) → y ≡ automaton_alphabet l k a → x.path ≡ without_dot p → x.locs ≡ map location_name a.locs → x.first ≡ position_or_len is_initial a.locs
     → x.alphabet ≡ y.events → x.monitors ≡ y.monitors → map edge_tree x.edges ≡ automaton_edges l k a → auto_tree x ≡ auto_for l k p a

@@ -12,20 +12,20 @@ use Rattle.cif_scope.specs.Looks.{slot_at}
 use Rattle.cif_scope.specs.Tables.{IsBody}
 use Rattle.cif_scope.proofs.BodyLaws.{scope-written}
 use Rattle.cif_scope.proofs.LookLaws.{slot-is}
-use Rattle.cif_image.specs.Flat.{net_edge}
-use Rattle.cif_image.proofs.KeptLaws.{has_twice}
-use Rattle.cif_image.proofs.PathLaws.{names}
-use Rattle.cif_image.proofs.SingleLaws.{scopes-single}
-use Rattle.cif_translate.specs.Looking.{source_for, component_at}
-use Rattle.cif_translate.specs.declared.looking.Looking.{Looking}
-use Rattle.cif_rows.specs.Names.{AreMatchedNames}
-use Rattle.cif_rows.specs.Rows.{body_number}
+use Rattle.cif_inst_model.specs.Flat.{net_edge}
+use Rattle.cif_inst_model.proofs.KeptLaws.{has_twice}
+use Rattle.cif_inst_model.proofs.PathLaws.{names}
+use Rattle.cif_inst_model.proofs.SingleLaws.{scopes-single}
+use Rattle.cif_inst_names.specs.Looking.{source_for, component_at}
+use Rattle.cif_inst_names.specs.declared.looking.Looking.{Looking}
+use Rattle.cif_inst_paths.specs.Names.{AreMatchedNames}
+use Rattle.cif_inst_paths.specs.Rows.{body_number}
 use Rattle.cif_inst.specs.Edges.{locations_edges, automaton_edges}
 use Rattle.cif_inst.specs.Alphabets.{name_places, location_places, synced_events, alphabet_for, monitors_for, is_outside, first_failing, or_later, tells}
 use Rattle.cif_inst.specs.Marks.{marked, is_unmarked, AreMarks}
 use Rattle.cif_inst.specs.declared.error.InstErr.{InstErr}
 use Rattle.cif_inst.specs.declared.error.InstErr.TheVariants.{AlphabetLacks, RoleMixed, TooManyObjects, ConstantRange, TooLarge, Memory}
-use Rattle.cif_rows.proofs.SoundLaws.{IsSound, names-sound, component-is, component-listed, body-numbered}
+use Rattle.cif_inst_paths.proofs.SoundLaws.{IsSound, names-sound, component-is, component-listed, body-numbered}
 use Rattle.cif_inst.proofs.EdgeLaws.{place_of, TargetsAre, slotted-place, automaton-place, all-edges-are}
 use Rattle.cif_inst.proofs.MarkLaws.{marked-outside, same-failing}
 use Rattle.cif_inst.proofs.AlphabetLaws.{monitors-below, monitors-are, role-below}

@@ -11,15 +11,15 @@ use Rattle.cif_system.proofs.Distinct.{member-append}
 use Rattle.cif_source.specs.Source.{Text, TypeTree, DeclTree, type_decl, enum_decl, event_decl, const_decl, alg_decl, input_decl, disc_decl, equation_decl, invariant_decl, marked_decl, decl_item, component_item, definition_item, instance_item, SourceBody, group_body, automaton_body, Source, no_source, source, list_of_items}
 use Rattle.cif_source.specs.Components.{Component, body_of, params_of}
 use Rattle.cif_source.specs.Objects.{components_of, item_decls, decls_in, decls_of, Declared, of_sort}
-use Rattle.cif_rules.specs.Constants.{param_types, decl_types, types_of, decl_constants, typed_constants}
-use Rattle.cif_image.proofs.NumberLaws.{append-kept}
-use Rattle.cif_values.specs.Types.{typed_value}
-use Rattle.cif_translate.specs.Looking.{or_whole, component_of}
+use Rattle.cif_source.specs.Constants.{param_types, decl_types, types_of, decl_constants, typed_constants}
+use Rattle.cif_inst_model.proofs.NumberLaws.{append-kept}
+use Rattle.cif_inst_types.specs.Types.{typed_value}
+use Rattle.cif_inst_names.specs.Looking.{or_whole, component_of}
 use Rattle.cif_inst.specs.Declarations.{DatumTree, decl_data, decls_data, items_data, body_data, rows_data}
-use Rattle.cif_rows.specs.Rows.{prefix_of, row_for, rows_of}
+use Rattle.cif_inst_paths.specs.Rows.{prefix_of, row_for, rows_of}
 use Rattle.cif_inst.specs.declared.declarations.Sort.{Sort}
 use Rattle.cif_inst.specs.declared.declarations.Sort.TheVariants as sort
-use Rattle.cif_rows.proofs.SoundLaws.{From, from-here, from-next, all-components}
+use Rattle.cif_inst_paths.proofs.SoundLaws.{From, from-here, from-next, all-components}
 
 -- ---- of a body
 

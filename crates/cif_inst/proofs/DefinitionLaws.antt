@@ -2,17 +2,17 @@
 use Rattle.std.proofs.Common.{◌≡◌, ℕ, ◌+◌, ◌≤◌, List, [], ◌∷◌, ◌++◌, length, map, Option, Some, None, refl, sym, ◌∙◌, ap}
 use Rattle.std.proofs.lemmas.List.{map-append}
 use Rattle.cif_ast.specs.Tree.{Tree}
-use Rattle.cif_model.specs.Net.{AlgValue, one_value, by_loc}
-use Rattle.cif_model.specs.Exprs.{alg_exprs}
-use Rattle.cif_term.specs.Tree.{NetExpr}
+use Rattle.cif_net_model.specs.Net.{AlgValue, one_value, by_loc}
+use Rattle.cif_net_model.specs.Exprs.{alg_exprs}
+use Rattle.cif_net_expr.specs.Tree.{NetExpr}
 use Rattle.cif_source.specs.Source.{Text, SourceBody, Source}
 use Rattle.cif_source.specs.Components.{Component}
 use Rattle.cif_source.specs.Objects.{components_of, most_objects, locs_in}
-use Rattle.cif_rules.specs.BodyRules.{EquationsDue}
-use Rattle.cif_image.specs.Translation.{net_of}
-use Rattle.cif_translate.specs.Looking.{component_of}
-use Rattle.cif_rows.specs.Rows.{RowTree, rows_of}
-use Rattle.cif_weights.specs.Definitions.{DefinitionTree, value_expr, definition_exprs, AreDefinitionsOf}
+use Rattle.cif_source.specs.BodyRules.{EquationsDue}
+use Rattle.cif_inst_model.specs.Translation.{net_of}
+use Rattle.cif_inst_names.specs.Looking.{component_of}
+use Rattle.cif_inst_paths.specs.Rows.{RowTree, rows_of}
+use Rattle.cif_inst_sizes.specs.Definitions.{DefinitionTree, value_expr, definition_exprs, AreDefinitionsOf}
 use Rattle.cif_inst.specs.Algebraic.{definition_or, definition_in, alg_with, home_number, body_algs, rows_algs}
 use Rattle.cif_inst.specs.Declarations.{DatumTree, body_data}
 use Rattle.cif_inst.specs.Definitions.{definition_with, body_definitions, rows_definitions}

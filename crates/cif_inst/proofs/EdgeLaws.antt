@@ -8,9 +8,9 @@ use Rattle.cif_ast.specs.View.{view as source_view, view_updates as source_updat
 use Rattle.cif_ast.specs.declared.edges.Edge.{Edge}
 use Rattle.cif_ast.specs.declared.edges.EventUse.{EventUse}
 use Rattle.cif_ast.specs.declared.names.Ident.{Ident}
-use Rattle.cif_term.specs.View.{view, view_updates}
-use Rattle.cif_term.specs.declared.expressions.NetExpr.{NetExpr}
-use Rattle.cif_term.specs.declared.updates.NetUpdate.{NetUpdate}
+use Rattle.cif_net_expr.specs.View.{view, view_updates}
+use Rattle.cif_net_expr.specs.declared.expressions.NetExpr.{NetExpr}
+use Rattle.cif_net_expr.specs.declared.updates.NetUpdate.{NetUpdate}
 use Rattle.cif_net.specs.declared.automata.NetEdge.{NetEdge as NetEdgeOf}
 use Rattle.cif_net.specs.declared.automata.NetRole.{NetRole}
 use Rattle.cif_net.specs.View.{role_of as net_role, edge_tree as net_tree}
@@ -27,16 +27,16 @@ use Rattle.cif_scope.specs.declared.scopes.Scopes.{Scopes}
 use Rattle.cif_scope.specs.Tables.{IsBody, IsWhat}
 use Rattle.cif_scope.specs.Scopes.{AreScopesOf}
 use Rattle.cif_scope.proofs.LookLaws.{Slotted, what-is}
-use Rattle.cif_image.specs.Translation.{net_of, net_guard}
-use Rattle.cif_image.specs.Flat.{event_number, sent_tree, net_updates_of, value_places, net_edge}
-use Rattle.cif_image.proofs.KeptLaws.{has_twice}
-use Rattle.cif_image.proofs.PathLaws.{names, not-twice-right}
-use Rattle.cif_image.proofs.BodyLaws.{other-name}
-use Rattle.cif_model.proofs.Passing.{all-member}
-use Rattle.cif_image.proofs.SystemLaws.{map-map}
-use Rattle.cif_image.proofs.NumberLaws.{all-joined}
-use Rattle.cif_translate.specs.Looking.{component_at}
-use Rattle.cif_translate.specs.declared.looking.Looking.{Looking}
+use Rattle.cif_inst_model.specs.Translation.{net_of, net_guard}
+use Rattle.cif_inst_model.specs.Flat.{event_number, sent_tree, net_updates_of, value_places, net_edge}
+use Rattle.cif_inst_model.proofs.KeptLaws.{has_twice}
+use Rattle.cif_inst_model.proofs.PathLaws.{names, not-twice-right}
+use Rattle.cif_inst_model.proofs.BodyLaws.{other-name}
+use Rattle.cif_net_model.proofs.Passing.{all-member}
+use Rattle.cif_inst_model.proofs.SystemLaws.{map-map}
+use Rattle.cif_inst_model.proofs.NumberLaws.{all-joined}
+use Rattle.cif_inst_names.specs.Looking.{component_at}
+use Rattle.cif_inst_names.specs.declared.looking.Looking.{Looking}
 use Rattle.cif_inst.specs.Targets.{place_in, place_at, target_place}
 use Rattle.cif_inst.specs.Edges.{use_edge, end_place, uses_edges, locations_edges}
 use Rattle.cif_inst.specs.Views.{role_back, role_for}

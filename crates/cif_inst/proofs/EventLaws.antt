@@ -6,27 +6,27 @@ use Rattle.cif_system.specs.Words.{Member}
 use Rattle.cif_system.proofs.Lists.{slice_get-below}
 use Rattle.cif_system.proofs.Picks.{append-left, append-right}
 use Rattle.cif_system.proofs.Distinct.{member-append}
-use Rattle.cif_model.specs.Net.{NetEvent}
+use Rattle.cif_net_model.specs.Net.{NetEvent}
 use Rattle.cif_source.specs.Source.{Text, TypeTree, ChannelTree, value_type, DeclTree, type_decl, enum_decl, event_decl, const_decl, alg_decl, input_decl, disc_decl, equation_decl, invariant_decl, marked_decl, decl_item, component_item, definition_item, instance_item, SourceBody, group_body, automaton_body, Source, no_source, source, list_of_items}
 use Rattle.cif_source.specs.Components.{Component, body_of, params_of, path_of}
 use Rattle.cif_source.specs.Objects.{components_of, item_decls, decls_in, decls_of, is_event, events as events_of, Declared}
 use Rattle.cif_source.specs.Step.{class_of}
-use Rattle.cif_rules.specs.Constants.{param_types, channel_types, decl_types, types_of}
-use Rattle.cif_image.specs.Flat.{net_event}
-use Rattle.cif_image.specs.Types.{net_channel}
-use Rattle.cif_image.proofs.NumberLaws.{kept-all, append-kept}
-use Rattle.cif_translate.specs.Looking.{or_whole, component_of}
+use Rattle.cif_source.specs.Constants.{param_types, channel_types, decl_types, types_of}
+use Rattle.cif_inst_model.specs.Flat.{net_event}
+use Rattle.cif_inst_model.specs.Types.{net_channel}
+use Rattle.cif_inst_model.proofs.NumberLaws.{kept-all, append-kept}
+use Rattle.cif_inst_names.specs.Looking.{or_whole, component_of}
 use Rattle.cif_inst.specs.Events.{EventTree, decl_events, decls_events, items_events, body_events, rows_events, made_event, all_events, StandsIn, StandAll}
-use Rattle.cif_rows.specs.Rows.{prefix_of, row_for, rows_of}
+use Rattle.cif_inst_paths.specs.Rows.{prefix_of, row_for, rows_of}
 use Rattle.cif_inst.specs.Typing.{typed_source, typed_component, AreTypesOf}
-use Rattle.cif_rows.specs.Views.{row_tree}
+use Rattle.cif_inst_paths.specs.Views.{row_tree}
 use Rattle.cif_inst.specs.Views.{event_datum}
 use Rattle.cif_inst.specs.declared.events.EventDatum.{EventDatum}
-use Rattle.cif_rows.specs.declared.rows.Row.{Row}
+use Rattle.cif_inst_paths.specs.declared.rows.Row.{Row}
 use Rattle.cif_inst.specs.declared.typing.Typing.{Typing}
-use Rattle.cif_rows.proofs.RowLaws.{dots-dotted}
-use Rattle.cif_rows.proofs.SoundLaws.{From, from-here, from-next, all-components}
-use Rattle.cif_rows.proofs.LoopLaws.{listed_at, made_more}
+use Rattle.cif_inst_paths.proofs.RowLaws.{dots-dotted}
+use Rattle.cif_inst_paths.proofs.SoundLaws.{From, from-here, from-next, all-components}
+use Rattle.cif_inst_paths.proofs.LoopLaws.{listed_at, made_more}
 
 -- ---- of a body
 

@@ -9,24 +9,24 @@ use Rattle.cif_system.specs.Words.{Member}
 use Rattle.cif_system.proofs.Lists.{some-same, none-some}
 use Rattle.cif_system.proofs.Picks.{append-left, append-right}
 use Rattle.cif_system.proofs.Distinct.{member-append}
-use Rattle.cif_model.specs.Facts.{has}
+use Rattle.cif_net_model.specs.Facts.{has}
 use Rattle.cif_source.specs.Source.{UseTree, EdgeTree, LocationTree, AutomatonTree, automaton_body, Source}
 use Rattle.cif_source.specs.Components.{Component, body_of}
 use Rattle.cif_source.specs.Objects.{components_of, locs_of, locs_in, EventEdge, event_edges, edges_of_uses}
 use Rattle.cif_system.specs.System.{syncing}
 use Rattle.cif_system.specs.Step.{same_role}
 use Rattle.cif_source.specs.Step.{role_of, synchronises}
-use Rattle.cif_rules.specs.InstanceRules as rules
-use Rattle.cif_rules.specs.InstanceRules.{synchronised_name, is_lacking}
-use Rattle.cif_image.specs.Flat.{event_number, net_edge}
-use Rattle.cif_image.proofs.SystemLaws.{alphabet-same}
-use Rattle.cif_image.proofs.RuleLaws.{member-any}
-use Rattle.cif_translate.specs.Looking.{component_at}
-use Rattle.cif_translate.specs.declared.looking.Looking.{Looking}
+use Rattle.cif_source.specs.InstanceRules as rules
+use Rattle.cif_source.specs.InstanceRules.{synchronised_name, is_lacking}
+use Rattle.cif_inst_model.specs.Flat.{event_number, net_edge}
+use Rattle.cif_inst_model.proofs.SystemLaws.{alphabet-same}
+use Rattle.cif_inst_model.proofs.RuleLaws.{member-any}
+use Rattle.cif_inst_names.specs.Looking.{component_at}
+use Rattle.cif_inst_names.specs.declared.looking.Looking.{Looking}
 use Rattle.cif_inst.specs.Edges.{automaton_edges}
 use Rattle.cif_inst.specs.Alphabets.{name_places, use_place, edge_places, location_places, synced_events, alphabet_for, monitors_by, monitors_for, is_outside, first_failing, or_later, automaton_lacks}
-use Rattle.cif_rows.proofs.SoundLaws.{IsSound}
-use Rattle.cif_rows.proofs.EventNameLaws.{Numbered}
+use Rattle.cif_inst_paths.proofs.SoundLaws.{IsSound}
+use Rattle.cif_inst_paths.proofs.EventNameLaws.{Numbered}
 use Rattle.cif_inst.proofs.AlphabetLaws.{role_names, role-numbered, monitor-numbered, roles-are, alphabet-is}
 
 -- ---- the first that fails

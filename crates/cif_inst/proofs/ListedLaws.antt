@@ -2,13 +2,13 @@
 use Rattle.std.proofs.Common.{◌≡◌, ℕ, ◌+◌, List, [], ◌∷◌, ◌++◌, length, map, refl, sym, ◌∙◌, ap}
 use Rattle.std.specs.Prelude.{flat_map}
 use Rattle.std.proofs.lemmas.List.{map-append}
-use Rattle.cif_model.specs.Counts as counts
-use Rattle.cif_model.specs.Net.{NetEdge}
+use Rattle.cif_net_model.specs.Counts as counts
+use Rattle.cif_net_model.specs.Net.{NetEdge}
 use Rattle.cif_source.specs.Source.{UseTree, EdgeTree, LocationTree, AutomatonTree}
-use Rattle.cif_image.proofs.SystemLaws.{map-map}
-use Rattle.cif_translate.specs.Looking.{component_at}
-use Rattle.cif_translate.specs.declared.looking.Looking.{Looking}
-use Rattle.cif_weights.specs.Weights.{edge_weight, use_weight}
+use Rattle.cif_inst_model.proofs.SystemLaws.{map-map}
+use Rattle.cif_inst_names.specs.Looking.{component_at}
+use Rattle.cif_inst_names.specs.declared.looking.Looking.{Looking}
+use Rattle.cif_inst_sizes.specs.Weights.{edge_weight, use_weight}
 use Rattle.cif_inst.specs.Edges.{use_edge, end_place, uses_edges, locations_edges, automaton_edges}
 use Rattle.cif_inst.specs.Alphabets.{use_used, automaton_used}
 use Rattle.cif_inst.specs.Measures.{automaton_weights}

@@ -8,7 +8,7 @@ use Rattle.std.proofs.lemmas.Option.{unwrap_or-slice_get}
 use Rattle.cif_system.specs.Words.{Member}
 use Rattle.cif_system.specs.System.{sending, receiving}
 use Rattle.cif_system.proofs.Picks.{and-left, and-right}
-use Rattle.cif_model.specs.Facts.{has}
+use Rattle.cif_net_model.specs.Facts.{has}
 use Rattle.cif_inst.specs.Alphabets.{is_outside, first_failing, events_as}
 use Rattle.cif_inst.specs.Marks.{marked, mark_of, is_marked, is_unmarked, AreMarks}
 use Rattle.cif_scope.proofs.Places.{drop-item}

@@ -9,15 +9,15 @@ use Rattle.cif_system.proofs.Picks.{at-member}
 use Rattle.cif_source.specs.Source.{SourceItem, decl_item, component_item, definition_item, instance_item, SourceBody, group_body, automaton_body, Source, no_source, source}
 use Rattle.cif_source.specs.Components.{Component, whole, part, blank, copy, as_written, body_of}
 use Rattle.cif_source.specs.Objects.{components_of, automata, is_automaton, bodies, bodies_in, bodies_at, bodies_under, events}
-use Rattle.cif_rules.specs.BodyRules.{name_at}
-use Rattle.cif_rules.specs.InstanceRules.{role_count, RoleMixedDue}
-use Rattle.cif_components.specs.Numbers.{IsNumber}
-use Rattle.cif_image.proofs.RuleLaws.{member-any}
-use Rattle.cif_image.proofs.StandingLaws.{any-member}
-use Rattle.cif_translate.specs.Looking.{or_whole, source_for, component_at}
-use Rattle.cif_translate.specs.declared.looking.Looking.{Looking}
-use Rattle.cif_rows.specs.Names.{AreMatchedNames}
-use Rattle.cif_rows.specs.Rows.{RowTree, body_number, row_for, rows_of}
+use Rattle.cif_source.specs.BodyRules.{name_at}
+use Rattle.cif_source.specs.InstanceRules.{role_count, RoleMixedDue}
+use Rattle.cif_inst_components.specs.Numbers.{IsNumber}
+use Rattle.cif_inst_model.proofs.RuleLaws.{member-any}
+use Rattle.cif_inst_model.proofs.StandingLaws.{any-member}
+use Rattle.cif_inst_names.specs.Looking.{or_whole, source_for, component_at}
+use Rattle.cif_inst_names.specs.declared.looking.Looking.{Looking}
+use Rattle.cif_inst_paths.specs.Names.{AreMatchedNames}
+use Rattle.cif_inst_paths.specs.Rows.{RowTree, body_number, row_for, rows_of}
 use Rattle.cif_inst.specs.Alphabets.{automaton_alphabet, body_alphabets, rows_alphabets}
 use Rattle.cif_inst.specs.BodyNames.{places_in, places_at, places_under, all_places}
 use Rattle.cif_inst.specs.Roles.{is_mixed, first_mixed, mixed_place, tells_mixed, AreBelow, AreAllBelow}
@@ -25,7 +25,7 @@ use Rattle.cif_inst.specs.Net.{due}
 use Rattle.cif_inst.specs.declared.alphabets.Alphabet.{Alphabet}
 use Rattle.cif_inst.specs.declared.error.InstErr.{InstErr}
 use Rattle.cif_inst.specs.declared.error.InstErr.TheVariants.{AlphabetLacks, RoleMixed, TooManyObjects, ConstantRange, TooLarge, Memory}
-use Rattle.cif_rows.proofs.SoundLaws.{body-numbered, From, from-here, from-next, all-components}
+use Rattle.cif_inst_paths.proofs.SoundLaws.{body-numbered, From, from-here, from-next, all-components}
 use Rattle.cif_inst.proofs.UseLaws.{automaton-listed}
 use Rattle.cif_inst.proofs.RoleLaws.{automaton-mixed, automaton-single, automaton-below}
 

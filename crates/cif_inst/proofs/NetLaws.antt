@@ -6,20 +6,20 @@ use Rattle.std.specs.List.{position_or_len}
 use Rattle.std.proofs.lemmas.List.{length-append}
 use Rattle.cif_system.specs.Words.{Member}
 use Rattle.cif_system.proofs.Lists.{false-true, slice_get-below}
-use Rattle.cif_model.specs.Facts.{is_net}
+use Rattle.cif_net_model.specs.Facts.{is_net}
 use Rattle.cif_source.specs.Source.{Text, AutomatonTree, SourceBody, group_body, automaton_body, Source}
 use Rattle.cif_source.specs.Components.{Component, whole, part, blank, copy, body_of, Path, path_of}
 use Rattle.cif_source.specs.Objects as objects
 use Rattle.cif_source.specs.Objects.{components_of, automata, is_automaton, locs_in}
-use Rattle.cif_rules.specs.InstanceRules.{TooManyObjectsDue, ConstantRangeDue}
-use Rattle.cif_components.specs.declared.error.ComponentsErr.{ComponentsErr}
-use Rattle.cif_components.specs.declared.error.ComponentsErr.TheVariants as components
-use Rattle.cif_components.specs.Numbers as numbers
-use Rattle.cif_components.specs.Numbers.{IsNumber}
+use Rattle.cif_source.specs.InstanceRules.{TooManyObjectsDue, ConstantRangeDue}
+use Rattle.cif_inst_components.specs.declared.error.ComponentsErr.{ComponentsErr}
+use Rattle.cif_inst_components.specs.declared.error.ComponentsErr.TheVariants as components
+use Rattle.cif_inst_components.specs.Numbers as numbers
+use Rattle.cif_inst_components.specs.Numbers.{IsNumber}
 use Rattle.cif_types.specs.Kinds.{KeepsKinds}
-use Rattle.cif_constants.specs.Constants.{ConstDue}
-use Rattle.cif_constants.specs.declared.error.ConstErr.{ConstErr}
-use Rattle.cif_constants.specs.declared.error.ConstErr.TheVariants as constant
+use Rattle.cif_inst_constants.specs.Constants.{ConstDue}
+use Rattle.cif_inst_constants.specs.declared.error.ConstErr.{ConstErr}
+use Rattle.cif_inst_constants.specs.declared.error.ConstErr.TheVariants as constant
 use Rattle.cif_net.specs.declared.automata.Auto.{Auto}
 use Rattle.cif_net.specs.declared.events.Event.{Event}
 use Rattle.cif_net.specs.declared.data.Input.{Input}
@@ -28,15 +28,15 @@ use Rattle.cif_net.specs.declared.data.Alg.{Alg}
 use Rattle.cif_net.specs.declared.predicates.Exclusion.{Exclusion}
 use Rattle.cif_net.specs.declared.predicates.Invariant.{Invariant}
 use Rattle.cif_net.specs.Parts.{auto_tree, event_tree, input_tree, var_tree, alg_tree, exclusion_tree, invariant_tree, net_of_parts}
-use Rattle.cif_image.specs.Flat.{dotted, location_name, net_auto, net_alg, net_of_source}
-use Rattle.cif_image.specs.Represents.{Represents}
-use Rattle.cif_image.specs.Small.{HasSmallParts}
-use Rattle.cif_image.specs.WellFormed.{KeepsBefore, algebraic}
-use Rattle.cif_fits.specs.Forms.{HasSmallArguments}
-use Rattle.cif_translate.specs.Looking.{or_whole, source_for, component_at, AreNamesOf}
-use Rattle.cif_translate.specs.declared.looking.Looking.{Looking}
-use Rattle.cif_rows.specs.Names.{AreMatchedNames}
-use Rattle.cif_rows.specs.Rows.{RowTree, prefix_of, row_for, rows_of}
+use Rattle.cif_inst_model.specs.Flat.{dotted, location_name, net_auto, net_alg, net_of_source}
+use Rattle.cif_inst_model.specs.Represents.{Represents}
+use Rattle.cif_inst_model.specs.Small.{HasSmallParts}
+use Rattle.cif_inst_model.specs.WellFormed.{KeepsBefore, algebraic}
+use Rattle.cif_inst_laws.specs.Forms.{HasSmallArguments}
+use Rattle.cif_inst_names.specs.Looking.{or_whole, source_for, component_at, AreNamesOf}
+use Rattle.cif_inst_names.specs.declared.looking.Looking.{Looking}
+use Rattle.cif_inst_paths.specs.Names.{AreMatchedNames}
+use Rattle.cif_inst_paths.specs.Rows.{RowTree, prefix_of, row_for, rows_of}
 use Rattle.cif_inst.specs.Events.{all_events}
 use Rattle.cif_inst.specs.Algebraic.{rows_algs}
 use Rattle.cif_inst.specs.Variables.{all_stored}
@@ -48,8 +48,8 @@ use Rattle.cif_inst.specs.Roles.{first_mixed}
 use Rattle.cif_inst.specs.declared.alphabets.Alphabet.{Alphabet}
 use Rattle.cif_inst.specs.declared.error.InstErr.{InstErr}
 use Rattle.cif_inst.specs.declared.error.InstErr.TheVariants.{AlphabetLacks, RoleMixed, TooManyObjects, ConstantRange, TooLarge, Memory}
-use Rattle.cif_rows.proofs.SoundLaws.{component-listed, From, from-here, from-next, all-components}
-use Rattle.cif_rows.proofs.RowLaws.{dots-step, dots-dotted}
+use Rattle.cif_inst_paths.proofs.SoundLaws.{component-listed, From, from-here, from-next, all-components}
+use Rattle.cif_inst_paths.proofs.RowLaws.{dots-step, dots-dotted}
 use Rattle.cif_inst.proofs.EventLaws.{events-are}
 use Rattle.cif_inst.proofs.AlphabetLaws.{alphabet-is, monitors-are}
 use Rattle.cif_inst.proofs.AutomatonLaws.{sound, edges}

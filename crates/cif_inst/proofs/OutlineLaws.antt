@@ -6,24 +6,24 @@ use Rattle.std.proofs.Math.Seq.{drop-append_seam}
 use Rattle.std.proofs.lemmas.List.{drop-drop, map-append}
 use Rattle.std.proofs.lemmas.List.Sums.{sum_by-cons}
 use Rattle.cif_system.proofs.Lists.{map-length}
-use Rattle.cif_term.specs.Tree.{NetExpr}
-use Rattle.cif_model.specs.Net.{NetEdge, NetAuto, NetExclusion, NetInvariant, Net}
-use Rattle.cif_model.specs.Exprs.{edge_exprs}
-use Rattle.cif_model.specs.Unfolding.{at_or}
-use Rattle.cif_model.specs.Counts.{no_form, alg_measures, all_beside, measure_by, stopped, most_depth}
-use Rattle.cif_model.specs.Counts as counts
-use Rattle.cif_measure.specs.declared.measures.Measure.{Measure}
-use Rattle.cif_measure.specs.Meanings.{as_measure, stopped_measure, table_measure}
-use Rattle.cif_measure.specs.Counted.{beside_stopped}
-use Rattle.cif_measure.specs.Sizes.{AreMeasured, sizes_by, table_counted}
+use Rattle.cif_net_expr.specs.Tree.{NetExpr}
+use Rattle.cif_net_model.specs.Net.{NetEdge, NetAuto, NetExclusion, NetInvariant, Net}
+use Rattle.cif_net_model.specs.Exprs.{edge_exprs}
+use Rattle.cif_net_model.specs.Unfolding.{at_or}
+use Rattle.cif_net_model.specs.Counts.{no_form, alg_measures, all_beside, measure_by, stopped, most_depth}
+use Rattle.cif_net_model.specs.Counts as counts
+use Rattle.cif_alg_measure.specs.declared.measures.Measure.{Measure}
+use Rattle.cif_alg_measure.specs.Meanings.{as_measure, stopped_measure, table_measure}
+use Rattle.cif_alg_measure.specs.Counted.{beside_stopped}
+use Rattle.cif_alg_measure.specs.Sizes.{AreMeasured, sizes_by, table_counted}
 use Rattle.cif_alg.specs.Tallies.{cut_size}
 use Rattle.cif_alg.specs.Weighed.{cut}
 use Rattle.cif_alg.specs.Outlines.{CountedAuto, counted_edge, counted_auto, counted_exclusion, counted_invariant}
 use Rattle.cif_source.specs.Source.{Text, AutomatonTree, SourceBody, group_body, automaton_body}
-use Rattle.cif_translate.specs.declared.looking.Looking.{Looking}
-use Rattle.cif_weights.specs.Weights.{edge_weight}
-use Rattle.cif_predicates.specs.Weights.{weight_of, excluded_of, invariant_weight}
-use Rattle.cif_rows.specs.Rows.{RowTree}
+use Rattle.cif_inst_names.specs.declared.looking.Looking.{Looking}
+use Rattle.cif_inst_sizes.specs.Weights.{edge_weight}
+use Rattle.cif_inst_predicates.specs.Weights.{weight_of, excluded_of, invariant_weight}
+use Rattle.cif_inst_paths.specs.Rows.{RowTree}
 use Rattle.cif_inst.specs.Edges.{automaton_edges}
 use Rattle.cif_inst.specs.Alphabets.{automaton_used, alphabet_for, monitors_for, automaton_alphabet, body_alphabets, rows_alphabets}
 use Rattle.cif_inst.specs.Autos.{auto_for, body_autos, rows_autos}

@@ -7,23 +7,23 @@ use Rattle.cif_system.specs.Words.{Member}
 use Rattle.cif_system.specs.System.{Role, sending, receiving}
 use Rattle.cif_system.specs.Step.{same_role, is_number}
 use Rattle.cif_system.proofs.Lists.{false-true}
-use Rattle.cif_model.specs.Facts.{has}
+use Rattle.cif_net_model.specs.Facts.{has}
 use Rattle.cif_source.specs.Source.{AutomatonTree, automaton_body, Source}
 use Rattle.cif_source.specs.Components.{Component, body_of}
 use Rattle.cif_source.specs.Objects.{components_of, events, EventEdge, event_edges}
 use Rattle.cif_source.specs.Step.{role_of, denotes_event, synchronises, has_role, has_edge}
-use Rattle.cif_rules.specs.InstanceRules.{role_count}
-use Rattle.cif_image.specs.Flat.{event_number, net_edge}
-use Rattle.cif_image.proofs.SystemLaws.{alphabet-same}
-use Rattle.cif_translate.specs.Looking.{source_for, component_at}
-use Rattle.cif_translate.specs.declared.looking.Looking.{Looking}
-use Rattle.cif_rows.specs.Names.{AreMatchedNames}
+use Rattle.cif_source.specs.InstanceRules.{role_count}
+use Rattle.cif_inst_model.specs.Flat.{event_number, net_edge}
+use Rattle.cif_inst_model.proofs.SystemLaws.{alphabet-same}
+use Rattle.cif_inst_names.specs.Looking.{source_for, component_at}
+use Rattle.cif_inst_names.specs.declared.looking.Looking.{Looking}
+use Rattle.cif_inst_paths.specs.Names.{AreMatchedNames}
 use Rattle.cif_inst.specs.Edges.{automaton_edges}
 use Rattle.cif_inst.specs.Alphabets.{events_as, automaton_alphabet}
 use Rattle.cif_inst.specs.Roles.{is_mixed, AreBelow}
 use Rattle.cif_inst.specs.declared.alphabets.Alphabet.{Alphabet}
-use Rattle.cif_rows.proofs.SoundLaws.{component-listed}
-use Rattle.cif_rows.proofs.EventNameLaws.{Numbered}
+use Rattle.cif_inst_paths.proofs.SoundLaws.{component-listed}
+use Rattle.cif_inst_paths.proofs.EventNameLaws.{Numbered}
 use Rattle.cif_inst.proofs.AlphabetLaws.{role_name, edge-numbered, alphabet-is, roles-are, role-below}
 use Rattle.cif_inst.proofs.AutomatonLaws.{sound, edges}
 

@@ -1,15 +1,15 @@
 -- One automaton more among the rows.
 use Rattle.std.proofs.Common.{◌≡◌, ℕ, ◌+◌, ◌<◌, List, [], ◌∷◌, ◌++◌, length, map, drop, get_or, append_assoc, Option, None, sym, ◌∙◌, ap, subst}
 use Rattle.cif_scope.specs.Written.{inside_of}
-use Rattle.cif_translate.specs.declared.looking.Looking.{Looking}
-use Rattle.cif_rows.specs.Rows.{RowTree}
-use Rattle.cif_rows.specs.Views.{row_tree}
+use Rattle.cif_inst_names.specs.declared.looking.Looking.{Looking}
+use Rattle.cif_inst_paths.specs.Rows.{RowTree}
+use Rattle.cif_inst_paths.specs.Views.{row_tree}
 use Rattle.cif_scope.proofs.Places.{drop-item}
 use Rattle.cif_inst.specs.Alphabets.{body_alphabets, rows_alphabets, body_lacks, rows_lacks, tells}
 use Rattle.cif_inst.specs.declared.alphabets.Alphabet.{Alphabet}
 use Rattle.cif_inst.specs.declared.error.InstErr.{InstErr}
 use Rattle.cif_inst.proofs.AutomatonLaws.{or_tells, or_none}
-use Rattle.cif_rows.specs.declared.rows.Row.{Row}
+use Rattle.cif_inst_paths.specs.declared.rows.Row.{Row}
 
 -- ---- past a row
 

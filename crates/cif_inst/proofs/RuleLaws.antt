@@ -2,13 +2,13 @@
 use Rattle.std.proofs.Common.{ℕ, ◌⊎◌, inl, inr, arith}
 use Rattle.cif_source.specs.Source.{Source}
 use Rattle.cif_source.specs.Objects.{components_of}
-use Rattle.cif_rules.specs.InstanceRules.{ConstantRangeDue, FaultyConstant, LeavesRange, LongBound, EmptyRange}
-use Rattle.cif_constants.specs.Constants.{BoundsDue}
+use Rattle.cif_source.specs.InstanceRules.{ConstantRangeDue, FaultyConstant, LeavesRange, LongBound, EmptyRange}
+use Rattle.cif_inst_constants.specs.Constants.{BoundsDue}
 use Rattle.cif_scope.specs.Scopes.{KeepsScoping}
 use Rattle.cif_types.specs.Kinds.{KeepsKinds}
-use Rattle.cif_image.specs.WellFormed.{unknown, duplicate, wrong_kind, definition_cycle, mismatch, not_constant, initials, not_own, assigned_twice, equations, alphabet_lacks, role_mixed, too_many_objects, constant_range, alg_cycle, zero_divisor, too_wide, invariant_reads_input, invariant_false, too_large, too_many_choices, algebraic, KeepsBefore}
-use Rattle.cif_image.proofs.StandingLaws.{any-member}
-use Rattle.cif_image.proofs.RuleLaws.{member-any}
+use Rattle.cif_inst_model.specs.WellFormed.{unknown, duplicate, wrong_kind, definition_cycle, mismatch, not_constant, initials, not_own, assigned_twice, equations, alphabet_lacks, role_mixed, too_many_objects, constant_range, alg_cycle, zero_divisor, too_wide, invariant_reads_input, invariant_false, too_large, too_many_choices, algebraic, KeepsBefore}
+use Rattle.cif_inst_model.proofs.StandingLaws.{any-member}
+use Rattle.cif_inst_model.proofs.RuleLaws.{member-any}
 use Rattle.cif_inst.specs.Net.{KeepsInstances}
 
 -- ---- constants

@@ -4,34 +4,34 @@ use Rattle.std.specs.Prelude.{flat_map}
 use Rattle.std.proofs.lemmas.Bool.Decides.{nat_tests}
 use Rattle.std.proofs.lemmas.List.{map-append}
 use Rattle.cif_system.proofs.Lists.{map-length}
-use Rattle.cif_term.specs.Tree.{NetExpr}
-use Rattle.cif_model.specs.Exprs.{edge_exprs}
-use Rattle.cif_model.specs.Net.{NetAuto, NetEvent, NetExclusion, NetInvariant, Net}
-use Rattle.cif_model.specs.Facts.{is_net}
-use Rattle.cif_model.specs.Counts as counts
-use Rattle.cif_model.specs.Counts.{invariant_exprs, nodes, depth, stopped, most_nodes, most_depth, is_too_large}
-use Rattle.cif_model.proofs.CycleLaws.{acyclic-by_rank}
-use Rattle.cif_measure.specs.declared.measures.Measure.{Measure}
-use Rattle.cif_measure.specs.Meanings.{table_measure}
-use Rattle.cif_measure.specs.Sizes.{AreMeasured}
-use Rattle.cif_algebraic.specs.Orders.{IsRankOf}
+use Rattle.cif_net_expr.specs.Tree.{NetExpr}
+use Rattle.cif_net_model.specs.Exprs.{edge_exprs}
+use Rattle.cif_net_model.specs.Net.{NetAuto, NetEvent, NetExclusion, NetInvariant, Net}
+use Rattle.cif_net_model.specs.Facts.{is_net}
+use Rattle.cif_net_model.specs.Counts as counts
+use Rattle.cif_net_model.specs.Counts.{invariant_exprs, nodes, depth, stopped, most_nodes, most_depth, is_too_large}
+use Rattle.cif_net_model.proofs.CycleLaws.{acyclic-by_rank}
+use Rattle.cif_alg_measure.specs.declared.measures.Measure.{Measure}
+use Rattle.cif_alg_measure.specs.Meanings.{table_measure}
+use Rattle.cif_alg_measure.specs.Sizes.{AreMeasured}
+use Rattle.cif_alg_order.specs.Orders.{IsRankOf}
 use Rattle.cif_alg.specs.Sizes.{sizes_added}
 use Rattle.cif_alg.specs.Tallies.{counted}
 use Rattle.cif_alg.specs.Outlines.{counted_auto, counted_exclusion, counted_invariant, AreAsLarge}
 use Rattle.cif_source.specs.Source.{Source}
 use Rattle.cif_source.specs.Objects.{components_of}
-use Rattle.cif_image.specs.Flat.{net_of_source}
-use Rattle.cif_image.specs.NetRules.{TooLargeDue}
-use Rattle.cif_translate.specs.Looking.{source_for}
-use Rattle.cif_translate.specs.declared.looking.Looking.{Looking}
-use Rattle.cif_weights.specs.Definitions.{alg_weight}
-use Rattle.cif_weights.proofs.RankLaws.{depth-split}
-use Rattle.cif_weights.specs.Weights.{edge_weight}
-use Rattle.cif_predicates.specs.Weights.{weight_of, excluded_of, invariant_weight, AreWeightsOf}
-use Rattle.cif_predicates.specs.declared.weights.Excluded.{Excluded}
-use Rattle.cif_predicates.specs.declared.weights.PredicateWeights.{PredicateWeights}
-use Rattle.cif_rows.specs.Names.{AreMatchedNames}
-use Rattle.cif_rows.specs.Rows.{RowTree, rows_of}
+use Rattle.cif_inst_model.specs.Flat.{net_of_source}
+use Rattle.cif_inst_model.specs.NetRules.{TooLargeDue}
+use Rattle.cif_inst_names.specs.Looking.{source_for}
+use Rattle.cif_inst_names.specs.declared.looking.Looking.{Looking}
+use Rattle.cif_inst_sizes.specs.Definitions.{alg_weight}
+use Rattle.cif_inst_sizes.proofs.RankLaws.{depth-split}
+use Rattle.cif_inst_sizes.specs.Weights.{edge_weight}
+use Rattle.cif_inst_predicates.specs.Weights.{weight_of, excluded_of, invariant_weight, AreWeightsOf}
+use Rattle.cif_inst_predicates.specs.declared.weights.Excluded.{Excluded}
+use Rattle.cif_inst_predicates.specs.declared.weights.PredicateWeights.{PredicateWeights}
+use Rattle.cif_inst_paths.specs.Names.{AreMatchedNames}
+use Rattle.cif_inst_paths.specs.Rows.{RowTree, rows_of}
 use Rattle.cif_inst.specs.Events.{all_events}
 use Rattle.cif_inst.specs.Alphabets.{rows_alphabets}
 use Rattle.cif_inst.specs.Autos.{rows_autos}
@@ -41,7 +41,7 @@ use Rattle.cif_inst.specs.Net.{due, KeepsInstances}
 use Rattle.cif_inst.specs.declared.alphabets.Alphabet.{Alphabet}
 use Rattle.cif_inst.specs.declared.error.InstErr.{InstErr}
 use Rattle.cif_inst.specs.declared.error.InstErr.TheVariants.{AlphabetLacks, RoleMixed, TooManyObjects, ConstantRange, TooLarge, Memory}
-use Rattle.cif_rows.proofs.SoundLaws.{all-components}
+use Rattle.cif_inst_paths.proofs.SoundLaws.{all-components}
 use Rattle.cif_inst.proofs.EventLaws.{events-are}
 use Rattle.cif_inst.proofs.NetLaws.{rows-made}
 use Rattle.cif_inst.proofs.OutlineLaws.{left-past, exclusions-as, invariants-as, rows-as, edges_of, weights-are, depth-append, own-deep, together-deep}

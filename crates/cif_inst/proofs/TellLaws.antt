@@ -7,16 +7,16 @@ use Rattle.cif_system.proofs.Lists.{false-true, none-some, slice_get-below, filt
 use Rattle.cif_source.specs.Source.{SourceBody, group_body, automaton_body}
 use Rattle.cif_source.specs.Components.{Component, body_of}
 use Rattle.cif_source.specs.Objects.{components_of, automata, is_automaton}
-use Rattle.cif_rules.specs.InstanceRules.{is_lacking, AlphabetLacksDue}
-use Rattle.cif_components.specs.Numbers.{IsNumber}
-use Rattle.cif_image.proofs.RuleLaws.{member-any}
-use Rattle.cif_image.proofs.StandingLaws.{any-member}
-use Rattle.cif_translate.specs.Looking.{or_whole, source_for, component_at}
-use Rattle.cif_translate.specs.declared.looking.Looking.{Looking}
-use Rattle.cif_rows.specs.Names.{AreMatchedNames}
-use Rattle.cif_rows.specs.Rows.{RowTree, row_for, rows_of}
+use Rattle.cif_source.specs.InstanceRules.{is_lacking, AlphabetLacksDue}
+use Rattle.cif_inst_components.specs.Numbers.{IsNumber}
+use Rattle.cif_inst_model.proofs.RuleLaws.{member-any}
+use Rattle.cif_inst_model.proofs.StandingLaws.{any-member}
+use Rattle.cif_inst_names.specs.Looking.{or_whole, source_for, component_at}
+use Rattle.cif_inst_names.specs.declared.looking.Looking.{Looking}
+use Rattle.cif_inst_paths.specs.Names.{AreMatchedNames}
+use Rattle.cif_inst_paths.specs.Rows.{RowTree, row_for, rows_of}
 use Rattle.cif_inst.specs.Alphabets.{body_lacks, rows_lacks}
-use Rattle.cif_rows.proofs.SoundLaws.{component-listed, From, from-here, from-next, all-components}
+use Rattle.cif_inst_paths.proofs.SoundLaws.{component-listed, From, from-here, from-next, all-components}
 use Rattle.cif_inst.proofs.UseLaws.{automaton-listed}
 use Rattle.cif_inst.proofs.LackLaws.{LacksAt, asked_names, or-told, or-first, or-second, automaton-told, automaton-kept}
 use Rattle.cif_inst.proofs.AutomatonLaws.{sound, edges}

@@ -5,14 +5,14 @@ use Rattle.cif_source.specs.Components.{as_written}
 use Rattle.cif_source.specs.Objects.{components_of}
 use Rattle.cif_scope.specs.Tables.{IsBody}
 use Rattle.cif_inst.specs.Declarations.{DatumTree, rows_data}
-use Rattle.cif_rows.specs.Rows.{rows_of, body_number}
+use Rattle.cif_inst_paths.specs.Rows.{rows_of, body_number}
 use Rattle.cif_inst.specs.Typing.{typed_source, typed_component, body_in, AreTypesOf, IsHome, HasType}
 use Rattle.cif_inst.specs.Views.{datum_tree}
 use Rattle.cif_inst.specs.declared.declarations.Datum.{Datum}
 use Rattle.cif_inst.specs.declared.declarations.Sort.{Sort}
 use Rattle.cif_inst.specs.declared.typing.Typing.{Typing}
-use Rattle.cif_rows.proofs.LoopLaws.{listed_at, made_more}
-use Rattle.cif_rows.proofs.SoundLaws.{component-is, component-listed, body-numbered}
+use Rattle.cif_inst_paths.proofs.LoopLaws.{listed_at, made_more}
+use Rattle.cif_inst_paths.proofs.SoundLaws.{component-is, component-listed, body-numbered}
 use Rattle.cif_inst.proofs.DeclarationLaws.{data-member, datum-below, datum-typed}
 
 -- ---- one of those that are found

@@ -9,8 +9,8 @@ use Rattle.cif_source.specs.Source.{UseTree, EquationTree, EdgeTree, LocationTre
 use Rattle.cif_source.specs.Components.{Component, body_of, params_of}
 use Rattle.cif_source.specs.Objects.{components_of, automata, is_automaton, locs_of, locs_in, EventEdge, event_edges}
 use Rattle.cif_source.specs.Uses.{uses, event_asked, asking, param_uses, body_uses, decl_uses, location_uses, value_uses, edge_uses, event_uses, updates_uses}
-use Rattle.cif_image.proofs.StandingLaws.{edge-stands, enumerated}
-use Rattle.cif_rows.proofs.EventNameLaws.{event-use}
+use Rattle.cif_inst_model.proofs.StandingLaws.{edge-stands, enumerated}
+use Rattle.cif_inst_paths.proofs.EventNameLaws.{event-use}
 
 edge-used : (e : EdgeTree) (u : UseTree) → Member u e.uses → Member (event-use u.name) (edge_uses e)
 edge-used e u m =

@@ -7,19 +7,19 @@ use Rattle.cif_source.specs.Source.{Text, TypeTree, DeclTree, type_decl, enum_de
 use Rattle.cif_source.specs.Components.{Component, path_of}
 use Rattle.cif_source.specs.Objects.{components_of, Declared, is_input, is_variable, inputs, variables}
 use Rattle.cif_source.specs.Types.{first_of_type}
-use Rattle.cif_image.specs.Flat.{stored_by, net_stored}
-use Rattle.cif_image.specs.Types.{net_type}
-use Rattle.cif_values.specs.Types.{net_type_of}
-use Rattle.cif_values.specs.declared.types.NetTy.{NetTy}
-use Rattle.cif_translate.specs.Looking.{component_of}
+use Rattle.cif_inst_model.specs.Flat.{stored_by, net_stored}
+use Rattle.cif_inst_model.specs.Types.{net_type}
+use Rattle.cif_inst_types.specs.Types.{net_type_of}
+use Rattle.cif_inst_types.specs.declared.types.NetTy.{NetTy}
+use Rattle.cif_inst_names.specs.Looking.{component_of}
 use Rattle.cif_inst.specs.Declarations.{DatumTree, datum, decl_data, rows_data}
-use Rattle.cif_rows.specs.Rows.{prefix_of, rows_of}
+use Rattle.cif_inst_paths.specs.Rows.{prefix_of, rows_of}
 use Rattle.cif_inst.specs.Typing.{typed_source, AreTypesOf}
 use Rattle.cif_inst.specs.Variables.{stored_in, stored, all_stored, StandAll}
 use Rattle.cif_inst.specs.declared.declarations.Sort.{Sort}
 use Rattle.cif_inst.specs.declared.declarations.Sort.TheVariants as sort
 use Rattle.cif_inst.specs.declared.typing.Typing.{Typing}
-use Rattle.cif_rows.proofs.RowLaws.{dots-dotted}
+use Rattle.cif_inst_paths.proofs.RowLaws.{dots-dotted}
 use Rattle.cif_inst.proofs.DeclarationLaws.{is_stored, made-all, data-are, data-member, datum-constant}
 use Rattle.cif_inst.proofs.TypingLaws.{has_type}
 

@@ -2,17 +2,17 @@
 use Rattle.std.specs.Prelude.{◌≡◌, ℕ, ◌+◌, pos, List, [], ◌∷◌, ◌++◌, map, Option, Some, None}
 use Rattle.cif_ast.specs.Tree.{Tree}
 use Rattle.cif_system.specs.Words.{Member}
-use Rattle.cif_term.specs.Tree.{NetExpr, net_expr, n_number}
-use Rattle.cif_model.specs.Net.{AlgValue, one_value, by_loc, NetAlg}
+use Rattle.cif_net_expr.specs.Tree.{NetExpr, net_expr, n_number}
+use Rattle.cif_net_model.specs.Net.{AlgValue, one_value, by_loc, NetAlg}
 use Rattle.cif_source.specs.Source.{Text, SourceBody, group_body, automaton_body, Source}
 use Rattle.cif_source.specs.Components.{Component, body_of}
 use Rattle.cif_source.specs.Objects.{automaton_number, locs_in}
-use Rattle.cif_image.specs.Translation.{net_of}
-use Rattle.cif_image.specs.Types.{net_type}
-use Rattle.cif_translate.specs.Looking.{component_of}
+use Rattle.cif_inst_model.specs.Translation.{net_of}
+use Rattle.cif_inst_model.specs.Types.{net_type}
+use Rattle.cif_inst_names.specs.Looking.{component_of}
 use Rattle.cif_inst.specs.Declarations.{DatumTree, body_data}
 use Rattle.cif_inst.specs.Equations.{Values, value_for, or_else, body_added, location_added}
-use Rattle.cif_rows.specs.Rows.{RowTree}
+use Rattle.cif_inst_paths.specs.Rows.{RowTree}
 use Rattle.cif_inst.specs.Typing.{typed_component, IsHome, HasType}
 use Rattle.cif_inst.specs.declared.declarations.Sort.TheVariants as sort
 use Rattle.cif_inst.specs.declared.typing.Typing.{Typing}

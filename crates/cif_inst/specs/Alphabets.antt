@@ -5,14 +5,14 @@ use Rattle.std.specs.List.{position_or_len}
 use Rattle.cif_ast.specs.declared.names.Name.{Name}
 use Rattle.cif_system.specs.System.{Role, syncing}
 use Rattle.cif_system.specs.Step.{same_role}
-use Rattle.cif_model.specs.Facts.{has}
+use Rattle.cif_net_model.specs.Facts.{has}
 use Rattle.cif_net.specs.View.{role_of as net_role}
 use Rattle.cif_source.specs.Source.{UseTree, EdgeTree, LocationTree, AutomatonTree, SourceBody, group_body, automaton_body}
 use Rattle.cif_source.specs.Step.{role_of}
-use Rattle.cif_image.specs.Flat.{event_number}
-use Rattle.cif_translate.specs.Looking.{component_at}
-use Rattle.cif_translate.specs.declared.looking.Looking.{Looking}
-use Rattle.cif_rows.specs.Rows.{RowTree}
+use Rattle.cif_inst_model.specs.Flat.{event_number}
+use Rattle.cif_inst_names.specs.Looking.{component_at}
+use Rattle.cif_inst_names.specs.declared.looking.Looking.{Looking}
+use Rattle.cif_inst_paths.specs.Rows.{RowTree}
 use Rattle.cif_inst.specs.Views.{role_for}
 use Rattle.cif_inst.specs.declared.alphabets.Alphabet.{Alphabet}
 use Rattle.cif_inst.specs.declared.used.Used.{Used}

@@ -1,13 +1,13 @@
 -- Helper of the code: the automata of a source, by what names are looked up in.
 use Rattle.std.specs.Prelude.{ℕ, ◌+◌, ◌-◌, Bool, List, [], ◌∷◌, ◌++◌, map, length, take}
 use Rattle.std.specs.List.{position_or_len}
-use Rattle.cif_model.specs.Net.{NetAuto}
+use Rattle.cif_net_model.specs.Net.{NetAuto}
 use Rattle.cif_source.specs.Source.{Text, LocationTree, AutomatonTree, SourceBody, group_body, automaton_body}
-use Rattle.cif_image.specs.Flat.{location_name}
-use Rattle.cif_rows.specs.Rows.{RowTree}
+use Rattle.cif_inst_model.specs.Flat.{location_name}
+use Rattle.cif_inst_paths.specs.Rows.{RowTree}
 use Rattle.cif_inst.specs.Edges.{automaton_edges}
 use Rattle.cif_inst.specs.Alphabets.{alphabet_for, monitors_for}
-use Rattle.cif_translate.specs.declared.looking.Looking.{Looking}
+use Rattle.cif_inst_names.specs.declared.looking.Looking.{Looking}
 
 abbrev pub is_initial : LocationTree → Bool
 is_initial l = l.initial

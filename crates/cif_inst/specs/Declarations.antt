@@ -3,7 +3,7 @@ use Rattle.std.specs.Prelude.{ℕ, ◌+◌, List, [], ◌∷◌, ◌++◌, Optio
 use Rattle.cif_ast.specs.Tree.{Tree}
 use Rattle.cif_ast.specs.declared.names.Ident.{Ident}
 use Rattle.cif_source.specs.Source.{Text, TypeTree, DeclTree, type_decl, enum_decl, event_decl, const_decl, alg_decl, input_decl, disc_decl, equation_decl, invariant_decl, marked_decl, SourceItem, decl_item, component_item, definition_item, instance_item, SourceBody, group_body, automaton_body, Source, no_source, source}
-use Rattle.cif_rows.specs.Rows.{RowTree}
+use Rattle.cif_inst_paths.specs.Rows.{RowTree}
 use Rattle.cif_inst.specs.declared.declarations.Sort.{Sort}
 use Rattle.cif_inst.specs.declared.declarations.Sort.TheVariants as sort
 

@@ -3,8 +3,8 @@ use Rattle.std.specs.Prelude.{ℕ, ◌+◌, List, [], ◌∷◌, ◌++◌, map, 
 use Rattle.cif_ast.specs.Tree.{Tree}
 use Rattle.cif_source.specs.Source.{Text, SourceBody}
 use Rattle.cif_source.specs.Objects.{locs_in}
-use Rattle.cif_rows.specs.Rows.{RowTree}
-use Rattle.cif_weights.specs.Definitions.{DefinitionTree}
+use Rattle.cif_inst_paths.specs.Rows.{RowTree}
+use Rattle.cif_inst_sizes.specs.Definitions.{DefinitionTree}
 use Rattle.cif_inst.specs.Declarations.{DatumTree, body_data}
 use Rattle.cif_inst.specs.Equations.{Values, value_for, or_else, body_added, location_added}
 use Rattle.cif_inst.specs.declared.declarations.Sort.TheVariants as sort

@@ -1,13 +1,13 @@
 -- Helper of the code: the edges of an automaton, by what names are looked up in.
 use Rattle.std.specs.Prelude.{ℕ, ◌+◌, List, [], ◌∷◌, ◌++◌, map, flat_map, length, Option, Some, None, option_map}
 use Rattle.cif_ast.specs.declared.names.Ident.{Ident}
-use Rattle.cif_model.specs.Net.{NetEdge}
+use Rattle.cif_net_model.specs.Net.{NetEdge}
 use Rattle.cif_source.specs.Source.{UseTree, EdgeTree, LocationTree, AutomatonTree}
 use Rattle.cif_source.specs.Step.{role_of}
-use Rattle.cif_image.specs.Flat.{event_number, sent_tree, net_updates_of, value_places}
-use Rattle.cif_image.specs.Translation.{net_of, net_guard}
-use Rattle.cif_translate.specs.Looking.{component_at}
-use Rattle.cif_translate.specs.declared.looking.Looking.{Looking}
+use Rattle.cif_inst_model.specs.Flat.{event_number, sent_tree, net_updates_of, value_places}
+use Rattle.cif_inst_model.specs.Translation.{net_of, net_guard}
+use Rattle.cif_inst_names.specs.Looking.{component_at}
+use Rattle.cif_inst_names.specs.declared.looking.Looking.{Looking}
 use Rattle.cif_inst.specs.Targets.{target_place}
 
 -- an edge for one use of an event

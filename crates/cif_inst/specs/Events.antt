@@ -5,11 +5,11 @@ use Rattle.cif_ast.specs.declared.declarations.Class.{Class}
 use Rattle.cif_system.specs.Words.{Member}
 use Rattle.cif_source.specs.Source.{Text, TypeTree, ChannelTree, value_type, DeclTree, type_decl, enum_decl, event_decl, const_decl, alg_decl, input_decl, disc_decl, equation_decl, invariant_decl, marked_decl, SourceItem, decl_item, component_item, definition_item, instance_item, SourceBody, group_body, automaton_body, Source, no_source, source}
 use Rattle.cif_source.specs.Step.{class_of}
-use Rattle.cif_rules.specs.Constants.{types_of}
-use Rattle.cif_model.specs.Net.{NetEvent}
-use Rattle.cif_image.specs.Types.{net_channel}
-use Rattle.cif_translate.specs.Looking.{component_of}
-use Rattle.cif_rows.specs.Rows.{RowTree}
+use Rattle.cif_source.specs.Constants.{types_of}
+use Rattle.cif_net_model.specs.Net.{NetEvent}
+use Rattle.cif_inst_model.specs.Types.{net_channel}
+use Rattle.cif_inst_names.specs.Looking.{component_of}
+use Rattle.cif_inst_paths.specs.Rows.{RowTree}
 use Rattle.cif_inst.specs.Typing.{typed_component, IsHome}
 use Rattle.cif_inst.specs.declared.typing.Typing.{Typing}
 

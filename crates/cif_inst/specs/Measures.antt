@@ -1,15 +1,15 @@
 -- Helper of the code: what exclusions, state invariants and the edges of automata weigh in the net, by what names are looked up in and
 -- where alg tells what an algebraic variable weighs.
 use Rattle.std.specs.Prelude.{ℕ, ◌+◌, List, [], ◌∷◌, ◌++◌, map, flat_map}
-use Rattle.cif_model.specs.Counts as counts
-use Rattle.cif_measure.specs.declared.measures.Measure.{Measure}
+use Rattle.cif_net_model.specs.Counts as counts
+use Rattle.cif_alg_measure.specs.declared.measures.Measure.{Measure}
 use Rattle.cif_source.specs.Source.{EdgeTree, LocationTree, AutomatonTree, SourceBody, group_body, automaton_body}
-use Rattle.cif_translate.specs.Looking.{component_at}
-use Rattle.cif_translate.specs.declared.looking.Looking.{Looking}
-use Rattle.cif_weights.specs.Weights.{use_weight}
-use Rattle.cif_rows.specs.Rows.{RowTree}
-use Rattle.cif_predicates.specs.declared.weights.Excluded.{Excluded}
-use Rattle.cif_predicates.specs.declared.weights.PredicateWeights.{PredicateWeights}
+use Rattle.cif_inst_names.specs.Looking.{component_at}
+use Rattle.cif_inst_names.specs.declared.looking.Looking.{Looking}
+use Rattle.cif_inst_sizes.specs.Weights.{use_weight}
+use Rattle.cif_inst_paths.specs.Rows.{RowTree}
+use Rattle.cif_inst_predicates.specs.declared.weights.Excluded.{Excluded}
+use Rattle.cif_inst_predicates.specs.declared.weights.PredicateWeights.{PredicateWeights}
 
 -- an edge for each use of an event
 abbrev pub edge_weights : (alg : ℕ → counts.Measure) → Looking → (component : ℕ) → EdgeTree → List Measure

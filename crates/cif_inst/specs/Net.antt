@@ -1,12 +1,12 @@
 -- Helper of the code: what a net of a source says of its rules on instances, and why a source has none.
 use Rattle.std.specs.Prelude.{ℕ}
 use Rattle.cif_source.specs.Source.{Source}
-use Rattle.cif_rules.specs.InstanceRules.{AlphabetLacksDue, RoleMixedDue, TooManyObjectsDue, ConstantRangeDue}
-use Rattle.cif_image.specs.NetRules.{TooLargeDue}
-use Rattle.cif_components.specs.declared.error.ComponentsErr.{ComponentsErr}
-use Rattle.cif_components.specs.declared.error.ComponentsErr.TheVariants as components
-use Rattle.cif_constants.specs.declared.error.ConstErr.{ConstErr}
-use Rattle.cif_constants.specs.declared.error.ConstErr.TheVariants as constant
+use Rattle.cif_source.specs.InstanceRules.{AlphabetLacksDue, RoleMixedDue, TooManyObjectsDue, ConstantRangeDue}
+use Rattle.cif_inst_model.specs.NetRules.{TooLargeDue}
+use Rattle.cif_inst_components.specs.declared.error.ComponentsErr.{ComponentsErr}
+use Rattle.cif_inst_components.specs.declared.error.ComponentsErr.TheVariants as components
+use Rattle.cif_inst_constants.specs.declared.error.ConstErr.{ConstErr}
+use Rattle.cif_inst_constants.specs.declared.error.ConstErr.TheVariants as constant
 use Rattle.cif_inst.specs.declared.error.InstErr.{InstErr}
 use Rattle.cif_inst.specs.declared.error.InstErr.TheVariants.{AlphabetLacks, RoleMixed, TooManyObjects, ConstantRange, TooLarge, Memory}
 

@@ -1,17 +1,17 @@
 -- Helper of the code: automata, exclusions and state invariants of a net with numbers of measures in the place of expressions, and what is
 -- told of sizes by them.
 use Rattle.std.specs.Prelude.{◌≡◌, ℕ, suc, ◌+◌, ◌≤◌, max, nat_lt, true, ◌||◌, List, [], ◌∷◌, length, sum_by, None, if◌then◌else◌}
-use Rattle.cif_term.specs.Tree.{NetExpr, net_expr, n_alg, no_net_updates}
-use Rattle.cif_model.specs.Net.{NetEdge, NetAuto, NetEvent, NetExclusion, NetInvariant}
-use Rattle.cif_model.specs.Counts.{no_form, most_nodes, most_depth}
-use Rattle.cif_measure.specs.Meanings.{stopped_measure, table_measure}
-use Rattle.cif_measure.specs.Sizes.{table_counted}
-use Rattle.cif_measure.specs.declared.measures.Measure.{Measure}
+use Rattle.cif_net_expr.specs.Tree.{NetExpr, net_expr, n_alg, no_net_updates}
+use Rattle.cif_net_model.specs.Net.{NetEdge, NetAuto, NetEvent, NetExclusion, NetInvariant}
+use Rattle.cif_net_model.specs.Counts.{no_form, most_nodes, most_depth}
+use Rattle.cif_alg_measure.specs.Meanings.{stopped_measure, table_measure}
+use Rattle.cif_alg_measure.specs.Sizes.{table_counted}
+use Rattle.cif_alg_measure.specs.declared.measures.Measure.{Measure}
 use Rattle.cif_net.specs.View.{role_of as net_role}
 use Rattle.cif_alg.specs.Sizes.{sizes_added}
 use Rattle.cif_alg.specs.Tallies.{counted}
-use Rattle.cif_predicates.specs.declared.weights.Excluded.{Excluded}
-use Rattle.cif_predicates.specs.declared.weights.PredicateWeights.{PredicateWeights}
+use Rattle.cif_inst_predicates.specs.declared.weights.Excluded.{Excluded}
+use Rattle.cif_inst_predicates.specs.declared.weights.PredicateWeights.{PredicateWeights}
 use Rattle.cif_inst.specs.declared.alphabets.Alphabet.{Alphabet}
 use Rattle.cif_inst.specs.declared.used.Used.{Used}
 use Rattle.cif_inst.specs.declared.error.InstErr.{InstErr}

@@ -3,10 +3,10 @@ use Rattle.std.specs.Prelude.{◌≡◌, ℕ, ◌<◌, Bool, ◌||◌, List, [],
 use Rattle.std.specs.List.{list_any}
 use Rattle.cif_system.specs.Words.{Member}
 use Rattle.cif_system.specs.System.{sending, receiving}
-use Rattle.cif_model.specs.Facts.{has}
-use Rattle.cif_translate.specs.Looking.{source_for}
-use Rattle.cif_translate.specs.declared.looking.Looking.{Looking}
-use Rattle.cif_rows.specs.Rows.{body_number}
+use Rattle.cif_net_model.specs.Facts.{has}
+use Rattle.cif_inst_names.specs.Looking.{source_for}
+use Rattle.cif_inst_names.specs.declared.looking.Looking.{Looking}
+use Rattle.cif_inst_paths.specs.Rows.{body_number}
 use Rattle.cif_inst.specs.Marks.{marked, is_marked}
 use Rattle.cif_inst.specs.Alphabets.{events_as}
 use Rattle.cif_inst.specs.BodyNames.{all_places}

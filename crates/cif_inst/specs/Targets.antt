@@ -5,8 +5,8 @@ use Rattle.cif_scope.specs.declared.scope.What.{What}
 use Rattle.cif_scope.specs.declared.scope.What.TheVariants as what
 use Rattle.cif_scope.specs.declared.scopes.Scopes.{Scopes}
 use Rattle.cif_scope.specs.Looks.{slot_at, what_at}
-use Rattle.cif_translate.specs.declared.looking.Looking.{Looking}
-use Rattle.cif_rows.specs.Rows.{body_number}
+use Rattle.cif_inst_names.specs.declared.looking.Looking.{Looking}
+use Rattle.cif_inst_paths.specs.Rows.{body_number}
 
 abbrev pub place_in : Option What → ℕ → ℕ
 place_in None count = count

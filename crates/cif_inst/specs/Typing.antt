@@ -4,11 +4,11 @@ use Rattle.cif_system.specs.Words.{Member}
 use Rattle.cif_source.specs.Source.{Source}
 use Rattle.cif_source.specs.Components.{Component}
 use Rattle.cif_source.specs.Objects.{components_of}
-use Rattle.cif_rules.specs.Constants.{types_of}
-use Rattle.cif_constants.specs.Typed.{IsTyped}
-use Rattle.cif_translate.specs.Looking.{component_of, source_for, AreNamesOf}
+use Rattle.cif_source.specs.Constants.{types_of}
+use Rattle.cif_inst_constants.specs.Typed.{IsTyped}
+use Rattle.cif_inst_names.specs.Looking.{component_of, source_for, AreNamesOf}
 use Rattle.cif_inst.specs.Declarations.{DatumTree}
-use Rattle.cif_rows.specs.Rows.{body_number}
+use Rattle.cif_inst_paths.specs.Rows.{body_number}
 use Rattle.cif_inst.specs.declared.typing.Typing.{Typing}
 
 -- the source whose types they are

@@ -5,13 +5,13 @@ use Rattle.cif_system.specs.Words.{Member}
 use Rattle.cif_source.specs.Source.{Source}
 use Rattle.cif_source.specs.Components.{Component}
 use Rattle.cif_source.specs.Types.{first_of_type}
-use Rattle.cif_rules.specs.Constants.{typed_constants}
-use Rattle.cif_model.specs.Net.{NetStored}
-use Rattle.cif_image.specs.Types.{net_type}
-use Rattle.cif_values.specs.Types.{typed_value}
-use Rattle.cif_translate.specs.Looking.{component_of}
+use Rattle.cif_source.specs.Constants.{typed_constants}
+use Rattle.cif_net_model.specs.Net.{NetStored}
+use Rattle.cif_inst_model.specs.Types.{net_type}
+use Rattle.cif_inst_types.specs.Types.{typed_value}
+use Rattle.cif_inst_names.specs.Looking.{component_of}
 use Rattle.cif_inst.specs.Declarations.{DatumTree, rows_data}
-use Rattle.cif_rows.specs.Rows.{RowTree}
+use Rattle.cif_inst_paths.specs.Rows.{RowTree}
 use Rattle.cif_inst.specs.declared.declarations.Sort.{Sort}
 use Rattle.cif_inst.specs.Typing.{typed_component, HasType}
 use Rattle.cif_inst.specs.declared.typing.Typing.{Typing}

@@ -2,7 +2,7 @@
 use Rattle.cif_system.specs.System.{Role, syncing, sending, receiving}
 use Rattle.cif_source.specs.Source.{RoleTree, type_tree, channel_tree}
 use Rattle.cif_source.specs.Step.{role_of}
-use Rattle.cif_values.specs.Types.{given_tree}
+use Rattle.cif_inst_types.specs.Types.{given_tree}
 use Rattle.cif_ast.specs.declared.declarations.Class.{Class as SourceClass}
 use Rattle.cif_ast.specs.declared.declarations.Class.TheVariants as source_class
 use Rattle.cif_net.specs.declared.events.Class.{Class}

@@ -3,13 +3,13 @@
 ghost use Rattle.std.specs.Prelude.{◌≡◌, ◌∷◌, ◌++◌, [], map, IfOk, OnOk};
 ghost use Rattle.cif_net.specs.View.{alg_tree, value_of};
 ghost use Rattle.cif_scope.specs.Written.{inside_of};
-ghost use Rattle.cif_term.specs.View as net;
-ghost use Rattle.cif_values.specs.Types.{given_tree};
+ghost use Rattle.cif_net_expr.specs.View as net;
+ghost use Rattle.cif_inst_types.specs.Types.{given_tree};
 ghost use Rattle.cif_inst.specs.Algebraic as algebraic;
 ghost use Rattle.cif_inst.specs.Equations.{values_in, value_for, or_else};
-ghost use Rattle.cif_rows.specs.Rows.{rows_of};
+ghost use Rattle.cif_inst_paths.specs.Rows.{rows_of};
 ghost use Rattle.cif_inst.specs.Typing as of_types;
-ghost use Rattle.cif_rows.specs.Views.{row_tree};
+ghost use Rattle.cif_inst_paths.specs.Views.{row_tree};
 ghost use Rattle.cif_inst.specs.Views.{datum_tree};
 
 use crate::declarations::{Datum, Sort, add_row};
@@ -17,11 +17,11 @@ use crate::equations::{Defined, Equations, equations_of};
 use crate::typing::{Typing, path_of, ty_of};
 use cif_ast::Expr;
 use cif_base::{Boxed, Items, Memory, Text};
+use cif_inst_names::expression;
+use cif_inst_paths::Row;
 use cif_net::{Alg, AlgValue};
-use cif_rows::Row;
+use cif_net_expr::{NetExpr, NetForm};
 use cif_scope::{Inside, number};
-use cif_term::{NetExpr, NetForm};
-use cif_translate::expression;
 use std::alloc::Global;
 
 /// An expression of a component, and 0 where there is none.

@@ -5,22 +5,22 @@ ghost use Rattle.std.specs.Result.{IfErr};
 ghost use Rattle.cif_source.specs.Objects.{components_of, events as events_of};
 ghost use Rattle.cif_source.specs.Components.{body_of};
 ghost use Rattle.cif_source.specs.Source as source;
-ghost use Rattle.cif_translate.specs.Looking.{AreNamesOf, source_for, component_at};
+ghost use Rattle.cif_inst_names.specs.Looking.{AreNamesOf, source_for, component_at};
 ghost use Rattle.cif_inst.specs.Alphabets as alphabets;
 ghost use Rattle.cif_inst.specs.Marks as marked;
-ghost use Rattle.cif_rows.specs.Names.{AreMatchedNames};
-ghost use Rattle.cif_rows.specs.Rows.{rows_of};
-ghost use Rattle.cif_rows.specs.Views.{row_tree};
+ghost use Rattle.cif_inst_paths.specs.Names.{AreMatchedNames};
+ghost use Rattle.cif_inst_paths.specs.Rows.{rows_of};
+ghost use Rattle.cif_inst_paths.specs.Views.{row_tree};
 
 use crate::error::InstErr;
 use crate::marks::{first_unmarked, give_mark};
 use crate::used::{Used, all_used, events_as};
 use cif_ast::{AutoBody, Edge, EventUse, Loc, Name, Role};
 use cif_base::{Items, Memory};
+use cif_inst_names::Looking;
+use cif_inst_paths::Row;
 use cif_net::NetRole;
-use cif_rows::Row;
 use cif_scope::{Inside, number};
-use cif_translate::Looking;
 use std::alloc::Global;
 
 /// The events of the alphabet of a component, those of them that are monitored, and what its edges use, in the order of the text and

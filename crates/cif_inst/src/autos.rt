@@ -4,22 +4,22 @@ ghost use Rattle.std.specs.Prelude.{◌≡◌, ◌<◌, map, length, IfOk};
 ghost use Rattle.std.specs.List.{position_or_len};
 ghost use Rattle.cif_source.specs.Objects.{components_of};
 ghost use Rattle.cif_source.specs.Source as source;
-ghost use Rattle.cif_image.specs.Flat.{location_name};
+ghost use Rattle.cif_inst_model.specs.Flat.{location_name};
 ghost use Rattle.cif_net.specs.View.{auto_tree};
-ghost use Rattle.cif_translate.specs.Looking.{AreNamesOf, source_for};
+ghost use Rattle.cif_inst_names.specs.Looking.{AreNamesOf, source_for};
 ghost use Rattle.cif_inst.specs.Autos as autos;
 ghost use Rattle.cif_inst.specs.Alphabets.{automaton_alphabet, rows_alphabets};
-ghost use Rattle.cif_rows.specs.Rows.{rows_of};
-ghost use Rattle.cif_rows.specs.Views.{row_tree};
+ghost use Rattle.cif_inst_paths.specs.Rows.{rows_of};
+ghost use Rattle.cif_inst_paths.specs.Views.{row_tree};
 
 use crate::alphabets::Alphabet;
 use crate::edges::all_edges;
 use cif_ast::{AutoBody, Loc};
 use cif_base::{Items, Memory, Text};
+use cif_inst_names::Looking;
+use cif_inst_paths::Row;
 use cif_net::Auto;
-use cif_rows::Row;
 use cif_scope::{Inside, number};
-use cif_translate::Looking;
 use std::alloc::Global;
 
 /// The name of a location, empty for one without a name.

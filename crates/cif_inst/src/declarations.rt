@@ -7,12 +7,12 @@ ghost use Rattle.cif_ast.specs.View.{view_item, view_items};
 ghost use Rattle.cif_source.specs.Source.{decl_tree, source_item, source_items};
 ghost use Rattle.cif_scope.specs.Written.{inside_of};
 ghost use Rattle.cif_inst.specs.Declarations as declared;
-ghost use Rattle.cif_rows.specs.Views.{row_tree};
+ghost use Rattle.cif_inst_paths.specs.Views.{row_tree};
 ghost use Rattle.cif_inst.specs.Views.{datum_tree};
 
 use cif_ast::{Decl, Expr, Ident, Item, TypeUse};
 use cif_base::{Memory, Text};
-use cif_rows::Row;
+use cif_inst_paths::Row;
 use cif_scope::{Inside, number};
 use std::alloc::Global;
 

@@ -3,24 +3,24 @@
 
 ghost use Rattle.std.specs.Prelude.{◌≡◌, ◌++◌, map, IfOk, OnOk};
 ghost use Rattle.cif_scope.specs.Written.{inside_of};
-ghost use Rattle.cif_translate.specs.Looking.{AreNamesOf};
-ghost use Rattle.cif_weights.specs.Definitions.{definition_tree, value_tree};
-ghost use Rattle.cif_weights.specs.Weights.{AreWeights};
+ghost use Rattle.cif_inst_names.specs.Looking.{AreNamesOf};
+ghost use Rattle.cif_inst_sizes.specs.Definitions.{definition_tree, value_tree};
+ghost use Rattle.cif_inst_sizes.specs.Weights.{AreWeights};
 ghost use Rattle.cif_inst.specs.Definitions as definitions;
 ghost use Rattle.cif_inst.specs.Equations.{value_for, values_in};
 ghost use Rattle.cif_inst.specs.Views.{datum_tree};
-ghost use Rattle.cif_rows.specs.Views.{row_tree};
+ghost use Rattle.cif_inst_paths.specs.Views.{row_tree};
 
 use crate::algebraic::own_value;
 use crate::declarations::{Datum, Sort, add_row};
 use crate::equations::{Defined, Equations, equations_of};
+use cif_alg_measure::Measure;
 use cif_ast::Expr;
 use cif_base::{Items, Memory, Text};
-use cif_measure::Measure;
-use cif_rows::Row;
+use cif_inst_names::Looking;
+use cif_inst_paths::Row;
+use cif_inst_sizes::{Definition, Weights, value_measure};
 use cif_scope::number;
-use cif_translate::Looking;
-use cif_weights::{Definition, Weights, value_measure};
 use std::alloc::Global;
 
 /// The values of a name in locations.

@@ -4,19 +4,19 @@ ghost use Rattle.std.specs.Prelude.{◌≡◌, ◌<◌, ◌∷◌, ◌++◌, [],
 ghost use Rattle.cif_source.specs.Objects.{components_of};
 ghost use Rattle.cif_source.specs.Source as source;
 ghost use Rattle.cif_net.specs.View.{edge_tree};
-ghost use Rattle.cif_term.specs.View.{view};
-ghost use Rattle.cif_image.specs.Flat.{sent_tree};
-ghost use Rattle.cif_image.specs.Translation.{net_of};
-ghost use Rattle.cif_translate.specs.Looking.{AreNamesOf, source_for, component_at};
+ghost use Rattle.cif_net_expr.specs.View.{view};
+ghost use Rattle.cif_inst_model.specs.Flat.{sent_tree};
+ghost use Rattle.cif_inst_model.specs.Translation.{net_of};
+ghost use Rattle.cif_inst_names.specs.Looking.{AreNamesOf, source_for, component_at};
 ghost use Rattle.cif_inst.specs.Edges as edges;
 
 use crate::targets::place;
 use crate::used::net_role;
 use cif_ast::{Edge, EventUse, Loc, Role};
 use cif_base::{Items, Memory};
+use cif_inst_names::{Looking, guard, sent, updates, value_places};
 use cif_net::{NetEdge, NetExpr};
 use cif_scope::number;
-use cif_translate::{Looking, guard, sent, updates, value_places};
 use std::alloc::Global;
 
 /// The value that an edge sends in that role, if it sends one.

@@ -6,7 +6,7 @@ ghost use Rattle.cif_ast.specs.View.{view, view_item, view_items};
 ghost use Rattle.cif_source.specs.Source.{decl_tree, equation_tree, location_tree, source_item, source_items};
 ghost use Rattle.cif_source.specs.Objects.{decls_in, locs_in};
 ghost use Rattle.cif_scope.specs.Written.{inside_of};
-ghost use Rattle.cif_values.specs.Types.{given_tree};
+ghost use Rattle.cif_inst_types.specs.Types.{given_tree};
 ghost use Rattle.cif_inst.specs.Equations as kept;
 
 use cif_ast::{Decl, Expr, Item, Loc, LocEquation};

@@ -5,8 +5,8 @@ ghost use Rattle.cif_inst.specs.Net.{of_components, of_constants};
 ghost use Rattle.cif_inst.specs.declared.error.InstErr.TheVariants.{Memory as no_memory};
 
 use cif_base::Memory;
-use cif_components::ComponentsErr;
-use cif_constants::ConstErr;
+use cif_inst_components::ComponentsErr;
+use cif_inst_constants::ConstErr;
 
 /// Why a source has no net, with the byte where that is, counted from 0, or that memory ran out.
 #[derive(Clone, Copy, Debug, PartialEq, Eq)]

@@ -4,21 +4,21 @@ ghost use Rattle.std.specs.Prelude.{◌≡◌, ◌++◌, map, IfOk, OnOk};
 ghost use Rattle.cif_ast.specs.View.{view_item, view_items};
 ghost use Rattle.cif_source.specs.Source.{decl_tree, source_item, source_items};
 ghost use Rattle.cif_scope.specs.Written.{inside_of};
-ghost use Rattle.cif_image.specs.Types.{net_channel};
+ghost use Rattle.cif_inst_model.specs.Types.{net_channel};
 ghost use Rattle.cif_net.specs.View.{chan_of, event_tree};
 ghost use Rattle.cif_inst.specs.Events as events;
-ghost use Rattle.cif_rows.specs.Rows.{rows_of};
+ghost use Rattle.cif_inst_paths.specs.Rows.{rows_of};
 ghost use Rattle.cif_inst.specs.Typing as of_types;
-ghost use Rattle.cif_rows.specs.Views.{row_tree};
+ghost use Rattle.cif_inst_paths.specs.Views.{row_tree};
 ghost use Rattle.cif_inst.specs.Views.{event_datum, class_for};
 
 use crate::typing::Typing;
 use cif_ast::{Chan, Decl, Ident, Item};
 use cif_base::{Items, Memory, Text};
+use cif_inst_paths::{Row, body_number};
+use cif_inst_types::type_of;
 use cif_net::{Class, Event, NetChan};
-use cif_rows::{Row, body_number};
 use cif_scope::{Inside, number};
-use cif_values::type_of;
 use std::alloc::Global;
 
 /// An event that a component declares: what its path begins with, its class, its channel and its name.

@@ -5,19 +5,19 @@ ghost use Rattle.std.specs.Result.{IfErr};
 ghost use Rattle.cif_ast.specs.Countable.{IsCountable};
 ghost use Rattle.cif_ast.specs.SmallNumbers.{HasSmallNumbers};
 ghost use Rattle.cif_source.specs.Source.{source_of};
-ghost use Rattle.cif_rules.specs.InstanceRules.{ConstantRangeDue, TooManyObjectsDue};
+ghost use Rattle.cif_source.specs.InstanceRules.{ConstantRangeDue, TooManyObjectsDue};
 ghost use Rattle.cif_scope.specs.Scopes.{AreScopesOf};
-ghost use Rattle.cif_constants.specs.Constants.{HasValues};
+ghost use Rattle.cif_inst_constants.specs.Constants.{HasValues};
 ghost use Rattle.cif_types.specs.Kinds.{KeepsKinds, AreKindsOf};
 ghost use Rattle.cif_net.specs.View.{net_tree, event_tree};
-ghost use Rattle.cif_image.specs.Represents.{Represents};
-ghost use Rattle.cif_translate.specs.Looking.{AreNamesOf, source_for};
+ghost use Rattle.cif_inst_model.specs.Represents.{Represents};
+ghost use Rattle.cif_inst_names.specs.Looking.{AreNamesOf, source_for};
 ghost use Rattle.cif_inst.specs.Alphabets.{rows_alphabets};
 ghost use Rattle.cif_inst.specs.Events as events_by;
 ghost use Rattle.cif_inst.specs.Net.{due, KeepsInstances};
-ghost use Rattle.cif_rows.specs.Rows.{rows_of};
+ghost use Rattle.cif_inst_paths.specs.Rows.{rows_of};
 ghost use Rattle.cif_inst.specs.Typing.{AreTypesOf, typed_source};
-ghost use Rattle.cif_rows.specs.Views.{row_tree};
+ghost use Rattle.cif_inst_paths.specs.Views.{row_tree};
 
 use crate::alphabets::{Alphabet, all_alphabets};
 use crate::autos::all_autos;
@@ -32,20 +32,22 @@ use crate::typing::Typing;
 use cif_alg::outlines_have_the_nodes_of_their_net;
 use cif_ast::Spec;
 use cif_base::Items;
-use cif_components::number_components;
-use cif_constants::{Constants, Types, check_constants, declarations, turns};
+use cif_inst_components::number_components;
+use cif_inst_constants::{Constants, Types, check_constants, declarations, turns};
+use cif_inst_laws::{
+    counted_trees_have_small_parts, nets_of_sources_are_nets, nets_represent_their_sources,
+    trees_have_small_arguments,
+};
+use cif_inst_names::Looking;
+use cif_inst_numbers::number_objects;
+use cif_inst_parameters::parameters;
+use cif_inst_paths::{Row, all_rows};
+use cif_inst_predicates::{predicate_weights, predicates_of};
+use cif_inst_sizes::{exact_weights_give_a_rank, weights_of};
+use cif_inst_types::values_of;
 use cif_net::{Event, Net};
-use cif_nets::{nets_of_sources_are_nets, nets_represent_their_sources};
-use cif_numbers::number_objects;
-use cif_parameters::parameters;
-use cif_predicates::{predicate_weights, predicates_of};
-use cif_rows::{Row, all_rows};
 use cif_scope::Scopes;
-use cif_small::{counted_trees_have_small_parts, trees_have_small_arguments};
-use cif_translate::Looking;
 use cif_types::Kinds;
-use cif_values::values_of;
-use cif_weights::{exact_weights_give_a_rank, weights_of};
 use std::alloc::Global;
 
 /// Whether the expressions of a source are small enough to be made, or how large its net is, by the alphabets of its automata. Where an

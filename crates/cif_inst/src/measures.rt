@@ -3,19 +3,19 @@
 ghost use Rattle.std.specs.Prelude.{◌≡◌, ◌++◌, map, flat_map, IfOk, OnOk};
 ghost use Rattle.cif_source.specs.Source as source;
 ghost use Rattle.cif_scope.specs.Written.{inside_of};
-ghost use Rattle.cif_translate.specs.Looking.{AreNamesOf};
-ghost use Rattle.cif_weights.specs.Weights.{AreWeights, alg_by};
+ghost use Rattle.cif_inst_names.specs.Looking.{AreNamesOf};
+ghost use Rattle.cif_inst_sizes.specs.Weights.{AreWeights, alg_by};
 ghost use Rattle.cif_inst.specs.Measures as measures;
-ghost use Rattle.cif_rows.specs.Views.{row_tree};
+ghost use Rattle.cif_inst_paths.specs.Views.{row_tree};
 
+use cif_alg_measure::Measure;
 use cif_ast::{Edge, Loc};
 use cif_base::{Items, Memory};
-use cif_measure::Measure;
-use cif_predicates::{Excluded, PredicateWeights};
-use cif_rows::Row;
+use cif_inst_names::Looking;
+use cif_inst_paths::Row;
+use cif_inst_predicates::{Excluded, PredicateWeights};
+use cif_inst_sizes::{Weights, edge_measure, use_measure};
 use cif_scope::{Inside, number};
-use cif_translate::Looking;
-use cif_weights::{Weights, edge_measure, use_measure};
 use std::alloc::Global;
 
 /// Adds the measures of an edge, one for each use of an event.

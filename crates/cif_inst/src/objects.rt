@@ -3,18 +3,18 @@
 ghost use Rattle.std.specs.Prelude.{◌≡◌, map, IfOk};
 ghost use Rattle.cif_net.specs.View.{alg_tree, input_tree, var_tree};
 ghost use Rattle.cif_inst.specs.Algebraic.{rows_algs};
-ghost use Rattle.cif_rows.specs.Rows.{rows_of};
+ghost use Rattle.cif_inst_paths.specs.Rows.{rows_of};
 ghost use Rattle.cif_inst.specs.Typing.{AreTypesOf, typed_source};
 ghost use Rattle.cif_inst.specs.Variables as variables;
-ghost use Rattle.cif_rows.specs.Views.{row_tree};
+ghost use Rattle.cif_inst_paths.specs.Views.{row_tree};
 ghost use Rattle.cif_inst.specs.declared.declarations.Sort.TheVariants.{Input as input_sort, Discrete as variable_sort};
 
 use crate::algebraic::all_algs;
 use crate::typing::Typing;
 use crate::variables::all_stored;
 use cif_base::{Items, Memory};
+use cif_inst_paths::Row;
 use cif_net::{Alg, Input, Var};
-use cif_rows::Row;
 use std::alloc::Global;
 
 /// What of a net has types.

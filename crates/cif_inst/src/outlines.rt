@@ -4,17 +4,17 @@
 
 ghost use Rattle.std.specs.Prelude.{◌≡◌, ◌+◌, map, length, IfOk};
 ghost use Rattle.cif_net.specs.View.{edge_tree, auto_tree, exclusion_tree, invariant_tree};
-ghost use Rattle.cif_term.specs.View.{view};
+ghost use Rattle.cif_net_expr.specs.View.{view};
 ghost use Rattle.cif_inst.specs.Outlines as outlines;
 
 use crate::alphabets::Alphabet;
 use crate::used::Used;
+use cif_alg_measure::Measure;
 use cif_base::{Items, Memory, Text};
-use cif_measure::Measure;
+use cif_inst_predicates::Excluded;
 use cif_net::{Auto, Exclusion, Invariant, NetEdge};
-use cif_predicates::Excluded;
+use cif_net_expr::{NetExpr, NetForm};
 use cif_scope::number;
-use cif_term::{NetExpr, NetForm};
 use std::alloc::Global;
 
 /// An expression that counts as the measure with that number.

@@ -10,10 +10,10 @@ use crate::error::InstErr;
 use crate::marks::{give_mark, has_mark};
 use crate::used::events_as;
 use cif_base::{Items, Memory};
+use cif_inst_names::Looking;
+use cif_inst_paths::body_number;
 use cif_net::NetRole;
-use cif_rows::body_number;
 use cif_scope::number;
-use cif_translate::Looking;
 use std::alloc::Global;
 
 /// Whether an event has two roles in an automaton with this alphabet, whose mark no event has yet.

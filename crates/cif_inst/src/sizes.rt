@@ -10,11 +10,11 @@ use crate::alphabets::Alphabet;
 use crate::error::InstErr;
 use crate::outlines::{all_outlines, outline_exclusions, outline_invariants};
 use cif_alg::{MOST_FORMS, choice_nodes, with_sizes};
+use cif_alg_measure::{MOST_DEPTH, MOST_NODES, Measure};
 use cif_base::Memory;
-use cif_measure::{MOST_DEPTH, MOST_NODES, Measure};
+use cif_inst_parameters::Given;
+use cif_inst_predicates::PredicateWeights;
 use cif_net::Event;
-use cif_parameters::Given;
-use cif_predicates::PredicateWeights;
 use cif_scope::number;
 use std::alloc::Global;
 

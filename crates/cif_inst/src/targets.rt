@@ -4,9 +4,9 @@ ghost use Rattle.std.specs.Prelude.{◌≡◌};
 ghost use Rattle.cif_inst.specs.Targets.{target_place};
 
 use cif_ast::Ident;
-use cif_rows::body_number;
+use cif_inst_names::Looking;
+use cif_inst_paths::body_number;
 use cif_scope::What;
-use cif_translate::Looking;
 
 /// The place of the location of a component with this name, and `count` where there is none.
 pub fn place(looking: &Looking<'_, '_>, component: u32, name: &Ident, count: u32) -> u32

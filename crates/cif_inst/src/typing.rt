@@ -1,17 +1,17 @@
 //! The paths and the types of what components declare.
 
 ghost use Rattle.std.specs.Prelude.{◌≡◌, ◌++◌, IfOk};
-ghost use Rattle.cif_image.specs.Types.{net_type};
+ghost use Rattle.cif_inst_model.specs.Types.{net_type};
 ghost use Rattle.cif_inst.specs.Typing as of_types;
 ghost use Rattle.cif_inst.specs.Views.{datum_tree};
-ghost use Rattle.cif_values.specs.Types.{net_type_of};
+ghost use Rattle.cif_inst_types.specs.Types.{net_type_of};
 
 use crate::declarations::Datum;
 use cif_base::{Memory, Text};
-use cif_constants::Types;
-use cif_rows::body_number;
-use cif_translate::Looking;
-use cif_values::{NetTy, type_of};
+use cif_inst_constants::Types;
+use cif_inst_names::Looking;
+use cif_inst_paths::body_number;
+use cif_inst_types::{NetTy, type_of};
 use std::alloc::Global;
 
 /// What the names and types of a source are found in. `turns` is one more than the components of the source have declarations.

@@ -6,14 +6,14 @@ ghost use Rattle.cif_system.specs.Step as step;
 ghost use Rattle.cif_source.specs.Objects.{components_of};
 ghost use Rattle.cif_source.specs.Source as source;
 ghost use Rattle.cif_net.specs.View as net;
-ghost use Rattle.cif_translate.specs.Looking.{AreNamesOf, source_for};
+ghost use Rattle.cif_inst_names.specs.Looking.{AreNamesOf, source_for};
 ghost use Rattle.cif_inst.specs.Alphabets as alphabets;
 ghost use Rattle.cif_inst.specs.Views.{role_for};
 
 use cif_ast::{Edge, EventUse, Loc, Role};
 use cif_base::{Items, Memory};
+use cif_inst_names::Looking;
 use cif_net::NetRole;
-use cif_translate::Looking;
 use std::alloc::Global;
 
 /// A use of an event: the number of the event, and the role in which the edge takes part.

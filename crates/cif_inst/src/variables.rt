@@ -3,19 +3,19 @@
 
 ghost use Rattle.std.specs.Prelude.{◌≡◌, map, IfOk};
 ghost use Rattle.cif_net.specs.View.{input_tree, var_tree};
-ghost use Rattle.cif_rows.specs.Rows.{rows_of};
+ghost use Rattle.cif_inst_paths.specs.Rows.{rows_of};
 ghost use Rattle.cif_inst.specs.Typing as of_types;
 ghost use Rattle.cif_inst.specs.Variables as variables;
-ghost use Rattle.cif_rows.specs.Views.{row_tree};
+ghost use Rattle.cif_inst_paths.specs.Views.{row_tree};
 ghost use Rattle.cif_inst.specs.Views.{datum_tree};
 ghost use Rattle.cif_inst.specs.declared.declarations.Sort.TheVariants.{Input as input_sort, Discrete as variable_sort};
 
 use crate::declarations::{Datum, Sort, data_of};
 use crate::typing::{Typing, body_of, path_of, ty_of};
 use cif_base::{Items, Memory};
+use cif_inst_paths::Row;
+use cif_inst_types::first_value;
 use cif_net::{Input, Var};
-use cif_rows::Row;
-use cif_values::first_value;
 use std::alloc::Global;
 
 /// The inputs and the discrete variables of a source.

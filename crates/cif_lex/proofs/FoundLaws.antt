@@ -5,8 +5,8 @@ use Rattle.grammar.specs.Pieces.{Text, Cut, IsLongest}
 use Rattle.grammar.proofs.Texts.{and_left, and_right, from_test}
 use Rattle.grammar.proofs.Cutting.{text_made}
 use Rattle.grammar.proofs.Closing.{unclosed}
-use Rattle.cutting.specs.Classes.{letter}
-use Rattle.cutting.proofs.Fronts.{so_where_ok, not_where_err}
+use Rattle.grammar.specs.Classes.{letter}
+use Rattle.grammar.proofs.Fronts.{so_where_ok, not_where_err}
 use Rattle.cif_lex.specs.declared.token.TokenKind.{TokenKind}
 use Rattle.cif_lex.specs.declared.found.Fault.{Fault}
 use Rattle.cif_lex.specs.declared.found.Fault.TheVariants as f

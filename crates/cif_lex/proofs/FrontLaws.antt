@@ -6,8 +6,8 @@ use Rattle.grammar.proofs.Texts.{from_test}
 use Rattle.grammar.proofs.Closing.{rest_of, close_is}
 use Rattle.cif_lex.specs.declared.found.Fault.TheVariants as f
 use Rattle.grammar.specs.Bytes.{is_blank, begins_word, is_digit}
-use Rattle.cutting.specs.Classes.{letter, digit, wordy}
-use Rattle.cutting.proofs.Fronts.{none_run}
+use Rattle.grammar.specs.Classes.{letter, digit, wordy}
+use Rattle.grammar.proofs.Fronts.{none_run}
 use Rattle.cif_lex.specs.Tokens.{Piece, comment, sign, signs, is_zero, is_leading, kind_of, number_of}
 use Rattle.cif_lex.specs.Cutting.{Found, reserved_word, escaped_found, is_small, closed_found, slash_found, found_of}
 use Rattle.cif_lex.proofs.SignLaws.{judge, by_byte, sign_judged, sign_front}

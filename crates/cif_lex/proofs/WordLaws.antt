@@ -2,7 +2,7 @@
 use Rattle.std.proofs.Common.{◌≡◌, ◌≢◌, ◌==◌, ℕ, Bool, true, if◌then◌else◌, List, [], ◌∷◌, length, Option, Some, None, refl, sym, ap, ◌∙◌, eq-eqb}
 use Rattle.grammar.specs.Pieces.{Text, same}
 use Rattle.grammar.proofs.Texts.{same_equal}
-use Rattle.cutting.proofs.Tables.{look, having, found_having, is_other, other_length}
+use Rattle.grammar.proofs.Tables.{look, having, found_having, is_other, other_length}
 use Rattle.cif_lex.specs.declared.token.Word.{Word}
 use Rattle.cif_lex.specs.Tokens.{find_text, reserved}
 use Rattle.cif_lex.specs.Cutting.{reserved_word}

@@ -3,7 +3,7 @@ use Rattle.std.specs.Prelude.{◌≡◌, ℕ, Bool, ◌&&◌, ◌==◌, nat_le, 
 use Rattle.std.specs.Option.{option_or}
 use Rattle.std.specs.Borrow.{Bor}
 use Rattle.grammar.specs.Pieces.{Text, run_of, rest_after}
-use Rattle.cutting.specs.Classes.{letter, digit, wordy}
+use Rattle.grammar.specs.Classes.{letter, digit, wordy}
 use Rattle.cif_lex.specs.declared.token.TokenKind.{TokenKind}
 use Rattle.cif_lex.specs.declared.token.TokenKind.TheVariants.{Id, Number, Sign}
 use Rattle.cif_lex.specs.declared.token.Word.{Word}

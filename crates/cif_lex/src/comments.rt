@@ -4,7 +4,7 @@ ghost use Rattle.cif_lex.specs.Cutting.{Finds, slash_found};
 
 use crate::found::{Fault, Found};
 use crate::lines::split_line;
-use cutting::after_pair;
+use grammar::after_pair;
 
 /// The comment that begins with a `/`, by the text after that.
 #[tactic(auto, unfolding(crate::specs::Cutting::slash_found))]

@@ -1,7 +1,7 @@
 //! The piece at the front of a text.
 
 ghost use Rattle.grammar.specs.Pieces.{run_of};
-ghost use Rattle.cutting.specs.Classes.{digit, wordy};
+ghost use Rattle.grammar.specs.Classes.{digit, wordy};
 ghost use Rattle.cif_lex.specs.Cutting as found;
 ghost use Rattle.cif_lex.specs.Cutting.{Finds};
 
@@ -11,7 +11,7 @@ use crate::numbers::is_small;
 use crate::signs::sign_at;
 use crate::token::TokenKind;
 use crate::words::reserved_word;
-use cutting::{begins_word, is_blank, split_number, split_word};
+use grammar::{begins_word, is_blank, split_number, split_word};
 
 /// The word at the front.
 fn word_at(text: &[u8]) -> Found<'_>

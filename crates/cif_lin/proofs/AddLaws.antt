@@ -3,7 +3,7 @@ use Rattle.std.proofs.Common.{◌≡◌, ℕ, ◌+◌, ◌<◌, ◌≤◌, min, 
 use Rattle.std.specs.List.{range_with_len}
 use Rattle.std.proofs.lemmas.List.FromFn.{length-map-range_with_len}
 use Rattle.cif_system.proofs.Lists.{map-length}
-use Rattle.cif_model.specs.Net.{NetAuto}
+use Rattle.cif_net_model.specs.Net.{NetAuto}
 use Rattle.cif_net.specs.declared.listing.Choice.{Choice}
 use Rattle.cif_net.specs.View.{choice_tree}
 use Rattle.cif_lin.specs.Pieces.{Cell}

@@ -5,10 +5,10 @@ use Rattle.cif_system.specs.System.{Role, syncing}
 use Rattle.cif_system.specs.Step.{is_for}
 use Rattle.cif_system.specs.Choices.{product_of, product_by, number_if, stay, options}
 use Rattle.cif_system.proofs.Lists.{map-length}
-use Rattle.cif_term.specs.Tree.{NetExpr}
-use Rattle.cif_model.specs.Net.{NetEdge, NetAuto, Net}
-use Rattle.cif_model.specs.Meaning.{edge_meant, automaton_in}
-use Rattle.cif_model.specs.Listing.{syncs_on, monitors_event, is_edge_for, all_hold, fails, opens, linear_choice}
+use Rattle.cif_net_expr.specs.Tree.{NetExpr}
+use Rattle.cif_net_model.specs.Net.{NetEdge, NetAuto, Net}
+use Rattle.cif_net_model.specs.Meaning.{edge_meant, automaton_in}
+use Rattle.cif_net_model.specs.Listing.{syncs_on, monitors_event, is_edge_for, all_hold, fails, opens, linear_choice}
 use Rattle.cif_lin.specs.Numbers.{nth}
 use Rattle.cif_lin.specs.Pieces.{Piece, no_piece, joined, choice_of, Cell, edge_of, taking, closed, piece_of}
 use Rattle.cif_lin.specs.Cells.{numbers_for, sync_options, count, choice_at, all_at}

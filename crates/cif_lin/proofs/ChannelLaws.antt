@@ -7,10 +7,10 @@ use Rattle.cif_system.specs.Step.{Choice, Numbered, numbered, has_edge, is_chann
 use Rattle.cif_system.specs.Choices.{product_of, options_between, having, plain_choices, channel_choices, choices, choice_count, event_numbers, all_choices}
 use Rattle.cif_system.proofs.Lists.{map-length}
 use Rattle.cif_system.proofs.CountLaws.{flat_map-length, choices-length}
-use Rattle.cif_model.specs.Net.{NetAuto, NetEvent, NetChan, no_net_chan, void_net_chan, net_chan_of, Net}
-use Rattle.cif_model.specs.Meaning.{automaton_in, event_in, channel_in, system_of_net}
-use Rattle.cif_model.specs.Facts.{channel_of}
-use Rattle.cif_model.specs.Listing.{syncs_on, uses_event, numbers_of, event_roles, roles_of, linear_choice, listed, linear_of}
+use Rattle.cif_net_model.specs.Net.{NetAuto, NetEvent, NetChan, no_net_chan, void_net_chan, net_chan_of, Net}
+use Rattle.cif_net_model.specs.Meaning.{automaton_in, event_in, channel_in, system_of_net}
+use Rattle.cif_net_model.specs.Facts.{channel_of}
+use Rattle.cif_net_model.specs.Listing.{syncs_on, uses_event, numbers_of, event_roles, roles_of, linear_choice, listed, linear_of}
 use Rattle.cif_lin.specs.Cells.{cell_between, with_number, all_at, between, sent_to, sent_all, is_plain, event_choices, choices_from}
 use Rattle.cif_lin.proofs.PieceLaws.{map-map, map-spread, spread-map, spread-same}
 use Rattle.cif_lin.proofs.EventLaws.{passing, choices_of, has-same, synced-choices, all-between}

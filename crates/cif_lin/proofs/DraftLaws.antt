@@ -3,14 +3,14 @@ use Rattle.std.proofs.Common.{◌≡◌, ℕ, zero, suc, ◌+◌, ◌*◌, ◌/�
 use Rattle.std.proofs.lemmas.Bool.Decides.{nat_tests}
 use Rattle.std.proofs.lemmas.Nat.{div-mul-add}
 use Rattle.cif_system.specs.Choices.{product_by}
-use Rattle.cif_term.specs.Tree as t
-use Rattle.cif_term.specs.View.{view, view_update, view_updates, exprs_of as seen_exprs}
-use Rattle.cif_term.specs.declared.updates.NetUpdate.{NetUpdate}
-use Rattle.cif_term.specs.declared.expressions.NetExpr.{NetExpr, roll-NetExpr}
-use Rattle.cif_term.specs.declared.expressions.NetForm.TheVariants as form
-use Rattle.cif_term.proofs.ViewLemmas.{view-expr, view_form-Not, view_form-And, view_form-Loc}
-use Rattle.cif_model.specs.Net.{NetEdge, NetAuto}
-use Rattle.cif_model.specs.Listing.{NetMove, exprs_of, all_hold, fails, both, sent_by, writes_of}
+use Rattle.cif_net_expr.specs.Tree as t
+use Rattle.cif_net_expr.specs.View.{view, view_update, view_updates, exprs_of as seen_exprs}
+use Rattle.cif_net_expr.specs.declared.updates.NetUpdate.{NetUpdate}
+use Rattle.cif_net_expr.specs.declared.expressions.NetExpr.{NetExpr, roll-NetExpr}
+use Rattle.cif_net_expr.specs.declared.expressions.NetForm.TheVariants as form
+use Rattle.cif_net_expr.proofs.ViewLemmas.{view-expr, view_form-Not, view_form-And, view_form-Loc}
+use Rattle.cif_net_model.specs.Net.{NetEdge, NetAuto}
+use Rattle.cif_net_model.specs.Listing.{NetMove, exprs_of, all_hold, fails, both, sent_by, writes_of}
 use Rattle.cif_lin.specs.Numbers.{put, nth}
 use Rattle.cif_net.specs.declared.automata.NetEdge as n
 use Rattle.cif_net.specs.declared.listing.Move.{Move}

@@ -4,9 +4,9 @@ use Rattle.std.specs.List.{list_any, enumerate_from, AllByRecursion}
 use Rattle.cif_system.specs.System.{Role, syncing, sending, receiving}
 use Rattle.cif_system.specs.Step.{Choice, numbered, is_for, has_edge, is_party}
 use Rattle.cif_system.specs.Choices.{product_of, edges_for, options, options_between, plain_choices}
-use Rattle.cif_model.specs.Net.{NetEdge, NetAuto, Net}
-use Rattle.cif_model.specs.Meaning.{edge_meant, automaton_in, system_of_net}
-use Rattle.cif_model.specs.Listing.{NetChoice, syncs_on, uses_event, is_edge_for, numbers_of, event_roles, all_hold, fails, opens, linear_choice}
+use Rattle.cif_net_model.specs.Net.{NetEdge, NetAuto, Net}
+use Rattle.cif_net_model.specs.Meaning.{edge_meant, automaton_in, system_of_net}
+use Rattle.cif_net_model.specs.Listing.{NetChoice, syncs_on, uses_event, is_edge_for, numbers_of, event_roles, all_hold, fails, opens, linear_choice}
 use Rattle.cif_lin.specs.Pieces.{Piece, no_piece, Cell, piece_of}
 use Rattle.cif_lin.specs.Cells.{numbers_for, edges_at, sync_options, sync_at, sync_cell, cell_between, all_at, is_empty, synced}
 use Rattle.cif_lin.proofs.PieceLaws.{map-map, list_if, piece}

@@ -2,11 +2,11 @@
 use Rattle.std.proofs.Common.{◌≡◌, ℕ, suc, ◌+◌, ◌*◌, ◌<◌, ◌≤◌, min, Bool, true, false, nat_lt, List, [], ◌∷◌, ◌++◌, length, map, flat_map, Option, Some, None, option_and_then, refl, sym, ◌∙◌, ap, append_assoc, length-append, if◌then◌else◌, arith}
 use Rattle.std.proofs.lemmas.Bool.Decides.{nat_tests}
 use Rattle.std.proofs.Math.Nat.{mul_assoc}
-use Rattle.cif_model.specs.Listing.{NetChoice}
-use Rattle.cif_model.specs.Counts.{most_choices}
-use Rattle.cif_model.proofs.CountLaws.{stop-mul}
+use Rattle.cif_net_model.specs.Listing.{NetChoice}
+use Rattle.cif_net_model.specs.Counts.{most_choices}
+use Rattle.cif_net_model.proofs.CountLaws.{stop-mul}
 use Rattle.cif_lin.specs.declared.party.Party.{Party}
-use Rattle.cif_model.specs.Net.{Net}
+use Rattle.cif_net_model.specs.Net.{Net}
 use Rattle.cif_net.specs.declared.listing.EventRoles.{EventRoles}
 use Rattle.cif_net.specs.View.{event_roles_tree}
 use Rattle.cif_lin.specs.Cells.{count, event_choices, choices_from}

@@ -4,11 +4,11 @@ use Rattle.std.proofs.lemmas.Bool.Decides.{nat_tests}
 use Rattle.std.proofs.lemmas.List.FromFn.{length-map-range_with_len}
 use Rattle.cif_system.specs.Choices.{all_choices}
 use Rattle.cif_system.proofs.Lists.{map-length}
-use Rattle.cif_model.specs.Net as n
-use Rattle.cif_model.specs.Facts.{things}
-use Rattle.cif_model.specs.Meaning.{system_of_net}
-use Rattle.cif_model.specs.Counts.{most_choices}
-use Rattle.cif_model.specs.Listing.{NetRoles, NetChoice, event_roles, roles_of, linear_of}
+use Rattle.cif_net_model.specs.Net as n
+use Rattle.cif_net_model.specs.Facts.{things}
+use Rattle.cif_net_model.specs.Meaning.{system_of_net}
+use Rattle.cif_net_model.specs.Counts.{most_choices}
+use Rattle.cif_net_model.specs.Listing.{NetRoles, NetChoice, event_roles, roles_of, linear_of}
 use Rattle.cif_net.specs.declared.net.Net.{Net}
 use Rattle.cif_net.specs.declared.listing.EventRoles.{EventRoles}
 use Rattle.cif_net.specs.View.{net_tree, event_tree, event_roles_tree}

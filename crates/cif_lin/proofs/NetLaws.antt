@@ -3,9 +3,9 @@ use Rattle.std.proofs.Common.{◌≡◌, ℕ, zero, suc, ◌+◌, ◌<◌, ◌�
 use Rattle.std.proofs.lemmas.Bool.Decides.{nat_tests}
 use Rattle.std.proofs.lemmas.List.Sums.{sum-map, sum_by-cons}
 use Rattle.cif_system.proofs.Lists.{map-length}
-use Rattle.cif_model.specs.Net as n
-use Rattle.cif_model.specs.Facts.{things}
-use Rattle.cif_model.proofs.Passing.{and-left}
+use Rattle.cif_net_model.specs.Net as n
+use Rattle.cif_net_model.specs.Facts.{things}
+use Rattle.cif_net_model.proofs.Passing.{and-left}
 use Rattle.cif_net.specs.declared.automata.Auto.{Auto}
 use Rattle.cif_net.specs.declared.automata.NetEdge.{NetEdge}
 use Rattle.cif_net.specs.declared.net.Net.{Net}

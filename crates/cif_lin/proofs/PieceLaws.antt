@@ -3,9 +3,9 @@ use Rattle.std.proofs.Common.{◌≡◌, ℕ, ◌+◌, Bool, true, false, List, 
 use Rattle.std.specs.List.{cons_option, enumerate_from, AllByRecursion}
 use Rattle.cif_system.specs.Step.{Choice}
 use Rattle.cif_system.specs.Choices.{product_of}
-use Rattle.cif_term.specs.Tree.{NetExpr}
-use Rattle.cif_model.specs.Net.{NetEdge, NetAuto, Net}
-use Rattle.cif_model.specs.Listing.{NetMove, NetChoice, move_if, edge_at, edges_taken, move_test, choice_test, linear_choice}
+use Rattle.cif_net_expr.specs.Tree.{NetExpr}
+use Rattle.cif_net_model.specs.Net.{NetEdge, NetAuto, Net}
+use Rattle.cif_net_model.specs.Listing.{NetMove, NetChoice, move_if, edge_at, edges_taken, move_test, choice_test, linear_choice}
 use Rattle.cif_lin.specs.Pieces.{Piece, no_piece, beside, joined, choice_of}
 
 -- ---- lists

@@ -3,9 +3,9 @@ use Rattle.std.specs.Prelude.{ℕ, ◌+◌, nat_eq, nat_lt, Bool, true, false, �
 use Rattle.std.specs.List.{range_with_len}
 use Rattle.cif_system.specs.System.{Role, syncing, sending, receiving}
 use Rattle.cif_system.specs.Choices.{stay, product_by}
-use Rattle.cif_model.specs.Net.{NetEdge, NetAuto, NetChan, no_net_chan, Net}
-use Rattle.cif_model.specs.Listing.{NetRoles, NetChoice, is_edge_for, monitors_event}
-use Rattle.cif_model.specs.Facts.{channel_of}
+use Rattle.cif_net_model.specs.Net.{NetEdge, NetAuto, NetChan, no_net_chan, Net}
+use Rattle.cif_net_model.specs.Listing.{NetRoles, NetChoice, is_edge_for, monitors_event}
+use Rattle.cif_net_model.specs.Facts.{channel_of}
 use Rattle.cif_lin.specs.Numbers.{nth}
 use Rattle.cif_lin.specs.Pieces.{Cell, joined, choice_of, piece_of}
 

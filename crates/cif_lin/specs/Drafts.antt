@@ -1,9 +1,9 @@
 -- Helper of the code: a choice that is being put together.
 use Rattle.std.specs.Prelude.{ℕ, nat_eq, ◌/◌, ◌%◌, length, slice_get, if◌then◌else◌, List, [], ◌∷◌, ◌++◌, map, Option, Some, None, option_map}
-use Rattle.cif_term.specs.Tree.{NetExpr, NetUpdates, no_net_updates}
-use Rattle.cif_term.specs.View.{view, view_updates}
-use Rattle.cif_model.specs.Net.{NetEdge, NetAuto}
-use Rattle.cif_model.specs.Listing.{NetMove, NetChoice, both, sent_by, writes_of, all_hold}
+use Rattle.cif_net_expr.specs.Tree.{NetExpr, NetUpdates, no_net_updates}
+use Rattle.cif_net_expr.specs.View.{view, view_updates}
+use Rattle.cif_net_model.specs.Net.{NetEdge, NetAuto}
+use Rattle.cif_net_model.specs.Listing.{NetMove, NetChoice, both, sent_by, writes_of, all_hold}
 use Rattle.cif_net.specs.View.{move_tree}
 use Rattle.cif_lin.specs.declared.draft.Draft.{Draft}
 use Rattle.cif_lin.specs.Pieces.{Piece, Cell, piece_of}

@@ -1,7 +1,7 @@
 -- Helper of the code: a list that grows up to a limit.
 use Rattle.std.specs.Prelude.{nat_lt, Bool, true, false, List, [], ◌∷◌, ◌++◌, length, Option, Some, None, if◌then◌else◌}
-use Rattle.cif_model.specs.Listing.{NetChoice}
-use Rattle.cif_model.specs.Counts.{most_choices}
+use Rattle.cif_net_model.specs.Listing.{NetChoice}
+use Rattle.cif_net_model.specs.Counts.{most_choices}
 
 -- with more choices at the end, where no more than the limit come of it
 abbrev pub limited : List NetChoice → List NetChoice → Option (List NetChoice)

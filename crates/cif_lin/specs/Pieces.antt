@@ -1,8 +1,8 @@
 -- Helper of the code: what each automaton that takes part adds to a choice.
 use Rattle.std.specs.Prelude.{ℕ, List, [], ◌∷◌, ◌++◌, Option, Some, None, slice_get}
-use Rattle.cif_term.specs.Tree.{NetExpr}
-use Rattle.cif_model.specs.Net.{NetEdge, NetAuto}
-use Rattle.cif_model.specs.Listing.{NetMove, NetChoice, all_hold, fails, opens, sent_by, writes_of}
+use Rattle.cif_net_expr.specs.Tree.{NetExpr}
+use Rattle.cif_net_model.specs.Net.{NetEdge, NetAuto}
+use Rattle.cif_net_model.specs.Listing.{NetMove, NetChoice, all_hold, fails, opens, sent_by, writes_of}
 
 pub record Piece : Type 0 where
   pub moves : List NetMove

@@ -1,8 +1,8 @@
 //! Choices by their numbers.
 
 ghost use Rattle.std.specs.Prelude.{◌≡◌, ◌<◌, ◌∷◌, [], map, option_map, IfOk, OnOk};
-ghost use Rattle.cif_term.specs.View.{view, view_updates};
-ghost use Rattle.cif_model.specs.Listing.{NetMove};
+ghost use Rattle.cif_net_expr.specs.View.{view, view_updates};
+ghost use Rattle.cif_net_model.specs.Listing.{NetMove};
 ghost use Rattle.cif_net.specs.View.{auto_tree, edge_tree, choice_tree, move_tree};
 ghost use Rattle.cif_lin.specs.Pieces.{piece_of};
 ghost use Rattle.cif_lin.specs.Parties.{cell_tree};

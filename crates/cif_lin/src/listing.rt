@@ -3,10 +3,10 @@
 ghost use Rattle.std.specs.Prelude.{◌≡◌, ℕ, ◌≤◌, ◌<◌, ◌^◌, not, length, map, IfOk, Err};
 ghost use Rattle.cif_system.specs.Choices.{all_choices};
 ghost use Rattle.cif_system.specs.Words.{Exceeds};
-ghost use Rattle.cif_model.specs.Counts.{most_choices};
-ghost use Rattle.cif_model.specs.Facts.{channel_of};
-ghost use Rattle.cif_model.specs.Listing.{roles_of, linear_of};
-ghost use Rattle.cif_model.specs.Meaning.{system_of_net};
+ghost use Rattle.cif_net_model.specs.Counts.{most_choices};
+ghost use Rattle.cif_net_model.specs.Facts.{channel_of};
+ghost use Rattle.cif_net_model.specs.Listing.{roles_of, linear_of};
+ghost use Rattle.cif_net_model.specs.Meaning.{system_of_net};
 ghost use Rattle.cif_net.specs.View.{net_tree, auto_tree, choice_tree, linear_tree, roles_tree, event_roles_tree};
 ghost use Rattle.cif_lin.specs.Cells as c;
 ghost use Rattle.cif_lin.specs.Limits.{limited, gives};

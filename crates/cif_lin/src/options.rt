@@ -3,7 +3,7 @@
 ghost use Rattle.std.specs.Prelude.{◌≡◌, ◌<◌, ◌^◌, nat_eq, length, map, IfOk};
 ghost use Rattle.std.specs.List.{list_any};
 ghost use Rattle.cif_system.specs.Step.{same_role};
-ghost use Rattle.cif_model.specs.Listing.{is_edge_for};
+ghost use Rattle.cif_net_model.specs.Listing.{is_edge_for};
 ghost use Rattle.cif_net.specs.View.{role_of, edge_tree, auto_tree};
 ghost use Rattle.cif_lin.specs.Cells as c;
 

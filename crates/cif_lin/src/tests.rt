@@ -2,9 +2,9 @@
 
 ghost use Rattle.std.specs.Prelude.{◌≡◌, ◌++◌, ◌∷◌, [], map, slice_get, option_map, IfOk, OnOk};
 ghost use Rattle.std.specs.Option.{option_copied};
-ghost use Rattle.cif_term.specs.Tree.{net_expr, n_loc};
-ghost use Rattle.cif_term.specs.View.{view};
-ghost use Rattle.cif_model.specs.Listing.{all_hold, fails, opens};
+ghost use Rattle.cif_net_expr.specs.Tree.{net_expr, n_loc};
+ghost use Rattle.cif_net_expr.specs.View.{view};
+ghost use Rattle.cif_net_model.specs.Listing.{all_hold, fails, opens};
 ghost use Rattle.cif_net.specs.View.{auto_tree, edge_tree};
 ghost use Rattle.cif_lin.specs.Pieces as p;
 

@@ -1,8 +1,8 @@
 -- The initial state of a net, by its declared parts.
 use Rattle.std.proofs.Common.{◌≡◌, List, [], ◌∷◌, map, refl, ap}
 use Rattle.cif_system.specs.System as s
-use Rattle.cif_model.specs.Meaning.{system_of_net, automaton_in, stored_in}
-use Rattle.cif_model.specs.Net as n
+use Rattle.cif_net_model.specs.Meaning.{system_of_net, automaton_in, stored_in}
+use Rattle.cif_net_model.specs.Net as n
 use Rattle.cif_net.specs.declared.net.Net.{Net}
 use Rattle.cif_net.specs.declared.automata.Auto.{Auto}
 use Rattle.cif_net.specs.declared.data.Input.{Input}

@@ -2,9 +2,9 @@
 use Rattle.std.proofs.Common.{◌≡◌, map, ◌∙◌, ap}
 use Rattle.std.proofs.Math.Logic.{∥∥₁_elim}
 use Rattle.std.proofs.Props.{props}
-use Rattle.cif_model.specs.Meaning.{system_of_net}
-use Rattle.cif_model.specs.Listing.{full_choices, listed}
-use Rattle.cif_model.proofs.ListingLaws.{guarded-each}
+use Rattle.cif_net_model.specs.Meaning.{system_of_net}
+use Rattle.cif_net_model.specs.Listing.{full_choices, listed}
+use Rattle.cif_net_model.proofs.ListingLaws.{guarded-each}
 use Rattle.cif_net.specs.declared.guarded.Guarded.{Guarded}
 use Rattle.cif_net.specs.View.{net_tree, choice_tree}
 

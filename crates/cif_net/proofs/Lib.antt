@@ -1,2 +1,3 @@
 mod Initial
 pub mod Kept
+mod PlaceLaws

@@ -1,8 +1,8 @@
 -- What the parts of a net stand for as plain data. A net's own fact stands on these, so no function here names its type.
 use Rattle.std.specs.Prelude.{List, map, option_map}
 use Rattle.cif_system.specs.System as s
-use Rattle.cif_term.specs.View.{view, view_updates}
-use Rattle.cif_model.specs.Net as n
+use Rattle.cif_net_expr.specs.View.{view, view_updates}
+use Rattle.cif_net_model.specs.Net as n
 use Rattle.cif_net.specs.declared.automata.NetRole.{NetRole}
 use Rattle.cif_net.specs.declared.automata.NetRole.TheVariants as role
 use Rattle.cif_net.specs.declared.automata.NetEdge.{NetEdge}

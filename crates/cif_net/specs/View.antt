@@ -1,9 +1,9 @@
 -- What plain data a net, a state, and a table of roles or choices stand for.
 use Rattle.std.specs.Prelude.{List, map, option_map}
 use Rattle.cif_system.specs.System as s
-use Rattle.cif_term.specs.View.{view, view_updates}
-use Rattle.cif_model.specs.Net as n
-use Rattle.cif_model.specs.Listing.{NetRoles, NetMove, NetChoice}
+use Rattle.cif_net_expr.specs.View.{view, view_updates}
+use Rattle.cif_net_model.specs.Net as n
+use Rattle.cif_net_model.specs.Listing.{NetRoles, NetMove, NetChoice}
 use Rattle.cif_net.specs.declared.net.Net.{Net}
 use Rattle.cif_net.specs.declared.state.State.{State}
 use Rattle.cif_net.specs.declared.listing.EventRoles.{EventRoles}

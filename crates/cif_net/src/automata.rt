@@ -1,7 +1,7 @@
 //! The automata of a net and their edges (CIF 3 language reference, "Automata").
 
 use cif_base::{Items, Text};
-use cif_term::{NetExpr, NetUpdate};
+use cif_net_expr::{NetExpr, NetUpdate};
 
 /// An automaton. `locs` has the name of each location, empty for one without a name, and `first` is the number of the
 /// initial one. `alphabet` has the events that it synchronises on, and `monitors` those of them that it never blocks.

@@ -2,7 +2,7 @@
 //! variables", "Input variables"). `literals` has the names of an enumeration's literals, and is empty for other types.
 
 use cif_base::{Items, Text, Ty};
-use cif_term::NetExpr;
+use cif_net_expr::NetExpr;
 
 /// An input, with its value in the initial state.
 #[derive(Debug, Drop)]

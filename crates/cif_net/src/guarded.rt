@@ -1,7 +1,7 @@
 //! Nets with the choices of all their events.
 
 ghost use Rattle.std.specs.Prelude.{◌≡◌, map};
-ghost use Rattle.cif_model.specs.Listing.{guarded_of};
+ghost use Rattle.cif_net_model.specs.Listing.{guarded_of};
 ghost use Rattle.cif_net.specs.View.{net_tree, choice_tree};
 
 use crate::listing::Choice;

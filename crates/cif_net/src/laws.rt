@@ -1,10 +1,10 @@
 //! What the types keep, as laws that a proof reads off: each the contract of a function without a body.
 
 ghost use Rattle.std.specs.Prelude.{◌≡◌, true, map};
-ghost use Rattle.cif_model.specs.Facts.{is_net};
-ghost use Rattle.cif_model.specs.Listing.{full_choices, listed};
-ghost use Rattle.cif_model.specs.Meaning.{system_of_net};
-ghost use Rattle.cif_model.specs.Rules.{is_plain};
+ghost use Rattle.cif_net_model.specs.Facts.{is_net};
+ghost use Rattle.cif_net_model.specs.Listing.{full_choices, listed};
+ghost use Rattle.cif_net_model.specs.Meaning.{system_of_net};
+ghost use Rattle.cif_net_model.specs.Rules.{is_plain};
 ghost use Rattle.cif_net.specs.View.{net_tree, choice_tree};
 ghost use Rattle.cif_net.specs.declared.guarded.Guarded.{Guarded};
 ghost use Rattle.cif_net.specs.declared.net.Net.{Net};

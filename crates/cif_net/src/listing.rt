@@ -2,7 +2,7 @@
 //! reference, "Automata", "Channels"). Automata, events, edges of an automaton and invariants are numbers from 0.
 
 use cif_base::Items;
-use cif_term::{NetExpr, NetUpdate};
+use cif_net_expr::{NetExpr, NetUpdate};
 
 /// The roles in each event of a net, by its number.
 #[derive(Debug, Drop)]

@@ -1,7 +1,7 @@
 //! Flat nets of automata (CIF 3 language reference, "Automata").
 
 ghost use Rattle.std.specs.Prelude.{◌≡◌, true};
-ghost use Rattle.cif_model.specs.Facts.{is_net};
+ghost use Rattle.cif_net_model.specs.Facts.{is_net};
 ghost use Rattle.cif_net.specs.Parts.{net_of_parts};
 
 use crate::automata::Auto;

@@ -1,7 +1,7 @@
 //! Nets whose expressions name no algebraic variable.
 
 ghost use Rattle.std.specs.Prelude.{◌≡◌, true};
-ghost use Rattle.cif_model.specs.Rules.{is_plain};
+ghost use Rattle.cif_net_model.specs.Rules.{is_plain};
 ghost use Rattle.cif_net.specs.View.{net_tree};
 
 use crate::net::Net;

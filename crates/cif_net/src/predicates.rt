@@ -1,6 +1,6 @@
 //! The exclusions and the state invariants of a net (CIF 3 language reference, "Invariants").
 
-use cif_term::NetExpr;
+use cif_net_expr::NetExpr;
 
 /// An exclusion of one event, which needs the predicate where `allows` is true, and which else the predicate disables.
 #[derive(Debug, Drop)]

@@ -2,7 +2,7 @@
 
 ghost use Rattle.std.specs.Prelude.{◌≡◌, map, IfOk};
 ghost use Rattle.cif_system.specs.System.{initial};
-ghost use Rattle.cif_model.specs.Meaning.{system_of_net};
+ghost use Rattle.cif_net_model.specs.Meaning.{system_of_net};
 ghost use Rattle.cif_net.specs.View.{net_tree, state_tree};
 ghost use Rattle.cif_net.specs.declared.automata.Auto.{Auto};
 ghost use Rattle.cif_net.specs.declared.data.Input.{Input};

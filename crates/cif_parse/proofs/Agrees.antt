@@ -15,18 +15,18 @@ use Rattle.cif_ast.specs.declared.edges.Loc.{Loc}
 use Rattle.cif_ast.specs.declared.components.Body.{Body}
 use Rattle.cif_ast.specs.declared.components.Item.{Item}
 use Rattle.cif_ast.specs.declared.components.Item.TheVariants as item
-use Rattle.cif_expr.specs.TokenKinds.{sort, codes_of, word, sign}
-use Rattle.cif_expr.specs.Trees.{second}
-use Rattle.cif_expr.specs.Grammar.{ident, names, separated}
-use Rattle.cif_expr.specs.Reading.{first, first_word, first_sign, separated_at}
-use Rattle.cif_expr.proofs.Agrees.{expr_goes, ident_takes, name_takes}
-use Rattle.cif_expr.proofs.Whole.{expr_takes}
-use Rattle.cif_expr.proofs.PartLaws.{separated_takes, names_takes, expr_list_takes}
-use Rattle.cif_decl.specs.Trees.{single, given}
-use Rattle.cif_decl.specs.Grammar.{declaration, plain_declaration, kind_invariants, disc_declaration, parameters}
-use Rattle.cif_decl.specs.Reading.{kind_first, is_labelled, is_component}
-use Rattle.cif_decl.proofs.SightLaws.{labelled}
-use Rattle.cif_decl.proofs.Agrees.{kind_takes, plain_declaration_takes, kind_invariants_takes, declaration_takes, disc_declaration_takes, parameters_takes, invariants_no_component}
+use Rattle.cif_parse_expr.specs.TokenKinds.{sort, codes_of, word, sign}
+use Rattle.cif_parse_expr.specs.Trees.{second}
+use Rattle.cif_parse_expr.specs.Grammar.{ident, names, separated}
+use Rattle.cif_parse_expr.specs.Reading.{first, first_word, first_sign, separated_at}
+use Rattle.cif_parse_expr.proofs.Agrees.{expr_goes, ident_takes, name_takes}
+use Rattle.cif_parse_expr.proofs.Whole.{expr_takes}
+use Rattle.cif_parse_expr.proofs.PartLaws.{separated_takes, names_takes, expr_list_takes}
+use Rattle.cif_parse_decl.specs.Trees.{single, given}
+use Rattle.cif_parse_decl.specs.Grammar.{declaration, plain_declaration, kind_invariants, disc_declaration, parameters}
+use Rattle.cif_parse_decl.specs.Reading.{kind_first, is_labelled, is_component}
+use Rattle.cif_parse_decl.proofs.SightLaws.{labelled}
+use Rattle.cif_parse_decl.proofs.Agrees.{kind_takes, plain_declaration_takes, kind_invariants_takes, declaration_takes, disc_declaration_takes, parameters_takes, invariants_no_component}
 use Rattle.cif_parse.specs.declared.elements.Element.TheVariants as elements
 use Rattle.cif_parse.specs.declared.bodies.BodyElement.{BodyElement}
 use Rattle.cif_parse.specs.declared.bodies.BodyElement.TheVariants as body_elements

@@ -24,7 +24,7 @@ use Rattle.cif_ast.specs.declared.edges.UpdateBranch.{UpdateBranch, roll-UpdateB
 use Rattle.cif_ast.specs.declared.edges.EventUse.{EventUse}
 use Rattle.cif_ast.specs.declared.edges.Role.{Role}
 use Rattle.cif_ast.specs.declared.edges.Role.TheVariants as role
-use Rattle.cif_expr.specs.Grammar.{max_depth, separated, expr_list}
+use Rattle.cif_parse_expr.specs.Grammar.{max_depth, separated, expr_list}
 use Rattle.cif_parse.specs.declared.elements.Element.{Element}
 use Rattle.cif_parse.specs.declared.elements.Element.TheVariants as element
 use Rattle.cif_parse.specs.declared.bodies.BodyElement.{BodyElement}

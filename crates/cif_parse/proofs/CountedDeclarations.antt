@@ -21,10 +21,10 @@ use Rattle.cif_ast.specs.declared.declarations.Decl.{Decl}
 use Rattle.cif_ast.specs.declared.declarations.Decl.TheVariants as decl
 use Rattle.cif_ast.specs.declared.declarations.Inv.{Inv}
 use Rattle.cif_ast.specs.declared.declarations.Inv.TheVariants as inv
-use Rattle.cif_expr.specs.Grammar.{separated}
-use Rattle.cif_decl.specs.Reading.{class_first, kind_first}
-use Rattle.cif_decl.specs.Trees as tree
-use Rattle.cif_decl.specs.Grammar as g
+use Rattle.cif_parse_expr.specs.Grammar.{separated}
+use Rattle.cif_parse_decl.specs.Reading.{class_first, kind_first}
+use Rattle.cif_parse_decl.specs.Trees as tree
+use Rattle.cif_parse_decl.specs.Grammar as g
 use Rattle.cif_parse.proofs.Counted.{Counted, sum_of_ones, of_some, both_counted, map_counted, plain_map, either_counted, optional_counted, weaker, then_counted, flat_counted}
 use Rattle.cif_parse.proofs.CountedExpressions.{Suits, word_counted, sign_counted, one_of_counted, second_counted, middle_counted, separated_all, ident_counted, name_counted, expr_counted, ids_counted, names_counted}
 

@@ -25,12 +25,12 @@ use Rattle.cif_ast.specs.declared.expressions.Form.TheVariants as f
 use Rattle.cif_ast.specs.declared.expressions.Branch.{Branch, roll-Branch}
 use Rattle.cif_ast.specs.declared.expressions.Term.{Term, roll-Term}
 use Rattle.cif_ast.specs.declared.expressions.Factor.{Factor, roll-Factor}
-use Rattle.cif_expr.specs.TokenKinds.{sort, codes_of, kind, word, sign, code, any_of as one_of}
-use Rattle.cif_expr.specs.Spelling.{value, is_small, bytes_of}
-use Rattle.cif_expr.specs.Reading.{mul_signs, sum_signs, cmp_signs, arrows}
-use Rattle.cif_expr.specs.Trees as tree
-use Rattle.cif_expr.specs.Grammar as g
-use Rattle.cif_expr.specs.Grammar.{Level, at_expr, at_or, at_and, at_cmp, at_sum, at_prod, at_un}
+use Rattle.cif_parse_expr.specs.TokenKinds.{sort, codes_of, kind, word, sign, code, any_of as one_of}
+use Rattle.cif_parse_expr.specs.Spelling.{value, is_small, bytes_of}
+use Rattle.cif_parse_expr.specs.Reading.{mul_signs, sum_signs, cmp_signs, arrows}
+use Rattle.cif_parse_expr.specs.Trees as tree
+use Rattle.cif_parse_expr.specs.Grammar as g
+use Rattle.cif_parse_expr.specs.Grammar.{Level, at_expr, at_or, at_and, at_cmp, at_sum, at_prod, at_un}
 use Rattle.cif_parse.proofs.Counted.{Counted, SomeAll, all-of_some, not_empty, some_ones, sum_of_ones, one_counted, both_counted, map_counted, plain_map, either_counted, some_counted, list_counted, optional_counted, such_counted, weaker, limited}
 
 -- ---- tokens

@@ -29,11 +29,11 @@ use Rattle.cif_ast.specs.declared.components.Body.TheVariants as body
 use Rattle.cif_ast.specs.declared.components.Item.{Item}
 use Rattle.cif_ast.specs.declared.components.Item.TheVariants as item
 use Rattle.cif_ast.specs.declared.components.Spec.{Spec}
-use Rattle.cif_decl.specs.Reading.{kind_first}
-use Rattle.cif_decl.specs.Trees.{single}
-use Rattle.cif_decl.specs.Grammar.{declaration, parameters}
-use Rattle.cif_expr.specs.TokenKinds.{word}
-use Rattle.cif_expr.specs.Grammar.{ident}
+use Rattle.cif_parse_decl.specs.Reading.{kind_first}
+use Rattle.cif_parse_decl.specs.Trees.{single}
+use Rattle.cif_parse_decl.specs.Grammar.{declaration, parameters}
+use Rattle.cif_parse_expr.specs.TokenKinds.{word}
+use Rattle.cif_parse_expr.specs.Grammar.{ident}
 use Rattle.cif_parse.specs.Trees as tree
 use Rattle.cif_parse.specs.Grammar as g
 use Rattle.cif_parse.specs.Grammar.{Reads}

@@ -5,10 +5,10 @@ use Rattle.grammar.specs.Reader.{map_at, starts}
 use Rattle.cif_lex.specs.declared.token.Token.{Token}
 use Rattle.cif_lex.specs.declared.token.TokenKind.TheVariants.{Id}
 use Rattle.cif_ast.specs.declared.components.Item.TheVariants as item
-use Rattle.cif_expr.specs.TokenKinds.{sort}
-use Rattle.cif_expr.specs.Reading.{first}
-use Rattle.cif_decl.specs.Trees.{single}
-use Rattle.cif_decl.specs.Reading.{plain_first, is_component, plain_declaration_at, kind_invariants_at}
+use Rattle.cif_parse_expr.specs.TokenKinds.{sort}
+use Rattle.cif_parse_expr.specs.Reading.{first}
+use Rattle.cif_parse_decl.specs.Trees.{single}
+use Rattle.cif_parse_decl.specs.Reading.{plain_first, is_component, plain_declaration_at, kind_invariants_at}
 use Rattle.cif_parse.specs.Reading.{name_first, set_at, choice_at, update_at, one_update_at, updates_at, instance_at, item_over, item_at}
 
 pub set_read : (text : Text) (n : ℕ) (ts : List Token) → starts sort name_first ts ≡ true → one_update_at text n ts ≡ set_at text ts

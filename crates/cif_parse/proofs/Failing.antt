@@ -1,8 +1,8 @@
 -- An error that is told at another place.
 use Rattle.std.proofs.Common.{◌≡◌, Option, None, refl}
-use Rattle.cif_expr.specs.Gives.{Fails}
-use Rattle.cif_expr.specs.declared.error.ReadError.{ReadError}
-use Rattle.cif_expr.specs.declared.error.ReadError.TheVariants.{Memory, NotRead, TooDeep}
+use Rattle.cif_parse_expr.specs.Gives.{Fails}
+use Rattle.cif_parse_expr.specs.declared.error.ReadError.{ReadError}
+use Rattle.cif_parse_expr.specs.declared.error.ReadError.TheVariants.{Memory, NotRead, TooDeep}
 
 none_fails : {Y : Type 0} (told : ReadError) (read : Option Y) → read ≡ None → Fails told read
 none_fails Memory read e = tt

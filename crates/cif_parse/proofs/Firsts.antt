@@ -5,8 +5,8 @@ use Rattle.grammar.specs.Reader.{starts}
 use Rattle.cif_lex.specs.declared.token.Token.{Token}
 use Rattle.cif_lex.specs.declared.token.TokenKind.TheVariants.{Id, Reserved}
 use Rattle.cif_lex.specs.declared.token.Word.TheVariants as w
-use Rattle.cif_expr.specs.TokenKinds.{sort, codes_of}
-use Rattle.cif_decl.specs.Reading.{plain_first}
+use Rattle.cif_parse_expr.specs.TokenKinds.{sort, codes_of}
+use Rattle.cif_parse_decl.specs.Reading.{plain_first}
 use Rattle.cif_parse.specs.Reading.{item_first, body_element_first}
 
 has-append : (ks js : List ℕ) (k : ℕ) → has (ks ++ js) k ≡ (has ks k || has js k)

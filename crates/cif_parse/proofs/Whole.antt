@@ -8,9 +8,9 @@ use Rattle.cif_lex.specs.declared.token.Token.{Token}
 use Rattle.cif_lex.proofs.TokenLaws.{token_lists_agree}
 use Rattle.cif_ast.specs.declared.components.Item.{Item}
 use Rattle.cif_ast.specs.declared.components.Spec.{Spec}
-use Rattle.cif_expr.specs.declared.error.ReadError.{ReadError}
-use Rattle.cif_expr.specs.declared.error.ReadError.TheVariants.{NotRead, TooDeep}
-use Rattle.cif_expr.specs.Gives.{Fails}
+use Rattle.cif_parse_expr.specs.declared.error.ReadError.{ReadError}
+use Rattle.cif_parse_expr.specs.declared.error.ReadError.TheVariants.{NotRead, TooDeep}
+use Rattle.cif_parse_expr.specs.Gives.{Fails}
 use Rattle.cif_parse.specs.Trees as tree
 use Rattle.cif_parse.specs.Grammar.{item, specification, Reads, NotReadDue}
 use Rattle.cif_parse.specs.Reading.{items_at, ended, finished, specification_at}

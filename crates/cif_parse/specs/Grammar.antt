@@ -21,11 +21,11 @@ use Rattle.cif_ast.specs.declared.components.Body.{Body}
 use Rattle.cif_ast.specs.declared.components.Item.{Item}
 use Rattle.cif_ast.specs.declared.components.Item.TheVariants as items
 use Rattle.cif_ast.specs.declared.components.Spec.{Spec}
-use Rattle.cif_expr.specs.TokenKinds.{word, sign}
-use Rattle.cif_expr.specs.Trees.{second}
-use Rattle.cif_expr.specs.Grammar.{max_depth, ident, name, names, separated, IsExpr, expr_list}
-use Rattle.cif_decl.specs.Trees.{single, given}
-use Rattle.cif_decl.specs.Grammar.{kind, declaration, disc_declaration, parameters}
+use Rattle.cif_parse_expr.specs.TokenKinds.{word, sign}
+use Rattle.cif_parse_expr.specs.Trees.{second}
+use Rattle.cif_parse_expr.specs.Grammar.{max_depth, ident, name, names, separated, IsExpr, expr_list}
+use Rattle.cif_parse_decl.specs.Trees.{single, given}
+use Rattle.cif_parse_decl.specs.Grammar.{kind, declaration, disc_declaration, parameters}
 use Rattle.cif_parse.specs.declared.elements.Element.{Element}
 use Rattle.cif_parse.specs.declared.elements.Element.TheVariants as elements
 use Rattle.cif_parse.specs.declared.bodies.BodyElement.{BodyElement}

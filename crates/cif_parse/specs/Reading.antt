@@ -21,12 +21,12 @@ use Rattle.cif_ast.specs.declared.components.Body.{Body}
 use Rattle.cif_ast.specs.declared.components.Item.{Item}
 use Rattle.cif_ast.specs.declared.components.Item.TheVariants as item
 use Rattle.cif_ast.specs.declared.components.Spec.{Spec}
-use Rattle.cif_expr.specs.TokenKinds.{sort, codes_of}
-use Rattle.cif_expr.specs.Trees.{second}
-use Rattle.cif_expr.specs.Reading.{word_at, sign_at, first, first_word, first_sign, ident_at, name_at, expr_at, separated_at}
-use Rattle.cif_expr.specs.Parts.{names_at, expr_list_at}
-use Rattle.cif_decl.specs.Trees.{single, given}
-use Rattle.cif_decl.specs.Reading.{kind_at, kind_first, plain_first, is_component, plain_declaration_at, kind_invariants_at, declaration_at, disc_declaration_at, parameters_at}
+use Rattle.cif_parse_expr.specs.TokenKinds.{sort, codes_of}
+use Rattle.cif_parse_expr.specs.Trees.{second}
+use Rattle.cif_parse_expr.specs.Reading.{word_at, sign_at, first, first_word, first_sign, ident_at, name_at, expr_at, separated_at}
+use Rattle.cif_parse_expr.specs.Parts.{names_at, expr_list_at}
+use Rattle.cif_parse_decl.specs.Trees.{single, given}
+use Rattle.cif_parse_decl.specs.Reading.{kind_at, kind_first, plain_first, is_component, plain_declaration_at, kind_invariants_at, declaration_at, disc_declaration_at, parameters_at}
 use Rattle.cif_parse.specs.declared.elements.Element.{Element}
 use Rattle.cif_parse.specs.declared.elements.Element.TheVariants as elements
 use Rattle.cif_parse.specs.declared.bodies.BodyElement.{BodyElement}

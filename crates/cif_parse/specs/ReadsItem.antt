@@ -5,8 +5,8 @@ use denote.Ref.{Bor}
 use Rattle.grammar.specs.Pieces.{Text}
 use Rattle.cif_lex.specs.declared.token.Token.{Token}
 use Rattle.cif_ast.specs.declared.components.Item.{Item}
-use Rattle.cif_expr.specs.declared.error.ReadError.{ReadError}
-use Rattle.cif_expr.specs.Gives.{Gives}
+use Rattle.cif_parse_expr.specs.declared.error.ReadError.{ReadError}
+use Rattle.cif_parse_expr.specs.Gives.{Gives}
 use Rattle.cif_parse.specs.Reading.{item_at}
 
 pub record ReadsItem (text : Bor Text) (depth : ℕ) (pre : Global → Bor Text → Bor (List Token) → ℕ → Type 0)

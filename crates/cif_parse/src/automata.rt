@@ -3,8 +3,8 @@
 ghost use Rattle.std.specs.Prelude.{◌≡◌, IfOk, length};
 ghost use Rattle.std.specs.List.{list_all};
 ghost use Rattle.grammar.specs.Reader as reader;
-ghost use Rattle.cif_expr.specs.Gives.{Gives};
-ghost use Rattle.cif_expr.specs.TokenKinds as kinds;
+ghost use Rattle.cif_parse_expr.specs.Gives.{Gives};
+ghost use Rattle.cif_parse_expr.specs.TokenKinds as kinds;
 ghost use Rattle.cif_parse.specs.Reading as reading;
 ghost use Rattle.cif_parse.specs.Trees as tree;
 
@@ -13,9 +13,11 @@ use crate::locations::LocationPart;
 use crate::places::told_in_automaton;
 use cif_ast::{AutoBody, Body, Decl, Loc, Name};
 use cif_base::{Boxed, Items, Memory};
-use cif_decl::{begins_declaration, component_kind, declaration, disc_declaration, given};
-use cif_expr::{NamesPart, Part, Read, ReadError, fitted, optional, repeated, sign, starts, word};
 use cif_lex::{Mark, Token, TokenKind, Word};
+use cif_parse_decl::{begins_declaration, component_kind, declaration, disc_declaration, given};
+use cif_parse_expr::{
+    NamesPart, Part, Read, ReadError, fitted, optional, repeated, sign, starts, word,
+};
 use std::alloc::Global;
 
 /// `alphabet` and its events.

@@ -4,9 +4,9 @@
 ghost use Rattle.std.specs.Prelude.{◌≡◌, IfOk, map};
 ghost use Rattle.grammar.specs.Reader as reader;
 ghost use Rattle.cif_ast.specs.declared.components.Item.TheVariants as item;
-ghost use Rattle.cif_expr.specs.Gives.{Gives};
-ghost use Rattle.cif_expr.specs.TokenKinds as kinds;
-ghost use Rattle.cif_decl.specs.Reading as declarations;
+ghost use Rattle.cif_parse_expr.specs.Gives.{Gives};
+ghost use Rattle.cif_parse_expr.specs.TokenKinds as kinds;
+ghost use Rattle.cif_parse_decl.specs.Reading as declarations;
 ghost use Rattle.cif_parse.specs.Reading as reading;
 ghost use Rattle.cif_parse.specs.Trees as tree;
 ghost use Rattle.cif_parse.specs.ReadsItem.{ReadsItem};
@@ -16,11 +16,11 @@ use crate::expressions::perhaps;
 use crate::places::told_at_item;
 use cif_ast::{Body, Comp, Decl, Def, Expr, Ident, Inst, Item, Param};
 use cif_base::{Boxed, Items, Memory};
-use cif_decl::{
+use cif_lex::{Mark, Token, TokenKind, Word};
+use cif_parse_decl::{
     begins_declaration, given, is_component, kind_invariants, parameters, plain_declaration,
 };
-use cif_expr::{ExprListPart, Part, Read, ReadError, ident, name, only, sign, starts, word};
-use cif_lex::{Mark, Token, TokenKind, Word};
+use cif_parse_expr::{ExprListPart, Part, Read, ReadError, ident, name, only, sign, starts, word};
 use std::alloc::Global;
 
 /// How deep components may nest, the outermost counted.

@@ -1,7 +1,7 @@
 //! Edges.
 
 ghost use Rattle.std.specs.Prelude.{◌≡◌, Option};
-ghost use Rattle.cif_expr.specs.Gives.{Gives};
+ghost use Rattle.cif_parse_expr.specs.Gives.{Gives};
 ghost use Rattle.cif_parse.specs.Reading as reading;
 ghost use Rattle.cif_parse.specs.Trees as tree;
 
@@ -9,12 +9,12 @@ use crate::expressions::perhaps;
 use crate::updating::updates;
 use cif_ast::{Edge, EventUse, Expr, Ident, Role, Update};
 use cif_base::{Boxed, Items};
-use cif_decl::given;
-use cif_expr::{
+use cif_lex::{Mark, Token, TokenKind, Word};
+use cif_parse_decl::given;
+use cif_parse_expr::{
     ExprPart, Part, Read, expr_list, ident, inside, name, optional, separated_boxes, sign, starts,
     word,
 };
-use cif_lex::{Mark, Token, TokenKind, Word};
 use std::alloc::Global;
 
 /// `!`, and a value where one is sent.

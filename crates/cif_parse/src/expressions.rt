@@ -1,12 +1,12 @@
 //! Expressions that may be left out.
 
 ghost use Rattle.grammar.specs.Reader as reader;
-ghost use Rattle.cif_expr.specs.Gives.{Gives};
-ghost use Rattle.cif_expr.specs.TokenKinds as kinds;
+ghost use Rattle.cif_parse_expr.specs.Gives.{Gives};
+ghost use Rattle.cif_parse_expr.specs.TokenKinds as kinds;
 ghost use Rattle.cif_parse.specs.Reading as reading;
 
-use cif_expr::{Part, Read, optional};
 use cif_lex::{Mark, Token, TokenKind, Word};
+use cif_parse_expr::{Part, Read, optional};
 use std::alloc::Global;
 
 /// A part that begins as an expression does, where the next token begins one.

@@ -1,7 +1,7 @@
 //! Locations and what stands in them.
 
 ghost use Rattle.std.specs.Prelude.{◌≡◌, IfOk, None, Option};
-ghost use Rattle.cif_expr.specs.Gives.{Gives};
+ghost use Rattle.cif_parse_expr.specs.Gives.{Gives};
 ghost use Rattle.cif_parse.specs.Reading as reading;
 ghost use Rattle.cif_parse.specs.Trees as tree;
 
@@ -10,12 +10,12 @@ use crate::elements::Element;
 use crate::expressions::perhaps;
 use cif_ast::{Edge, Expr, Ident, Loc, LocEquation};
 use cif_base::{Boxed, Items, Memory};
-use cif_decl::given;
-use cif_expr::{
+use cif_lex::{Mark, Token, TokenKind, Word};
+use cif_parse_decl::given;
+use cif_parse_expr::{
     ExprListPart, IdentPart, Part, Read, expr, fitted, ident, optional, repeated_boxes, sign,
     starts, word,
 };
-use cif_lex::{Mark, Token, TokenKind, Word};
 use std::alloc::Global;
 
 /// `initial`, which may have `true` behind it.

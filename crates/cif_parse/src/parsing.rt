@@ -6,7 +6,7 @@ ghost use Rattle.cif_ast.specs.Countable.{IsCountable};
 ghost use Rattle.cif_ast.specs.Shallow.{IsShallow};
 ghost use Rattle.cif_ast.specs.SmallNumbers.{HasSmallNumbers};
 ghost use Rattle.cif_ast.specs.declared.components.Spec.{Spec};
-ghost use Rattle.cif_expr.specs.Gives.{Gives};
+ghost use Rattle.cif_parse_expr.specs.Gives.{Gives};
 ghost use Rattle.cif_parse.specs.Grammar.{Reads, ParseRefusalDue};
 ghost use Rattle.cif_parse.specs.Reading as reading;
 ghost use Rattle.cif_parse.specs.declared.error.ParseErr.TheVariants.{Memory as no_memory};
@@ -14,8 +14,8 @@ ghost use Rattle.cif_parse.specs.declared.error.ParseErr.TheVariants.{Memory as 
 use crate::components::items;
 use crate::error::ParseErr;
 use cif_ast::Spec;
-use cif_expr::ReadError;
 use cif_lex::Token;
+use cif_parse_expr::ReadError;
 use std::alloc::Global;
 
 /// The specification that all the tokens are.

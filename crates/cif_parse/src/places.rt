@@ -2,10 +2,10 @@
 //! on finds it out only later. No clause speaks of these places.
 
 ghost use Rattle.std.specs.Prelude.{◌≡◌};
-ghost use Rattle.cif_expr.specs.declared.error.ReadError.TheVariants.{Memory as no_memory};
+ghost use Rattle.cif_parse_expr.specs.declared.error.ReadError.TheVariants.{Memory as no_memory};
 
-use cif_expr::{ReadError, starts};
 use cif_lex::{Token, TokenKind, Word};
+use cif_parse_expr::{ReadError, starts};
 
 /// What an automaton has so far, of what it may have once.
 #[derive(Clone, Copy)]

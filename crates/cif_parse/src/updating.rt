@@ -5,17 +5,17 @@ ghost use Rattle.cif_lex.specs.declared.token.Mark.TheVariants as m;
 ghost use Rattle.cif_lex.specs.declared.token.Word.TheVariants as w;
 ghost use Rattle.grammar.specs.Loops.{after};
 ghost use Rattle.grammar.specs.Reader as reader;
-ghost use Rattle.cif_expr.specs.Gives.{Gives};
-ghost use Rattle.cif_expr.specs.TokenKinds as kinds;
-ghost use Rattle.cif_expr.specs.Reading as expressions;
-ghost use Rattle.cif_decl.specs.Trees.{given};
+ghost use Rattle.cif_parse_expr.specs.Gives.{Gives};
+ghost use Rattle.cif_parse_expr.specs.TokenKinds as kinds;
+ghost use Rattle.cif_parse_expr.specs.Reading as expressions;
+ghost use Rattle.cif_parse_decl.specs.Trees.{given};
 ghost use Rattle.cif_parse.specs.Reading as reading;
 ghost use Rattle.cif_parse.specs.ReadsUpdate.{ReadsUpdate};
 
 use cif_ast::{Update, UpdateBranch};
 use cif_base::{Boxed, Items};
-use cif_expr::{Read, ReadError, expr, expr_list, name, only, sign, starts, word};
 use cif_lex::{Mark, Token, TokenKind, Word};
+use cif_parse_expr::{Read, ReadError, expr, expr_list, name, only, sign, starts, word};
 use std::alloc::Global;
 
 /// The greatest depth of an update.
@@ -63,7 +63,7 @@ impl<
     }
 
     /// A comma and an update.
-    #[tactic(auto, unfolding(cif_expr::specs::Reading::after_sign_at))]
+    #[tactic(auto, unfolding(cif_parse_expr::specs::Reading::after_sign_at))]
     fn next<'a>(&self, tokens: &'a [Token]) -> Read<'a, Boxed<Update>>
         requires { ReadsUpdate self.now.text self.now.depth (F.pre self.now.update) (F.post self.now.update) }
         ensures { Gives (λ x. (x.0, x.1.now)) result (expressions.after_sign_at m.Comma (reading.one_update_at self.now.text.now self.now.depth) tokens.now) }
@@ -91,7 +91,7 @@ impl<
     }
 
     /// Updates with commas between them.
-    #[tactic(auto, using(grammar::proofs::Loops::list_after), unfolding(crate::specs::Reading::updates_at, cif_expr::specs::Reading::separated_at))]
+    #[tactic(auto, using(grammar::proofs::Loops::list_after), unfolding(crate::specs::Reading::updates_at, cif_parse_expr::specs::Reading::separated_at))]
     fn all<'a>(&self, tokens: &'a [Token]) -> Read<'a, Items<Update>>
         requires { ReadsUpdate self.now.text self.now.depth (F.pre self.now.update) (F.post self.now.update) }
         ensures { Gives (λ x. (x.0, x.1.now)) result (reading.updates_at self.now.text.now self.now.depth tokens.now) }

@@ -16,7 +16,7 @@ use Rattle.cif_scope.specs.Scopes.{Defines, AreNumbered}
 use Rattle.cif_scope.specs.Written.{WrittenBody, written_bodies}
 use Rattle.cif_scope.proofs.Places.{beside-at, Sits, sits-head, sits-tail, sits-whole}
 use Rattle.cif_scope.proofs.DefinitionLaws.{IsWritten, bodies-written}
-use Rattle.cif_cycles.proofs.BodyNeeds.{definition-is}
+use Rattle.cif_resolve_cycles.proofs.BodyNeeds.{definition-is}
 use Rattle.cif_resolve.specs.Tests.{fault_of, or_later, first_some, used_fault, own_fault}
 use Rattle.cif_resolve.specs.Bodies.{body_numbered, definition_of, params_in, instance_uses, uses_in, uses_under, uses_of, own_in, own_under, count_fault, counts_in, counts_under, body_fault, faults_from}
 use Rattle.cif_resolve.specs.Faults.{use_told, own_told, count_told, names_told}

@@ -4,7 +4,7 @@ ghost use Rattle.std.specs.Prelude.{◌≡◌, ◌++◌, map, flat_map, option_m
 ghost use Rattle.cif_ast.specs.View.{view_item, view_items};
 ghost use Rattle.cif_source.specs.Source.{instance_tree, param_tree, source_item, source_items};
 ghost use Rattle.cif_source.specs.Uses.{param_uses};
-ghost use Rattle.cif_uses.specs.Views.{use_of, own_name_of};
+ghost use Rattle.cif_scope_uses.specs.Views.{use_of, own_name_of};
 ghost use Rattle.cif_scope.specs.Written.{body_of_written, inside_of};
 ghost use Rattle.cif_resolve.specs.Bodies as bodies;
 
@@ -12,7 +12,7 @@ use crate::counting::{definition_of, next_instance};
 use cif_ast::{Inst, Item, Param};
 use cif_base::Memory;
 use cif_scope::{Inside, Scopes, Written};
-use cif_uses::{
+use cif_scope_uses::{
     Asked, OwnName, Use, add_arg_uses, add_automaton_own_names, add_automaton_uses,
     add_decl_own_names, add_decl_uses, add_param_uses,
 };

@@ -9,7 +9,7 @@ ghost use Rattle.cif_resolve.specs.Faults.{ScopeDue};
 
 use crate::fitting::names_fit;
 use cif_ast::Spec;
-use cif_cycles::cyclic_name;
+use cif_resolve_cycles::cyclic_name;
 use cif_scope::{ScopeErr, Scopes};
 use std::alloc::Global;
 

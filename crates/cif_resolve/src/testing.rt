@@ -1,12 +1,12 @@
 //! Whether a name breaks a rule.
 
 ghost use Rattle.std.specs.Prelude.{◌≡◌, map};
-ghost use Rattle.cif_uses.specs.Views.{sort_of, use_of, own_name_of};
+ghost use Rattle.cif_scope_uses.specs.Views.{sort_of, use_of, own_name_of};
 ghost use Rattle.cif_resolve.specs.Tests as tests;
 
 use cif_ast::Name;
 use cif_scope::{Looked, ParamSort, ScopeErr, Scopes, Sort, What};
-use cif_uses::{Asked, OwnName, Use};
+use cif_scope_uses::{Asked, OwnName, Use};
 
 fn sort_fits(asks: Asked, sort: Sort) -> bool
     ensures { result ≡ tests.sort_fits (sort_of asks) sort }

@@ -9,7 +9,7 @@ use Rattle.grammar.specs.Pieces.{Text, same, AllAre}
 use Rattle.grammar.specs.Bytes.{is_digit, digits_from}
 use Rattle.grammar.proofs.Texts.{same_self, same_equal, and_left, and_right}
 use Rattle.grammar.proofs.Decimals.{decimal-value, decimal_digits, decimal_nonempty}
-use Rattle.sim_face.specs.Script.{number_in, decimal_read}
+use Rattle.cif_sim_model.specs.Script.{number_in, decimal_read}
 
 no_minus : (b : ℕ) → is_digit b ≡ true → (b == 45) ≡ false
 no_minus b e = go (b == 45) refl

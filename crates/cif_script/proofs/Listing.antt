@@ -8,7 +8,7 @@ use Rattle.std.proofs.lemmas.Bool.Decides.{nat_tests}
 use Rattle.std.proofs.lemmas.Option.{slice_get_past, slice_get_read}
 use native.Mathlib.Decide.{dec_lt}
 use Rattle.grammar.specs.Pieces.{Text}
-use Rattle.sim_face.specs.Texts.{changed, listed}
+use Rattle.cif_sim_model.specs.Texts.{changed, listed}
 use Rattle.cif_script.specs.Changes.{change_of}
 use Rattle.cif_script.proofs.Finding.{drop-item}
 

@@ -5,17 +5,17 @@ use Rattle.std.specs.List.{enumerate_from}
 use Rattle.std.proofs.lemmas.Bool.Decides.{nat_tests}
 use Rattle.cif_system.proofs.Lists.{map-length, none-some, slice_get-below, some-same}
 use Rattle.cif_system.proofs.Picks.{and-left}
-use Rattle.cif_model.specs.Net.{NetEvent}
-use Rattle.cif_model.specs.Facts.{things}
+use Rattle.cif_net_model.specs.Net.{NetEvent}
+use Rattle.cif_net_model.specs.Facts.{things}
 use Rattle.cif_net.specs.Parts.{event_tree, input_tree}
 use Rattle.cif_net.specs.View.{net_tree}
 use Rattle.cif_net.specs.declared.data.Input.{Input}
 use Rattle.cif_net.specs.declared.events.Event.{Event}
 use Rattle.cif_net.specs.declared.net.Net.{Net}
 use Rattle.grammar.specs.Pieces.{Text, same}
-use Rattle.sim_face.specs.Names.{Names, ValueNames}
-use Rattle.sim_face.specs.Script.{fires, number_of}
-use Rattle.sim_shown.specs.Nets.{names_of_net, stored_names}
+use Rattle.cif_sim_model.specs.Names.{Names, ValueNames}
+use Rattle.cif_sim_model.specs.Script.{fires, number_of}
+use Rattle.cif_sim_names.specs.Nets.{names_of_net, stored_names}
 use Rattle.cif_script.specs.Numbers.{Finds, FindsNames, Numbered, first_number, input_paths, number_at}
 
 -- ---- paths of a net

@@ -5,8 +5,8 @@ use Rattle.std.specs.Cmp.Lexicographic.{pointwise}
 use Rattle.std.proofs.lemmas.List.Splits.{length-slice_split}
 use Rattle.grammar.specs.Pieces.{Text, same}
 use Rattle.grammar.proofs.Texts.{same_is}
-use Rattle.sim_face.specs.Names.{Names, ValueNames}
-use Rattle.sim_face.specs.Script.{idle, fires, number_of, parts_of, said, set_of}
+use Rattle.cif_sim_model.specs.Names.{Names, ValueNames}
+use Rattle.cif_sim_model.specs.Script.{idle, fires, number_of, parts_of, said, set_of}
 use Rattle.cif_script.specs.Views.{parts_of_rest}
 
 -- a word that is compared with a literal

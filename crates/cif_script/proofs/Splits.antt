@@ -4,7 +4,7 @@ use Rattle.std.specs.List.{slice_split, onto_first}
 use Rattle.std.specs.Str.Lines.{strip_carriage_return}
 use Rattle.std.proofs.lemmas.Bool.{eq-eqb, ne_eqb}
 use Rattle.grammar.specs.Pieces.{Text}
-use Rattle.sim_face.specs.Script.{script_lines}
+use Rattle.cif_sim_model.specs.Script.{script_lines}
 
 module _ (c : ℕ) where
   abbrev pub pieces : Text → List Text

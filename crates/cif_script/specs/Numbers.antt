@@ -1,8 +1,8 @@
 -- Tables from paths to numbers.
 use Rattle.std.specs.Prelude.{◌≡◌, ℕ, List, find, map, Option, option_map}
 use Rattle.grammar.specs.Pieces.{Text, same}
-use Rattle.sim_face.specs.Names.{Names, ValueNames}
-use Rattle.sim_face.specs.Script.{number_of}
+use Rattle.cif_sim_model.specs.Names.{Names, ValueNames}
+use Rattle.cif_sim_model.specs.Script.{number_of}
 
 -- a path with its number
 abbrev pub Numbered : Type 0

@@ -2,13 +2,13 @@
 use Rattle.std.specs.Prelude.{List, [], map, Option, Some, None}
 use Rattle.std.specs.Borrow.{Bor}
 use Rattle.grammar.specs.Pieces.{Text}
-use Rattle.sim_face.specs.Script as script
+use Rattle.cif_sim_model.specs.Script as script
 use Rattle.cif_base.specs.declared.types.Ty.{Ty}
 use Rattle.cif_net.specs.Parts.{auto_tree, var_tree}
 use Rattle.cif_net.specs.declared.automata.Auto.{Auto}
 use Rattle.cif_net.specs.declared.data.Var.{Var}
-use Rattle.sim_face.specs.Names.{AutomatonNames, ValueNames}
-use Rattle.sim_shown.specs.Nets.{auto_names, stored_names, values_of}
+use Rattle.cif_sim_model.specs.Names.{AutomatonNames, ValueNames}
+use Rattle.cif_sim_names.specs.Nets.{auto_names, stored_names, values_of}
 use Rattle.cif_script.specs.declared.action.Action.{Action}
 use Rattle.cif_script.specs.declared.action.Action.TheVariants.{Idle, Set, Fire}
 

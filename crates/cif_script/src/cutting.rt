@@ -3,7 +3,7 @@
 ghost use Rattle.std.specs.Prelude.{◌≡◌, ◌∷◌, ◌==◌};
 ghost use Rattle.std.specs.Iterator.{YieldsFirstRef, item_count};
 ghost use Rattle.std.specs.Str.Lines.{strip_carriage_return};
-ghost use Rattle.sim_face.specs.Script as script;
+ghost use Rattle.cif_sim_model.specs.Script as script;
 ghost use Rattle.cif_script.specs.Views.{parts_of_rest};
 
 use std::marker::Model;

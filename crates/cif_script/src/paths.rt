@@ -4,9 +4,9 @@ ghost use Rattle.std.specs.Prelude.{◌≡◌, ◌<◌, ◌^◌, ◌∷◌, leng
 ghost use Rattle.cif_net.specs.View.{net_tree};
 ghost use Rattle.cif_net.specs.declared.data.Input.{Input};
 ghost use Rattle.cif_net.specs.declared.events.Event.{Event};
-ghost use Rattle.sim_face.specs.Names.{ValueNames};
-ghost use Rattle.sim_face.specs.Script.{fires, number_of, parts_of, read_line, said, set_of};
-ghost use Rattle.sim_shown.specs.Nets.{names_of_net};
+ghost use Rattle.cif_sim_model.specs.Names.{ValueNames};
+ghost use Rattle.cif_sim_model.specs.Script.{fires, number_of, parts_of, read_line, said, set_of};
+ghost use Rattle.cif_sim_names.specs.Nets.{names_of_net};
 ghost use Rattle.cif_script.specs.Numbers.{Finds, first_number};
 ghost use Rattle.cif_script.specs.Views.{action_of};
 
@@ -29,9 +29,9 @@ pub struct Paths<'a> {
 }
 
 impl<'a> Model for Paths<'a> {
-    ghost use Rattle.sim_face.specs.Names.{Names};
+    ghost use Rattle.cif_sim_model.specs.Names.{Names};
     ghost use Rattle.cif_net.specs.View.{net_tree};
-    ghost use Rattle.sim_shown.specs.Nets.{names_of_net};
+    ghost use Rattle.cif_sim_names.specs.Nets.{names_of_net};
     ghost use Rattle.cif_script.specs.Numbers.{FindsNames};
 
     ghost Value = { Names };

@@ -1,9 +1,9 @@
 //! Locations and values under their paths.
 
 ghost use Rattle.std.specs.Prelude.{◌≡◌, ◌++◌, OnOk};
-ghost use Rattle.sim_face.specs.Names.{literals as literals_named};
-ghost use Rattle.sim_face.specs.Texts as texts;
-ghost use Rattle.sim_shown.specs.Nets.{auto_names, values_of};
+ghost use Rattle.cif_sim_model.specs.Names.{literals as literals_named};
+ghost use Rattle.cif_sim_model.specs.Texts as texts;
+ghost use Rattle.cif_sim_names.specs.Nets.{auto_names, values_of};
 ghost use Rattle.cif_net.specs.Parts.{auto_tree};
 ghost use Rattle.cif_script.specs.Views.{stored_of};
 

@@ -2,9 +2,9 @@
 
 ghost use Rattle.std.specs.Prelude.{◌≡◌, option_map, pos};
 ghost use Rattle.cif_base.specs.declared.types.Ty.{Ty};
-ghost use Rattle.sim_face.specs.Names.{numbers, truths};
-ghost use Rattle.sim_face.specs.Script.{number_of, value_read};
-ghost use Rattle.sim_shown.specs.Nets.{values_of};
+ghost use Rattle.cif_sim_model.specs.Names.{numbers, truths};
+ghost use Rattle.cif_sim_model.specs.Script.{number_of, value_read};
+ghost use Rattle.cif_sim_names.specs.Nets.{values_of};
 
 use cif_base::{Text, Ty, read_int};
 

@@ -3,8 +3,8 @@
 ghost use Rattle.std.specs.Prelude.{◌≡◌, ◌++◌, map, nat_eq, OnOk};
 ghost use Rattle.std.specs.List.{zip};
 ghost use Rattle.std.specs.Ordering.{int_eq};
-ghost use Rattle.sim_face.specs.Texts as texts;
-ghost use Rattle.sim_shown.specs.Nets.{auto_names, names_of_net, stored_names};
+ghost use Rattle.cif_sim_model.specs.Texts as texts;
+ghost use Rattle.cif_sim_names.specs.Nets.{auto_names, names_of_net, stored_names};
 ghost use Rattle.cif_net.specs.Parts.{auto_tree, var_tree};
 ghost use Rattle.cif_net.specs.View.{net_tree, state_tree};
 ghost use Rattle.cif_net.specs.declared.automata.Auto.{Auto};

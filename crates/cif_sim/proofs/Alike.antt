@@ -4,26 +4,26 @@ use Rattle.std.specs.Prelude.{option_map, option_to_list, slice_get, unwrap_or}
 use Rattle.std.specs.List.{AllByRecursion, list_all}
 use Rattle.cif_system.specs.System.{Automaton, IsState, State, Stored, in_range}
 use Rattle.cif_system.specs.Step.{after, agrees, assigned_fits, fits_channel, fits_variable, is_permitted, makes_step, meets_invariants, sent_fits}
-use Rattle.cif_term.specs.Tree.{NetExpr, NetUpdate, net_set, net_choose, NetUpdates, no_net_updates, net_updates, NetUpdateBranches, no_net_update_branches, net_update_branches}
-use Rattle.cif_model.specs.Exprs.{updates_exprs, update_exprs, branches_exprs}
-use Rattle.cif_model.specs.Interval.{truths}
-use Rattle.cif_model.specs.Listing.{NetChoice, NetMove, full_choice}
-use Rattle.cif_model.specs.Meaning.{alg_values, event_in, net_assigned_by, net_assigned_in, system_of_net, true_in}
-use Rattle.cif_model.specs.Net.{NetInvariant, Net}
-use Rattle.cif_model.specs.Reads.{Read, a_var, an_input, an_alg, a_place, the_received, names_in, names_no_alg}
-use Rattle.cif_model.specs.Rules.{is_plain, is_plain_expr}
-use Rattle.cif_model.specs.Unfolding.{at_or}
-use Rattle.cif_model.specs.Value.{is_true}
-use Rattle.cif_model.proofs.Passing.{and-left, and-right}
-use Rattle.cif_model.proofs.ValueLaws.{Alike, Setting, all-parts, ap-two, value-alike, value-alone}
-use Rattle.cif_safe.specs.Safe.{value_at}
-use Rattle.cif_fire.specs.Within.{within}
-use Rattle.cif_fire.specs.Writes.{assigned_all, nothing, written}
-use Rattle.cif_fire.proofs.Chosen.{Chosen, after-written, assigned-are, sent-fits, test-is}
-use Rattle.cif_fire.proofs.Facts.{invariants-plain}
-use Rattle.cif_fire.proofs.Lists.{zip-length}
-use Rattle.cif_fire.proofs.Moves.{moved-alike, values-alike}
-use Rattle.cif_fire.proofs.Worked.{meets-are}
+use Rattle.cif_net_expr.specs.Tree.{NetExpr, NetUpdate, net_set, net_choose, NetUpdates, no_net_updates, net_updates, NetUpdateBranches, no_net_update_branches, net_update_branches}
+use Rattle.cif_net_model.specs.Exprs.{updates_exprs, update_exprs, branches_exprs}
+use Rattle.cif_net_model.specs.Interval.{truths}
+use Rattle.cif_net_model.specs.Listing.{NetChoice, NetMove, full_choice}
+use Rattle.cif_net_model.specs.Meaning.{alg_values, event_in, net_assigned_by, net_assigned_in, system_of_net, true_in}
+use Rattle.cif_net_model.specs.Net.{NetInvariant, Net}
+use Rattle.cif_net_model.specs.Reads.{Read, a_var, an_input, an_alg, a_place, the_received, names_in, names_no_alg}
+use Rattle.cif_net_model.specs.Rules.{is_plain, is_plain_expr}
+use Rattle.cif_net_model.specs.Unfolding.{at_or}
+use Rattle.cif_net_model.specs.Value.{is_true}
+use Rattle.cif_net_model.proofs.Passing.{and-left, and-right}
+use Rattle.cif_net_model.proofs.ValueLaws.{Alike, Setting, all-parts, ap-two, value-alike, value-alone}
+use Rattle.cif_net_model.specs.Safe.{value_at}
+use Rattle.cif_eval.specs.Within.{within}
+use Rattle.cif_eval.specs.Writes.{assigned_all, nothing, written}
+use Rattle.cif_eval.proofs.Chosen.{Chosen, after-written, assigned-are, sent-fits, test-is}
+use Rattle.cif_eval.proofs.Facts.{invariants-plain}
+use Rattle.cif_eval.proofs.Lists.{zip-length}
+use Rattle.cif_eval.proofs.Moves.{moved-alike, values-alike}
+use Rattle.cif_eval.proofs.Worked.{meets-are}
 use Rattle.cif_sim.specs.Named.{SameAt, choice_names, invariant_names}
 
 abbrev setting : State → ℤ → Setting

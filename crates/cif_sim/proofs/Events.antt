@@ -4,8 +4,8 @@ use Rattle.std.specs.List.{range_with_len}
 use Rattle.cif_system.specs.System.{Class, State}
 use Rattle.cif_system.specs.Step.{is_of}
 use Rattle.cif_net.specs.declared.guarded.Guarded.{Guarded}
-use Rattle.cif_fire.specs.Choices.{system_of}
-use Rattle.sim_face.specs.Runs.{first_event, first_event_of}
+use Rattle.cif_eval.specs.Choices.{system_of}
+use Rattle.cif_sim_model.specs.Runs.{first_event, first_event_of}
 use Rattle.cif_sim.specs.Tried.{has_step, has_step_in}
 use Rattle.cif_sim.proofs.Listed.{events-count}
 

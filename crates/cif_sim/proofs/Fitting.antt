@@ -6,15 +6,15 @@ use Rattle.cif_system.specs.System.{AllFit, IsState, State, Stored, System, in_r
 use Rattle.cif_system.proofs.Lists.{map-length, none-some, some-same}
 use Rattle.cif_system.specs.System as s
 use Rattle.cif_system.specs.Step.{has_class, is_of, same_class}
-use Rattle.cif_model.specs.Meaning.{event_in, stored_in, type_range}
+use Rattle.cif_net_model.specs.Meaning.{event_in, stored_in, type_range}
 use Rattle.cif_net.specs.Parts.{class_of, event_tree, input_tree}
 use Rattle.cif_net.specs.declared.events.Class.{Class}
 use Rattle.cif_net.specs.declared.events.Event.{Event}
 use Rattle.cif_net.specs.declared.data.Input.{Input}
 use Rattle.cif_net.specs.declared.guarded.Guarded.{Guarded}
-use Rattle.sim_face.specs.Runs.{input_fits}
-use Rattle.cif_fire.specs.Choices.{system_of}
-use Rattle.cif_fire.proofs.Lists.{set-fits, zip-length}
+use Rattle.cif_sim_model.specs.Runs.{input_fits}
+use Rattle.cif_eval.specs.Choices.{system_of}
+use Rattle.cif_eval.proofs.Lists.{set-fits, zip-length}
 
 abbrev fits_in : List Stored → ℕ → ℤ → Bool
 fits_in vs k z = elim (slice_get vs k) [ None ↦ false | Some v ↦ in_range v.range z ]

@@ -7,14 +7,14 @@ use Rattle.cif_system.specs.Step.{Choice, after, makes_step}
 use Rattle.cif_system.specs.Choices.{choices, first_step}
 use Rattle.cif_system.proofs.Lists.{find-none, slice_get-below}
 use Rattle.cif_system.proofs.Picks.{at-member, map-at}
-use Rattle.cif_model.specs.Listing.{full_choice}
+use Rattle.cif_net_model.specs.Listing.{full_choice}
 use Rattle.cif_net.specs.View.{choice_tree, net_tree}
 use Rattle.cif_net.specs.declared.guarded.Guarded.{Guarded}
 use Rattle.cif_net.specs.declared.listing.Choice as listing
-use Rattle.cif_choices.proofs.Steps.{guarded-steps}
-use Rattle.cif_fire.specs.Choices.{system_of}
-use Rattle.cif_fire.proofs.Chosen.{Chosen, chosen-of}
-use Rattle.cif_fire.proofs.Reading.{at_mapped}
+use Rattle.cif_net_laws.proofs.Steps.{guarded-steps}
+use Rattle.cif_eval.specs.Choices.{system_of}
+use Rattle.cif_eval.proofs.Chosen.{Chosen, chosen-of}
+use Rattle.cif_eval.proofs.Reading.{at_mapped}
 use Rattle.cif_sim.specs.Starts.{items_below}
 use Rattle.cif_sim.proofs.Firsts.{find-no}
 use Rattle.cif_sim.proofs.Listed.{all-segments, all_of, rest, rest-is}

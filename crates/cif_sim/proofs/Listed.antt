@@ -7,8 +7,8 @@ use Rattle.cif_system.specs.System.{System}
 use Rattle.cif_system.specs.Step.{Choice}
 use Rattle.cif_system.specs.Choices.{choices}
 use Rattle.cif_system.proofs.Lists.{map-length}
-use Rattle.cif_model.specs.Listing.{full_choice, full_choices}
-use Rattle.cif_model.specs.Meaning.{event_in, system_of_net}
+use Rattle.cif_net_model.specs.Listing.{full_choice, full_choices}
+use Rattle.cif_net_model.specs.Meaning.{event_in, system_of_net}
 use Rattle.cif_net.specs.View.{choice_tree, event_tree, net_tree}
 use Rattle.cif_net.specs.declared.guarded.Guarded.{Guarded}
 use Rattle.cif_net.specs.declared.listing.Choice as listing

@@ -5,8 +5,8 @@ use Rattle.std.proofs.lemmas.Option.{get_or_from_slice_get}
 use Rattle.cif_system.specs.System.{State}
 use Rattle.cif_system.specs.Choices.{first_step}
 use Rattle.cif_net.specs.declared.guarded.Guarded.{Guarded}
-use Rattle.cif_fire.specs.Choices.{system_of}
-use Rattle.cif_fire.specs.declared.scratch.Scratch.{Scratch}
+use Rattle.cif_eval.specs.Choices.{system_of}
+use Rattle.cif_eval.specs.declared.scratch.Scratch.{Scratch}
 use Rattle.cif_sim.specs.Ready.{IsReady}
 use Rattle.cif_sim.specs.Starts.{choices_below}
 use Rattle.cif_sim.specs.Tried.{IsFirst, Makes, after_at, makes_at}

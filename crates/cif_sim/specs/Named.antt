@@ -1,10 +1,10 @@
 -- What the choices of an event name, and states that are the same there.
 use Rattle.std.specs.Prelude.{◌≡◌, pos, List, ◌∷◌, ◌++◌, flat_map, option_to_list, slice_index_or}
 use Rattle.cif_system.specs.System.{State}
-use Rattle.cif_model.specs.Exprs.{updates_exprs}
-use Rattle.cif_model.specs.Listing.{NetChoice}
-use Rattle.cif_model.specs.Net.{NetInvariant, Net}
-use Rattle.cif_model.specs.Reads.{Read, a_var, an_input, an_alg, a_place, the_received, names_in}
+use Rattle.cif_net_model.specs.Exprs.{updates_exprs}
+use Rattle.cif_net_model.specs.Listing.{NetChoice}
+use Rattle.cif_net_model.specs.Net.{NetInvariant, Net}
+use Rattle.cif_net_model.specs.Reads.{Read, a_var, an_input, an_alg, a_place, the_received, names_in}
 
 -- what the test of a choice, its sent value and its updates name
 abbrev pub choice_names : NetChoice → List Read

@@ -4,7 +4,7 @@ use Rattle.cif_system.specs.System.{Class, State}
 use Rattle.cif_system.specs.Step.{after, is_of, makes_step}
 use Rattle.cif_system.specs.Choices.{first_step}
 use Rattle.cif_net.specs.declared.guarded.Guarded.{Guarded}
-use Rattle.cif_fire.specs.Choices.{choice_at, system_of}
+use Rattle.cif_eval.specs.Choices.{choice_at, system_of}
 
 -- whether choice k makes a step
 unfoldable pub makes_at : Guarded → State → ℕ → Bool

@@ -4,7 +4,7 @@ ghost use Rattle.std.specs.Prelude.{◌≡◌, ◌<◌, Some, length, option_map
 ghost use Rattle.cif_system.specs.Step.{is_of, same_class};
 ghost use Rattle.cif_net.specs.Parts.{class_of};
 ghost use Rattle.cif_net.specs.declared.events.Event.{Event};
-ghost use Rattle.cif_fire.specs.Choices.{system_of};
+ghost use Rattle.cif_eval.specs.Choices.{system_of};
 
 use cif_net::{Class, Event, Guarded};
 

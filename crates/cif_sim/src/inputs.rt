@@ -2,11 +2,11 @@
 
 ghost use Rattle.std.specs.Prelude.{◌≡◌, ◌<◌, Some, true, length, option_map, slice_get};
 ghost use Rattle.cif_system.specs.System.{IsState, in_range};
-ghost use Rattle.cif_model.specs.Meaning.{type_range};
+ghost use Rattle.cif_net_model.specs.Meaning.{type_range};
 ghost use Rattle.cif_net.specs.View.{state_tree};
 ghost use Rattle.cif_net.specs.declared.data.Input.{Input};
-ghost use Rattle.cif_fire.specs.Choices.{system_of};
-ghost use Rattle.sim_face.specs.Runs.{input_fits, with_input};
+ghost use Rattle.cif_eval.specs.Choices.{system_of};
+ghost use Rattle.cif_sim_model.specs.Runs.{input_fits, with_input};
 
 use cif_base::Ty;
 use cif_net::{Guarded, Input, State};

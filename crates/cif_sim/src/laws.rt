@@ -7,7 +7,7 @@ ghost use Rattle.cif_system.specs.Choices.{first_step};
 ghost use Rattle.cif_net.specs.View.{choice_tree, net_tree};
 ghost use Rattle.cif_net.specs.declared.guarded.Guarded.{Guarded};
 ghost use Rattle.cif_net.specs.declared.listing.Choice.{Choice};
-ghost use Rattle.cif_fire.specs.Choices.{system_of};
+ghost use Rattle.cif_eval.specs.Choices.{system_of};
 ghost use Rattle.cif_sim.specs.Named.{SameAt, choice_names, invariant_names};
 
 /// An event without a step has none in another state either, where the two are the same at all that its choices and the state

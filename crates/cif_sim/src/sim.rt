@@ -5,8 +5,8 @@ ghost use Rattle.cif_system.specs.System.{IsState, initial};
 ghost use Rattle.cif_system.specs.Choices.{first_step};
 ghost use Rattle.cif_net.specs.Parts.{class_of};
 ghost use Rattle.cif_net.specs.View.{state_tree};
-ghost use Rattle.cif_fire.specs.Choices.{system_of};
-ghost use Rattle.sim_face.specs.Runs.{first_event, first_event_of, input_fits, with_input};
+ghost use Rattle.cif_eval.specs.Choices.{system_of};
+ghost use Rattle.cif_sim_model.specs.Runs.{first_event, first_event_of, input_fits, with_input};
 
 use crate::inputs::{put, takes};
 use crate::stepper::Stepper;
@@ -36,10 +36,10 @@ pub struct Sim<'a> {
 impl<'a> Model for Sim<'a> {
     ghost use Rattle.std.specs.Coded.{codes};
     ghost use Rattle.cif_system.specs.System.{IsState};
-    ghost use Rattle.cif_term.specs.contracts.expressions.NetForm as expressions;
-    ghost use Rattle.cif_term.specs.contracts.updates.NetUpdate as updates;
+    ghost use Rattle.cif_net_expr.specs.contracts.expressions.NetForm as expressions;
+    ghost use Rattle.cif_net_expr.specs.contracts.updates.NetUpdate as updates;
     ghost use Rattle.cif_net.specs.View.{state_tree};
-    ghost use Rattle.cif_fire.specs.Choices.{system_of};
+    ghost use Rattle.cif_eval.specs.Choices.{system_of};
     ghost use Rattle.cif_sim.specs.Simulated.{Simulated};
 
     ghost Value = { Simulated };

@@ -2,7 +2,7 @@
 
 ghost use Rattle.std.specs.Prelude.{◌≡◌, ◌≢◌, ◌<◌, ◌≤◌, ℕ, IfOk, Some, length, slice_get};
 ghost use Rattle.cif_net.specs.declared.listing.Choice.{Choice};
-ghost use Rattle.cif_fire.specs.Choices.{system_of};
+ghost use Rattle.cif_eval.specs.Choices.{system_of};
 ghost use Rattle.cif_sim.specs.Starts.{AreStarts};
 
 use cif_base::{Items, Memory};

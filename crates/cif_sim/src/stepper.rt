@@ -6,15 +6,15 @@ ghost use Rattle.cif_system.specs.System.{IsState};
 ghost use Rattle.cif_system.specs.Choices.{first_step};
 ghost use Rattle.cif_net.specs.Parts.{class_of};
 ghost use Rattle.cif_net.specs.View.{state_tree};
-ghost use Rattle.cif_fire.specs.Choices.{system_of};
-ghost use Rattle.sim_face.specs.Runs.{first_event, first_event_of};
+ghost use Rattle.cif_eval.specs.Choices.{system_of};
+ghost use Rattle.cif_sim_model.specs.Runs.{first_event, first_event_of};
 ghost use Rattle.cif_sim.specs.Tried.{Makes, after_at, has_step, has_step_in};
 
 use crate::classes::is_of;
 use crate::starts::{number, starts};
 use crate::tries::{first_choice, step_by};
 use cif_base::{Items, Memory};
-use cif_fire::Scratch;
+use cif_eval::Scratch;
 use cif_net::{Class, Guarded, State};
 use std::alloc::Global;
 use std::marker::Model;
@@ -30,8 +30,8 @@ pub(crate) struct Stepper<'a> {
 
 impl<'a> Model for Stepper<'a> {
     ghost use Rattle.std.specs.Coded.{codes};
-    ghost use Rattle.cif_term.specs.contracts.expressions.NetForm as expressions;
-    ghost use Rattle.cif_term.specs.contracts.updates.NetUpdate as updates;
+    ghost use Rattle.cif_net_expr.specs.contracts.expressions.NetForm as expressions;
+    ghost use Rattle.cif_net_expr.specs.contracts.updates.NetUpdate as updates;
     ghost use Rattle.cif_net.specs.declared.guarded.Guarded.{Guarded};
     ghost use Rattle.cif_sim.specs.Ready.{IsReady};
 

@@ -3,11 +3,11 @@
 ghost use Rattle.std.specs.Prelude.{◌≡◌, ◌<◌, ◌≤◌, length};
 ghost use Rattle.cif_system.specs.System.{IsState};
 ghost use Rattle.cif_net.specs.View.{state_tree};
-ghost use Rattle.cif_fire.specs.Choices.{system_of};
-ghost use Rattle.cif_fire.specs.Working.{IsScratchOf};
+ghost use Rattle.cif_eval.specs.Choices.{system_of};
+ghost use Rattle.cif_eval.specs.Working.{IsScratchOf};
 ghost use Rattle.cif_sim.specs.Tried.{IsFirst, Makes, after_at, makes_at};
 
-use cif_fire::{Scratch, enabled, fire};
+use cif_eval::{Scratch, enabled, fire};
 use cif_net::{Guarded, State};
 
 /// Whether a choice makes a step.

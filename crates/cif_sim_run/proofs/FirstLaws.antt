@@ -6,13 +6,13 @@ use Rattle.std.proofs.lemmas.Bool.{lt-ltb}
 use Rattle.cif_system.specs.System.{State, System, initial}
 use Rattle.cif_system.specs.Choices.{first_step}
 use Rattle.cif_system.specs.Scan.{fire}
-use Rattle.sim_face.specs.Names.{Names}
-use Rattle.sim_face.specs.Texts.{deadlock_line, start_line, step_line}
-use Rattle.sim_face.specs.Script.{Action, fires}
-use Rattle.sim_face.specs.Runs.{Moment, first_event, first_moments}
-use Rattle.sim_face.specs.Simulation.{moments_text, ending, first_text}
-use Rattle.sim_face.specs.Steps.{IsRun, IsFirstRun}
-use Rattle.sim_face.proofs.RunLaws.{first-runs}
+use Rattle.cif_sim_model.specs.Names.{Names}
+use Rattle.cif_sim_model.specs.Texts.{deadlock_line, start_line, step_line}
+use Rattle.cif_sim_model.specs.Script.{Action, fires}
+use Rattle.cif_sim_model.specs.Runs.{Moment, first_event, first_moments}
+use Rattle.cif_sim_model.specs.Simulation.{moments_text, ending, first_text}
+use Rattle.cif_sim_model.specs.Steps.{IsRun, IsFirstRun}
+use Rattle.cif_sim_model.proofs.RunLaws.{first-runs}
 use Rattle.cif_sim_run.specs.Left.{first_left}
 
 abbrev by_event : System → State → (n : ℕ) → Option ℕ → List Moment

@@ -5,11 +5,11 @@ use Rattle.grammar.specs.Pieces.{Text}
 use Rattle.cif_io.specs.Written.{grown}
 use Rattle.cif_system.specs.System.{State, System}
 use Rattle.cif_system.specs.Scan.{fire}
-use Rattle.sim_face.specs.Names.{Names}
-use Rattle.sim_face.specs.Texts.{deadlock_line}
-use Rattle.sim_face.specs.Script.{fires}
-use Rattle.sim_face.specs.Runs.{first_event}
-use Rattle.sim_face.specs.Simulation.{moment_text}
+use Rattle.cif_sim_model.specs.Names.{Names}
+use Rattle.cif_sim_model.specs.Texts.{deadlock_line}
+use Rattle.cif_sim_model.specs.Script.{fires}
+use Rattle.cif_sim_model.specs.Runs.{first_event}
+use Rattle.cif_sim_model.specs.Simulation.{moment_text}
 use Rattle.cif_sim_run.specs.Halts.{GrewByPart}
 use Rattle.cif_sim_run.specs.Left.{FirstRunning, IsSized, Shows, first_left}
 use Rattle.cif_sim_run.proofs.FirstLaws.{first-fires, no-event, one-step}

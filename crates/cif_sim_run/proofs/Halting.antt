@@ -6,7 +6,7 @@ use Rattle.grammar.specs.Pieces.{Text}
 use Rattle.cif_io.specs.Faults.{Rose}
 use Rattle.cif_io.specs.declared.sink.SinkErr.{SinkErr}
 use Rattle.cif_io.specs.declared.sink.SinkErr.TheVariants as sink
-use Rattle.sim_face.specs.Simulation.{StopCause}
+use Rattle.cif_sim_model.specs.Simulation.{StopCause}
 use Rattle.cif_sim_run.specs.Halts.{GrewByPart, HaltsIn, HaltsSilently, cause, halt_of, writing}
 use Rattle.cif_sim_run.specs.declared.halt.Halt.{Halt}
 use Rattle.cif_sim_run.specs.declared.halt.Halt.TheVariants.{Stopped, Failed, Memory}

@@ -7,10 +7,10 @@ use Rattle.cif_system.specs.System.{State, System}
 use Rattle.cif_system.specs.Choices.{first_step}
 use Rattle.cif_system.proofs.Lists.{some-same, none-some}
 use Rattle.cif_system.proofs.ScanLaws.{first_step-step, first_step-none}
-use Rattle.sim_face.specs.Names.{Names}
-use Rattle.sim_face.specs.Script.{Action, idle, sets, fires, read_line}
-use Rattle.sim_face.specs.Runs.{Moment, input_fits, with_input, next_by, moments_by, end_of}
-use Rattle.sim_face.specs.Simulation.{StopCause, out_of_range, not_enabled, bad_line, Meets, FirstStop, actions_of, moment_text, steps_after, moments_text}
+use Rattle.cif_sim_model.specs.Names.{Names}
+use Rattle.cif_sim_model.specs.Script.{Action, idle, sets, fires, read_line}
+use Rattle.cif_sim_model.specs.Runs.{Moment, input_fits, with_input, next_by, moments_by, end_of}
+use Rattle.cif_sim_model.specs.Simulation.{StopCause, out_of_range, not_enabled, bad_line, Meets, FirstStop, actions_of, moment_text, steps_after, moments_text}
 use Rattle.cif_sim_run.specs.Left.{moments_of, text_left, state_left, NoStop, Prevents, Followed}
 
 abbrev moment : Action → State → State → Moment

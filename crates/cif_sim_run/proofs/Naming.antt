@@ -4,9 +4,9 @@ use Rattle.std.specs.Prelude.{â„¤, find, codes, option_map, option_and_then, ifâ
 use Rattle.std.specs.List.{enumerate_from}
 use Rattle.grammar.specs.Pieces.{Text, same}
 use Rattle.cif_system.proofs.Lists.{some-same, none-some}
-use Rattle.sim_face.specs.Names.{Names, ValueNames}
+use Rattle.cif_sim_model.specs.Names.{Names, ValueNames}
 use Rattle.cif_sim_run.specs.Left.{IsNamed}
-use Rattle.sim_face.specs.Script.{Action, idle, sets, fires, number_of, parts_of, read_line, said, set_of, value_read}
+use Rattle.cif_sim_model.specs.Script.{Action, idle, sets, fires, number_of, parts_of, read_line, said, set_of, value_read}
 
 -- ---- numbers
 

@@ -4,10 +4,10 @@ use Rattle.std.specs.Prelude.{if◌then◌else◌}
 use Rattle.grammar.specs.Pieces.{Text}
 use Rattle.cif_io.specs.Written.{grown}
 use Rattle.cif_system.specs.System.{State, System, initial}
-use Rattle.sim_face.specs.Names.{Names}
-use Rattle.sim_face.specs.Script.{Action, idle, sets, fires, read_line, script_lines}
-use Rattle.sim_face.specs.Runs.{input_fits, next_by, with_input}
-use Rattle.sim_face.specs.Simulation.{StopCause, Meets, FirstStop, Runs, StopsAt, moment_text, moments_text, script_moments, state_reached, steps_after}
+use Rattle.cif_sim_model.specs.Names.{Names}
+use Rattle.cif_sim_model.specs.Script.{Action, idle, sets, fires, read_line, script_lines}
+use Rattle.cif_sim_model.specs.Runs.{input_fits, next_by, with_input}
+use Rattle.cif_sim_model.specs.Simulation.{StopCause, Meets, FirstStop, Runs, StopsAt, moment_text, moments_text, script_moments, state_reached, steps_after}
 use Rattle.cif_system.proofs.Lists.{map-length, some-same, none-some}
 use Rattle.std.specs.Prelude.{◌==◌}
 use Rattle.std.specs.List.{slice_split}

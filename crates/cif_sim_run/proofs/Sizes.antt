@@ -7,8 +7,8 @@ use Rattle.cif_system.specs.Step.{Step, assigned, moves, new_place, new_values, 
 use Rattle.cif_system.proofs.Lists.{some-same, none-some, map-length}
 use Rattle.cif_system.proofs.ChoiceLaws.{agrees-parts, enumerate_from-length, makes_step-agrees}
 use Rattle.cif_system.proofs.ScanLaws.{first_step-step}
-use Rattle.sim_face.specs.Script.{Action, idle, sets, fires}
-use Rattle.sim_face.specs.Runs.{input_fits, next_by, with_input}
+use Rattle.cif_sim_model.specs.Script.{Action, idle, sets, fires}
+use Rattle.cif_sim_model.specs.Runs.{input_fits, next_by, with_input}
 use Rattle.cif_sim_run.specs.Left.{IsSized}
 
 new_values-length : (ws : List (ℕ × ℤ)) (v : ℕ) (zs : List ℤ) → length (new_values ws v zs) ≡ length zs

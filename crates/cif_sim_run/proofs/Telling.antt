@@ -3,10 +3,10 @@ use Rattle.std.proofs.Common.{◌≡◌, ℕ, suc, ◌++◌, refl, ap}
 use Rattle.std.specs.Prelude.{codes, decimal, map, nat_eq}
 use Rattle.std.specs.Ordering.{int_eq}
 use Rattle.cif_system.specs.System.{State}
-use Rattle.sim_face.specs.Names.{Names}
-use Rattle.sim_face.specs.Texts.{event_path, listed, change_told, place_told, value_told, changed}
-use Rattle.sim_face.specs.Script.{Action, idle, sets, fires}
-use Rattle.sim_face.specs.Simulation.{moment_text}
+use Rattle.cif_sim_model.specs.Names.{Names}
+use Rattle.cif_sim_model.specs.Texts.{event_path, listed, change_told, place_told, value_told, changed}
+use Rattle.cif_sim_model.specs.Script.{Action, idle, sets, fires}
+use Rattle.cif_sim_model.specs.Simulation.{moment_text}
 use Rattle.cif_sim_run.specs.Left.{Shows}
 
 change-alike : (names : Names) (s t next : State) → Shows s t → change_told names s next ≡ change_told names t next

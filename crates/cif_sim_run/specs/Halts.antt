@@ -5,7 +5,7 @@ use Rattle.cif_io.specs.Faults.{Rose}
 use Rattle.cif_io.specs.Written.{grown}
 use Rattle.cif_io.specs.declared.sink.SinkErr.{SinkErr}
 use Rattle.cif_io.specs.declared.sink.SinkErr.TheVariants as sink
-use Rattle.sim_face.specs.Simulation.{StopCause, out_of_range, not_enabled, bad_line}
+use Rattle.cif_sim_model.specs.Simulation.{StopCause, out_of_range, not_enabled, bad_line}
 use Rattle.cif_sim_run.specs.declared.halt.Halt.{Halt}
 use Rattle.cif_sim_run.specs.declared.halt.Halt.TheVariants.{Stopped, Failed, Memory}
 use Rattle.cif_sim_run.specs.declared.halt.StopWhy.{StopWhy}

@@ -6,11 +6,11 @@ use Rattle.cif_system.specs.Choices.{first_step}
 use Rattle.cif_io.specs.Written.{grown}
 use Rattle.cif_net.specs.View.{net_tree}
 use Rattle.cif_net.specs.declared.guarded.Guarded.{Guarded}
-use Rattle.sim_face.specs.Names.{Names}
-use Rattle.sim_shown.specs.Nets.{names_of_net}
-use Rattle.sim_face.specs.Script.{Action, idle, sets, fires}
-use Rattle.sim_face.specs.Runs.{Moment, input_fits, moments_by, end_of, first_moments}
-use Rattle.sim_face.specs.Simulation.{StopCause, out_of_range, not_enabled, FirstStop, actions_of, moments_text, ending}
+use Rattle.cif_sim_model.specs.Names.{Names}
+use Rattle.cif_sim_names.specs.Nets.{names_of_net}
+use Rattle.cif_sim_model.specs.Script.{Action, idle, sets, fires}
+use Rattle.cif_sim_model.specs.Runs.{Moment, input_fits, moments_by, end_of, first_moments}
+use Rattle.cif_sim_model.specs.Simulation.{StopCause, out_of_range, not_enabled, FirstStop, actions_of, moments_text, ending}
 
 -- the names of a guarded net
 abbrev pub names_in : Guarded → Names

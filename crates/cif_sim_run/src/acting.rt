@@ -2,13 +2,13 @@
 
 ghost use Rattle.std.specs.Prelude.{◌≡◌, ◌<◌, length, Some, IfOk, IfSome, OnOk, IfErr};
 ghost use Rattle.cif_net.specs.View.{net_tree};
-ghost use Rattle.cif_fire.specs.Choices.{system_of};
+ghost use Rattle.cif_eval.specs.Choices.{system_of};
 ghost use Rattle.cif_script.specs.Views.{action_of};
 ghost use Rattle.cif_system.specs.Scan as scan;
-ghost use Rattle.sim_face.specs.Runs.{first_event, next_by};
-ghost use Rattle.sim_face.specs.Script.{fires, read_line, sets};
-ghost use Rattle.sim_face.specs.Simulation.{Meets};
-ghost use Rattle.sim_shown.specs.Nets.{names_of_net};
+ghost use Rattle.cif_sim_model.specs.Runs.{first_event, next_by};
+ghost use Rattle.cif_sim_model.specs.Script.{fires, read_line, sets};
+ghost use Rattle.cif_sim_model.specs.Simulation.{Meets};
+ghost use Rattle.cif_sim_names.specs.Nets.{names_of_net};
 ghost use Rattle.cif_sim_run.specs.Halts.{cause};
 ghost use Rattle.cif_sim_run.specs.Left.{IsNamed, Prevents};
 

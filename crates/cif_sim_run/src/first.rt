@@ -1,11 +1,11 @@
 //! Runs by the first event that has a step.
 
 ghost use Rattle.std.specs.Prelude.{◌≡◌, ◌≤◌, OnErr, OnOk};
-ghost use Rattle.cif_fire.specs.Choices.{system_of};
+ghost use Rattle.cif_eval.specs.Choices.{system_of};
 ghost use Rattle.cif_io.specs.Faults.{Rose};
 ghost use Rattle.cif_io.specs.Written.{grown};
 ghost use Rattle.cif_net.specs.View.{state_tree};
-ghost use Rattle.sim_face.specs.Simulation.{first_text};
+ghost use Rattle.cif_sim_model.specs.Simulation.{first_text};
 ghost use Rattle.cif_sim_run.specs.Halts.{GrewByPart};
 ghost use Rattle.cif_sim_run.specs.Left.{IsSized, Shows, first_left, names_in};
 

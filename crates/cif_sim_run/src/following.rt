@@ -1,9 +1,9 @@
 //! Scripts that are followed silently.
 
 ghost use Rattle.std.specs.Prelude.{◌≡◌, ◌≤◌, length, IfErr, IfOk, OnOk};
-ghost use Rattle.cif_fire.specs.Choices.{system_of};
-ghost use Rattle.sim_face.specs.Script as lines_of;
-ghost use Rattle.sim_face.specs.Simulation.{FirstStop, Runs, StopsAt, state_reached};
+ghost use Rattle.cif_eval.specs.Choices.{system_of};
+ghost use Rattle.cif_sim_model.specs.Script as lines_of;
+ghost use Rattle.cif_sim_model.specs.Simulation.{FirstStop, Runs, StopsAt, state_reached};
 ghost use Rattle.cif_sim_run.specs.Halts.{HaltsSilently};
 ghost use Rattle.cif_sim_run.specs.Left.{NoStop, names_in, state_left};
 

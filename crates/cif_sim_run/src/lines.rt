@@ -3,13 +3,13 @@
 ghost use Rattle.std.specs.Prelude.{◌≡◌, ◌<◌, ◌≤◌, suc, [], length, IfOk, OnOk, OnErr};
 ghost use Rattle.cif_io.specs.Faults.{Rose};
 ghost use Rattle.cif_io.specs.Written.{grown};
-ghost use Rattle.cif_model.specs.Meaning.{system_of_net};
+ghost use Rattle.cif_net_model.specs.Meaning.{system_of_net};
 ghost use Rattle.cif_net.specs.View.{net_tree, state_tree};
 ghost use Rattle.cif_script.specs.Views.{action_of};
 ghost use Rattle.cif_system.specs.System.{initial};
-ghost use Rattle.sim_face.specs.Simulation.{moment_text, steps_after};
-ghost use Rattle.sim_face.specs.Texts.{start_line, step_line};
-ghost use Rattle.sim_shown.specs.Nets.{names_of_net};
+ghost use Rattle.cif_sim_model.specs.Simulation.{moment_text, steps_after};
+ghost use Rattle.cif_sim_model.specs.Texts.{start_line, step_line};
+ghost use Rattle.cif_sim_names.specs.Nets.{names_of_net};
 ghost use Rattle.cif_sim_run.specs.Halts.{GrewByPart};
 ghost use Rattle.cif_sim_run.specs.Left.{IsUpToDate, Shows};
 

@@ -1,11 +1,11 @@
 //! Runs by a script.
 
 ghost use Rattle.std.specs.Prelude.{◌≡◌, ◌≤◌, length, IfOk, IfErr, OnOk};
-ghost use Rattle.cif_fire.specs.Choices.{system_of};
+ghost use Rattle.cif_eval.specs.Choices.{system_of};
 ghost use Rattle.cif_io.specs.Written.{grown};
 ghost use Rattle.cif_net.specs.View.{state_tree};
-ghost use Rattle.sim_face.specs.Script as lines_of;
-ghost use Rattle.sim_face.specs.Simulation.{FirstStop, Runs, StopsAt, script_text};
+ghost use Rattle.cif_sim_model.specs.Script as lines_of;
+ghost use Rattle.cif_sim_model.specs.Simulation.{FirstStop, Runs, StopsAt, script_text};
 ghost use Rattle.cif_sim_run.specs.Halts.{HaltsIn, writing};
 ghost use Rattle.cif_sim_run.specs.Left.{IsSized, NoStop, Shows, names_in, text_left};
 

@@ -1,7 +1,7 @@
 -- What kind of command `simulate` is, by the run that it is asked for.
 use Rattle.std.proofs.Common.{◌≡◌, ℕ, refl, subst, inl}
 use Rattle.grammar.specs.Pieces.{Text}
-use Rattle.sim_shown.specs.Sources.{names_of}
+use Rattle.cif_sim_names.specs.Sources.{names_of}
 use Rattle.cif_source.specs.Step.{system_of}
 use Rattle.cif_run.specs.Works.{Content}
 use Rattle.cif_run.proofs.CallLaws.{IsWithin}

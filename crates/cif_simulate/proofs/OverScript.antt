@@ -1,9 +1,9 @@
 -- Which answer a command that runs a script of a source has, where both files are told and no read of them fails, want of memory aside.
 use Rattle.std.proofs.Common.{◌≡◌, ℕ, ◌<◌, ◌≤◌, ◌⊎◌, length, Some, refl, sym, ap, subst, ◌∙◌, inl, inr, arith}
 use Rattle.grammar.specs.Pieces.{Text}
-use Rattle.sim_face.specs.Simulation.{Runs, StopsAt}
-use Rattle.sim_face.proofs.StopLaws.{stops-once}
-use Rattle.sim_shown.specs.Sources.{names_of}
+use Rattle.cif_sim_model.specs.Simulation.{Runs, StopsAt}
+use Rattle.cif_sim_model.proofs.StopLaws.{stops-once}
+use Rattle.cif_sim_names.specs.Sources.{names_of}
 use Rattle.cif_source.specs.Source.{Source}
 use Rattle.cif_source.specs.Step.{system_of}
 use Rattle.cif_io.specs.Faults.{Rose}

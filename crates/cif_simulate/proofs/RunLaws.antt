@@ -2,14 +2,14 @@
 use Rattle.std.proofs.Common.{◌≡◌, ℕ, ◌≤◌, length, refl, sym, subst, inl, inr}
 use Rattle.grammar.specs.Pieces.{Text}
 use Rattle.cif_system.specs.System.{System}
-use Rattle.sim_face.specs.Names.{Names}
-use Rattle.sim_face.specs.Simulation.{Runs, StopsAt, first_text, script_text}
-use Rattle.sim_shown.specs.Sources.{names_of}
+use Rattle.cif_sim_model.specs.Names.{Names}
+use Rattle.cif_sim_model.specs.Simulation.{Runs, StopsAt, first_text, script_text}
+use Rattle.cif_sim_names.specs.Sources.{names_of}
 use Rattle.cif_source.specs.Source.{Source}
 use Rattle.cif_source.specs.Step.{system_of}
 use Rattle.cif_io.specs.Written.{grown}
 use Rattle.cif_net.specs.declared.guarded.Guarded.{Guarded}
-use Rattle.cif_fire.specs.Choices as fire
+use Rattle.cif_eval.specs.Choices as fire
 use Rattle.cif_sim_run.specs.Halts as run
 use Rattle.cif_sim_run.specs.Left.{names_in}
 use Rattle.cif_sim_run.specs.declared.halt.Halt.{Halt}

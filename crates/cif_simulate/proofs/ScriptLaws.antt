@@ -2,16 +2,16 @@
 use Rattle.std.proofs.Common.{◌≡◌, ◌≤◌, length, Option, subst, ◌∙◌, inl, inr}
 use Rattle.grammar.specs.Pieces.{Text}
 use Rattle.cif_system.specs.System.{System}
-use Rattle.sim_face.specs.Names.{Names}
-use Rattle.sim_shown.specs.Sources.{names_of}
-use Rattle.sim_shown.proofs.NameLaws.{names-same, names-unfolded}
+use Rattle.cif_sim_model.specs.Names.{Names}
+use Rattle.cif_sim_names.specs.Sources.{names_of}
+use Rattle.cif_sim_names.proofs.NameLaws.{names-same, names-unfolded}
 use Rattle.cif_source.specs.Source.{Source}
 use Rattle.cif_source.specs.Step.{system_of}
-use Rattle.cif_image.specs.Flat.{net_of_source}
+use Rattle.cif_inst_model.specs.Flat.{net_of_source}
 use Rattle.cif_net.specs.View.{net_tree}
 use Rattle.cif_net.specs.declared.guarded.Guarded.{Guarded}
 use Rattle.cif_front.specs.Loads.{Stands}
-use Rattle.cif_fire.specs.Choices as fire
+use Rattle.cif_eval.specs.Choices as fire
 use Rattle.cif_sim_run.specs.Left.{names_in}
 use Rattle.cif_run.specs.declared.ended.Ended.{Ended}
 use Rattle.cif_run.specs.Groups.{group_of}

@@ -1,8 +1,8 @@
 -- What `simulate` promises, from how its call came to its end, where the answer is the status of that end or want of memory.
 use Rattle.std.proofs.Common.{◌≡◌, ℕ, refl, ap, subst, ◌∙◌}
 use Rattle.grammar.specs.Pieces.{Text}
-use Rattle.sim_face.specs.Simulation.{Runs, StopsAt, first_text, script_text}
-use Rattle.sim_shown.specs.Sources.{names_of}
+use Rattle.cif_sim_model.specs.Simulation.{Runs, StopsAt, first_text, script_text}
+use Rattle.cif_sim_names.specs.Sources.{names_of}
 use Rattle.cif_source.specs.Step.{system_of}
 use Rattle.cif_io.specs.Written.{grown}
 use Rattle.cif_run.specs.declared.status.Status.{Status}

@@ -1,7 +1,7 @@
 -- Helper of the code: what the run of a script over a net may write.
 use Rattle.grammar.specs.Pieces.{Text}
 use Rattle.cif_system.specs.System.{System}
-use Rattle.sim_face.specs.Names.{Names}
+use Rattle.cif_sim_model.specs.Names.{Names}
 use Rattle.cif_run.specs.Works.{Work}
 use Rattle.cif_simulate.specs.Simulates.{IsRunText, IsScriptText, IsStopText}
 

@@ -2,8 +2,8 @@
 use Rattle.std.specs.Prelude.{◌≡◌, ℕ, ◌≤◌, ◌⊎◌, length}
 use Rattle.grammar.specs.Pieces.{Text}
 use Rattle.cif_system.specs.System.{System}
-use Rattle.sim_face.specs.Names.{Names}
-use Rattle.sim_face.specs.Simulation.{StopCause, out_of_range, not_enabled, bad_line, StopsAt}
+use Rattle.cif_sim_model.specs.Names.{Names}
+use Rattle.cif_sim_model.specs.Simulation.{StopCause, out_of_range, not_enabled, bad_line, StopsAt}
 use Rattle.cif_source.specs.Source.{Source}
 use Rattle.cif_sim_run.specs.declared.halt.Halt.{Halt}
 use Rattle.cif_sim_run.specs.declared.halt.Halt.TheVariants as halt

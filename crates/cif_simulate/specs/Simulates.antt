@@ -2,9 +2,9 @@
 use Rattle.std.specs.Prelude.{◌≡◌, ℕ, ◌⊎◌, Option}
 use Rattle.grammar.specs.Pieces.{Text}
 use Rattle.cif_system.specs.System.{System}
-use Rattle.sim_face.specs.Names.{Names}
-use Rattle.sim_face.specs.Simulation.{Runs, script_text, first_text}
-use Rattle.sim_shown.specs.Sources.{names_of}
+use Rattle.cif_sim_model.specs.Names.{Names}
+use Rattle.cif_sim_model.specs.Simulation.{Runs, script_text, first_text}
+use Rattle.cif_sim_names.specs.Sources.{names_of}
 use Rattle.cif_source.specs.Step.{system_of}
 use Rattle.cif_run.specs.declared.status.Status.{Status}
 use Rattle.cif_run.specs.Works.{Content, GrewByPart, Input, Work}

@@ -2,8 +2,8 @@
 
 ghost use Rattle.std.specs.Prelude.{◌≡◌, ◌≤◌, ℕ, List};
 ghost use Rattle.cif_io.specs.Written.{grown};
-ghost use Rattle.sim_face.specs.Simulation.{Runs, StopsAt, first_text, script_text};
-ghost use Rattle.sim_shown.specs.Sources.{names_of};
+ghost use Rattle.cif_sim_model.specs.Simulation.{Runs, StopsAt, first_text, script_text};
+ghost use Rattle.cif_sim_names.specs.Sources.{names_of};
 ghost use Rattle.cif_source.specs.Step.{system_of};
 ghost use Rattle.cif_run.specs.Works.{Comes, reading, writing};
 ghost use Rattle.cif_run.specs.declared.status.ProfileWhy.{ProfileWhy};

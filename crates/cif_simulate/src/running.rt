@@ -1,11 +1,11 @@
 //! The runs of a net, up to the status that each leads to.
 
 ghost use Rattle.std.specs.Prelude.{◌≡◌, ◌≤◌, ℕ, List, length};
-ghost use Rattle.cif_fire.specs.Choices.{system_of};
+ghost use Rattle.cif_eval.specs.Choices.{system_of};
 ghost use Rattle.cif_run.specs.Groups.{group_of};
 ghost use Rattle.cif_run.specs.Works.{Comes, Reading, WroteIn, reading, text_work, writing};
 ghost use Rattle.cif_sim_run.specs.Left.{names_in};
-ghost use Rattle.sim_face.specs.Simulation.{first_text};
+ghost use Rattle.cif_sim_model.specs.Simulation.{first_text};
 ghost use Rattle.cif_simulate.specs.Scripts.{CameOver};
 ghost use Rattle.cif_simulate.specs.Running.{script_work};
 

@@ -8,3 +8,8 @@ pub mod Types
 pub mod Step
 pub mod Uses
 pub mod Scoping
+pub mod Kinds
+pub mod Constants
+pub mod Demands
+pub mod BodyRules
+pub mod InstanceRules

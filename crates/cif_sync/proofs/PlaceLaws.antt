@@ -1,7 +1,7 @@
 -- Places that are noted for their events, one by one.
 use Rattle.std.proofs.Common.{◌≡◌, ℕ, zero, suc, ◌+◌, Bool, true, false, ◌||◌, nat_eq, List, [], ◌∷◌, map, filter, replicate, refl, ◌∙◌, ap, if◌then◌else◌}
 use Rattle.std.specs.List.{list_any, enumerate_from, range_with_len}
-use Rattle.cif_model.specs.Listing.{numbers_of}
+use Rattle.cif_net_model.specs.Listing.{numbers_of}
 use Rattle.cif_sync.specs.Buckets.{each_noted}
 use Rattle.cif_sync.specs.Columns.{places_in}
 use Rattle.cif_sync.proofs.BucketLaws.{passing, each-noted}

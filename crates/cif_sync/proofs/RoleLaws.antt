@@ -6,10 +6,10 @@ use Rattle.std.proofs.lemmas.List.FromFn.{get_or-map-range_with_len}
 use Rattle.cif_system.specs.System.{Role, sending, receiving}
 use Rattle.cif_system.specs.Step.{same_role}
 use Rattle.cif_system.proofs.Lists.{map-length}
-use Rattle.cif_model.specs.Net as n
-use Rattle.cif_model.specs.Facts.{has, auto_stands, is_net, things}
-use Rattle.cif_model.specs.Listing.{NetRoles, syncs_on, monitors_event, is_edge_for, uses_event, numbers_of, event_roles, roles_of}
-use Rattle.cif_model.proofs.Passing.{and-left, and-right}
+use Rattle.cif_net_model.specs.Net as n
+use Rattle.cif_net_model.specs.Facts.{has, auto_stands, is_net, things}
+use Rattle.cif_net_model.specs.Listing.{NetRoles, syncs_on, monitors_event, is_edge_for, uses_event, numbers_of, event_roles, roles_of}
+use Rattle.cif_net_model.proofs.Passing.{and-left, and-right}
 use Rattle.cif_net.specs.declared.automata.NetEdge.{NetEdge}
 use Rattle.cif_net.specs.declared.automata.Auto.{Auto}
 use Rattle.cif_net.specs.declared.plain.Plain.{Plain}

@@ -3,7 +3,7 @@ use Rattle.std.specs.Prelude.{ℕ, nat_eq, List, [], ◌∷◌, map, replicate, 
 use Rattle.std.specs.List.{range_with_len}
 use Rattle.cif_system.specs.System.{Role, sending, receiving}
 use Rattle.cif_system.specs.Step.{same_role}
-use Rattle.cif_model.specs.Listing.{NetRoles, numbers_of}
+use Rattle.cif_net_model.specs.Listing.{NetRoles, numbers_of}
 use Rattle.cif_net.specs.declared.automata.NetEdge.{NetEdge}
 use Rattle.cif_net.specs.declared.automata.Auto.{Auto}
 use Rattle.cif_net.specs.View.{role_of}

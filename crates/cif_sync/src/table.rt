@@ -1,7 +1,7 @@
 //! The roles in each event of a net.
 
 ghost use Rattle.std.specs.Prelude.{◌≡◌, ◌<◌, ◌^◌, length, map, IfOk};
-ghost use Rattle.cif_model.specs.Listing.{roles_of};
+ghost use Rattle.cif_net_model.specs.Listing.{roles_of};
 ghost use Rattle.cif_net.specs.View.{net_tree, roles_tree, event_roles_tree};
 ghost use Rattle.cif_sync.specs.Columns.{roles_by_event};
 

@@ -7,9 +7,9 @@ use Rattle.cif_run.proofs.CallLaws.{IsWithin}
 use Rattle.cif_check.proofs.WordLemmas.{check_named, one_check}
 use Rattle.cif_generate.proofs.WordLemmas.{generate_named, one_generate}
 use Rattle.cif_replay.proofs.WordLemmas.{replay_named, one_replay}
-use Rattle.cif_batches.proofs.WordLemmas.{batch_named, one_batch}
+use Rattle.cif_batch_command.proofs.WordLemmas.{batch_named, one_batch}
 use Rattle.cif_simulate.proofs.WordLemmas.{simulate_named, one_simulate}
-use Rattle.cif_why.proofs.WordLemmas.{why_named, one_why}
+use Rattle.cif_why_command.proofs.WordLemmas.{why_named, one_why}
 use Rattle.cif_tool.specs.Commands.{Command, check, generate, replay, batch, simulate, why, name_of, command_of, Request, IsFor, work_of}
 use Rattle.cif_tool.specs.Asks.{Asked, IsAsked, tool_work}
 

@@ -10,7 +10,7 @@ use Rattle.cif_generate.proofs.GenerateLaws.{never_faults, takes_in_range}
 use Rattle.cif_replay.specs.Replaying.{AllEnd}
 use Rattle.cif_replay.proofs.ReplayLemmas.{refused_reads_none}
 use Rattle.plc_rows.proofs.InRange.{in_range}
-use Rattle.plc_face.specs.Scans.{AreRows}
+use Rattle.plc_model.specs.Scans.{AreRows}
 use Rattle.cif_tool.specs.Laws.{IsTaken}
 
 pub taken : (unc con : ℕ) (t : Source) (text : Text) → IsTextOf unc con t text → IsTaken (meant_by t) text

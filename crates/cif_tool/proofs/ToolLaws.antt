@@ -2,8 +2,8 @@
 -- status of that end or want of memory.
 use Rattle.std.proofs.Common.{◌≡◌, ℕ, ◌<◌, ◌≤◌, ◌⊎◌, length, List, Some, None, refl, sym, ap, subst, ◌∙◌, inl, inr}
 use Rattle.grammar.specs.Pieces.{Text}
-use Rattle.sim_face.specs.Simulation.{Runs, StopsAt as StopsIn}
-use Rattle.sim_shown.specs.Sources.{names_of}
+use Rattle.cif_sim_model.specs.Simulation.{Runs, StopsAt as StopsIn}
+use Rattle.cif_sim_names.specs.Sources.{names_of}
 use Rattle.cif_io.specs.Faults.{Rose}
 use Rattle.cif_io.specs.Written.{grown}
 use Rattle.st_ast.specs.Exec.{OutOfTurns}
@@ -28,7 +28,7 @@ use Rattle.cif_source.specs.Source.{Source}
 use Rattle.cif_source.specs.Step.{system_of}
 use Rattle.cif_front.specs.Loads.{ReadsAsSource}
 use Rattle.cif_accept.specs.Accepts.{CommandEnds, OfSource, SourceHasTooMany, SourceIs, SourceRefused, no_ends, source_limit, source_work}
-use Rattle.cif_image.specs.NetRules.{UnclassedDue}
+use Rattle.cif_inst_model.specs.NetRules.{UnclassedDue}
 use Rattle.cif_accept.proofs.AcceptLaws as accept
 use Rattle.cif_accept.proofs.OverSource as source
 use Rattle.cif_accept.proofs.OverSource.{IsOverSource}
@@ -45,17 +45,17 @@ use Rattle.cif_replay.specs.Judged.{Judge, OfFirst, judged_work, rows_limit, st_
 use Rattle.cif_replay.specs.Replaying.{IsStRefused, Reads}
 use Rattle.cif_replay.specs.Replays.{rows_judge}
 use Rattle.cif_replay.proofs.JudgedLaws as judged
-use Rattle.cif_batches.specs.Words.{Batch, IsBatch}
-use Rattle.cif_batches.specs.Batches.{AsksProgram, cases_judge, files_of}
+use Rattle.cif_batch_command.specs.Words.{Batch, IsBatch}
+use Rattle.cif_batch_command.specs.Batches.{AsksProgram, cases_judge, files_of}
 use Rattle.cif_simulate.specs.Words.{Simulate, Which, by_script, by_first, IsSimulate}
 use Rattle.cif_simulate.specs.Scripts.{OfScript, cause, script_limit}
 use Rattle.cif_simulate.specs.Simulates.{IsFirstText, IsPartOfRun, halts_by, simulate_work}
 use Rattle.cif_simulate.proofs.ByWhich.{first_within, is_over_script, is_over_source, tells_nothing}
 use Rattle.cif_simulate.proofs.OverScript as both
 use Rattle.cif_simulate.proofs.OverScript.{IsOverScript}
-use Rattle.cif_why.specs.Words.{Why, IsWhy}
-use Rattle.cif_why.specs.Explains.{LacksEvent, why_work}
-use Rattle.cif_why.proofs.ByEvent as event
+use Rattle.cif_why_command.specs.Words.{Why, IsWhy}
+use Rattle.cif_why_command.specs.Explains.{LacksEvent, why_work}
+use Rattle.cif_why_command.proofs.ByEvent as event
 use Rattle.cif_tool.specs.Commands.{Command, check, generate, replay, batch, simulate, why, Request, IsFor, work_of, script_in, script_of, source_of}
 use Rattle.cif_tool.specs.Asks.{Asked, AsksNoScript, AsksScript, AsksSource, AsksUnknown, Generated, IsAsked, NamesScript, NamesSource, NoCommand, Quiet, RowsAreRefused, ScanStopsAt, tool_work}
 use Rattle.cif_tool.proofs.AskedLaws.{of_tool, within_tool}

@@ -13,11 +13,11 @@ use Rattle.cif_generate.specs.Generates.{Writes}
 use Rattle.cif_replay.specs.Words.{Replay, IsReplay}
 use Rattle.cif_replay.specs.Judged.{OfBoth}
 use Rattle.cif_replay.specs.Replaying.{AreRowsRefused, StopsAt}
-use Rattle.cif_batches.specs.Words.{Batch, IsBatch}
-use Rattle.cif_batches.specs.Batching.{AreCasesRefused, CaseStopsAt}
-use Rattle.cif_batches.specs.Batches.{AsksProgram, files_of}
-use Rattle.cif_why.specs.Words.{Why, IsWhy}
-use Rattle.cif_why.specs.Explains.{LacksEvent}
+use Rattle.cif_batch_command.specs.Words.{Batch, IsBatch}
+use Rattle.cif_batch_command.specs.Batching.{AreCasesRefused, CaseStopsAt}
+use Rattle.cif_batch_command.specs.Batches.{AsksProgram, files_of}
+use Rattle.cif_why_command.specs.Words.{Why, IsWhy}
+use Rattle.cif_why_command.specs.Explains.{LacksEvent}
 use Rattle.cif_tool.specs.Commands.{Command, Request, IsFor, work_of, script_of, source_of}
 
 -- a command, and what it is asked for

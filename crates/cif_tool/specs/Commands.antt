@@ -9,12 +9,12 @@ use Rattle.cif_generate.specs.Words.{Generate, IsGenerate}
 use Rattle.cif_generate.specs.Generates.{generate_work}
 use Rattle.cif_replay.specs.Words.{Replay, IsReplay}
 use Rattle.cif_replay.specs.Replays.{replay_work}
-use Rattle.cif_batches.specs.Words.{Batch, IsBatch}
-use Rattle.cif_batches.specs.Batches.{batch_work}
+use Rattle.cif_batch_command.specs.Words.{Batch, IsBatch}
+use Rattle.cif_batch_command.specs.Batches.{batch_work}
 use Rattle.cif_simulate.specs.Words.{Simulate, Which, by_script, by_first, IsSimulate}
 use Rattle.cif_simulate.specs.Simulates.{simulate_work}
-use Rattle.cif_why.specs.Words.{Why, IsWhy}
-use Rattle.cif_why.specs.Explains.{why_work}
+use Rattle.cif_why_command.specs.Words.{Why, IsWhy}
+use Rattle.cif_why_command.specs.Explains.{why_work}
 
 pub data Command : Type 0 where
   check : Command

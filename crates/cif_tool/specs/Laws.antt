@@ -4,7 +4,7 @@ use Rattle.grammar.specs.Pieces.{Text}
 use Rattle.cif_system.specs.System.{System}
 use Rattle.st_ast.specs.Tree.{Program}
 use Rattle.st_ast.specs.ReadsAs.{ReadsAsProgram}
-use Rattle.plc_face.specs.Scans.{AreRows}
+use Rattle.plc_model.specs.Scans.{AreRows}
 use Rattle.plc_rows.specs.Rows.{RowsOf}
 use Rattle.cif_run.specs.declared.status.StRefusal.{StRefusal}
 use Rattle.cif_replay.specs.Replaying.{AllEnd, IsStRefused, Reads}

@@ -14,12 +14,12 @@ ghost use Rattle.st_scan.specs.Endings.{stopped};
 ghost use Rattle.st_scan.specs.declared.error.ScanErr.{ScanErr};
 ghost use Rattle.plc_rows.specs.Rows.{CasesOf, RowsOf};
 ghost use Rattle.plc_rows.specs.declared.error.RowErr.{RowErr};
-ghost use Rattle.sim_face.specs.Simulation.{Runs, StopsAt as StopsIn, first_text, script_moments, script_text};
-ghost use Rattle.sim_face.specs.Steps.{IsRun, RunsFirst};
-ghost use Rattle.why_face.specs.Reasons.{Holds as IsReason, Reason, reasons_of};
-ghost use Rattle.sim_shown.specs.Sources.{names_of, told_of};
-ghost use Rattle.plc_face.specs.Face.{HasInterface};
-ghost use Rattle.plc_face.specs.Scans.{NeverFaults, RunsFirstSteps, ScansLegally, ScansExactly, ShowsOutputs, StaysTyped};
+ghost use Rattle.cif_sim_model.specs.Simulation.{Runs, StopsAt as StopsIn, first_text, script_moments, script_text};
+ghost use Rattle.cif_sim_model.specs.Steps.{IsRun, RunsFirst};
+ghost use Rattle.cif_why_model.specs.Reasons.{Holds as IsReason, Reason, reasons_of};
+ghost use Rattle.cif_sim_names.specs.Sources.{names_of, told_of};
+ghost use Rattle.plc_model.specs.Face.{HasInterface};
+ghost use Rattle.plc_model.specs.Scans.{NeverFaults, RunsFirstSteps, ScansLegally, ScansExactly, ShowsOutputs, StaysTyped};
 ghost use Rattle.plc_back.specs.Texts.{IsLayoutOf, TheProgram};
 ghost use Rattle.cif_run.specs.declared.status.ProfileWhy.{ProfileWhy};
 ghost use Rattle.cif_run.specs.declared.status.Refusal.{Refusal};
@@ -32,7 +32,7 @@ ghost use Rattle.cif_source.specs.Source.{Source};
 ghost use Rattle.cif_source.specs.Step.{system_of};
 ghost use Rattle.cif_front.specs.Loads.{ReadsAsSource};
 ghost use Rattle.cif_accept.specs.Accepts.{OfSource, SourceHasTooMany, SourceIs, SourceRefused, source_limit};
-ghost use Rattle.cif_image.specs.NetRules.{UnclassedDue};
+ghost use Rattle.cif_inst_model.specs.NetRules.{UnclassedDue};
 ghost use Rattle.cif_check.specs.Words.{Check, IsCheck};
 ghost use Rattle.cif_check.specs.Checks.{accepted};
 ghost use Rattle.cif_generate.specs.Meaning.{AreClassed, StartsInitial, meant_by, shown_of};
@@ -41,25 +41,25 @@ ghost use Rattle.cif_replay.specs.Words.{Replay, IsReplay};
 ghost use Rattle.cif_replay.specs.Replaying.{AllEnd, ComesTo, IsRowRefused, IsStRefused, IsTableFor, Reads, status_of_scan};
 ghost use Rattle.cif_replay.specs.Replays.{OfBoth, OfFirst, rows_limit, st_limit};
 ghost use Rattle.cif_batch.specs.CaseTexts.{AllCasesEnd, Case, FirstStopped, row_of_file};
-ghost use Rattle.cif_batches.specs.Words.{Batch, IsBatch};
-ghost use Rattle.cif_batches.specs.Batching.{AreTablesFor, IsCasesRefused};
-ghost use Rattle.cif_batches.specs.Batches.{AsksProgram, files_of};
+ghost use Rattle.cif_batch_command.specs.Words.{Batch, IsBatch};
+ghost use Rattle.cif_batch_command.specs.Batching.{AreTablesFor, IsCasesRefused};
+ghost use Rattle.cif_batch_command.specs.Batches.{AsksProgram, files_of};
 ghost use Rattle.cif_simulate.specs.Words.{Simulate, by_first, by_script, IsSimulate};
 ghost use Rattle.cif_simulate.specs.Scripts.{OfScript, cause, script_limit};
 ghost use Rattle.cif_simulate.specs.Simulates.{IsPartOfRun};
-ghost use Rattle.cif_why.specs.Words.{Why, IsWhy};
-ghost use Rattle.cif_why.specs.Explains.{LacksEvent, event_of, explained};
+ghost use Rattle.cif_why_command.specs.Words.{Why, IsWhy};
+ghost use Rattle.cif_why_command.specs.Explains.{LacksEvent, event_of, explained};
 ghost use Rattle.cif_tool.specs.Asks.{Asked, AsksNoScript, AsksScript, AsksSource, AsksUnknown, Generated, IsAsked, NamesBoth, NamesCases, NamesProgram, NamesScript, NamesSecond, NamesSource, NoCommand, Quiet, RowsAreRefused, ScanStopsAt, tool_work};
 
 use cif_batch::Gate;
-use cif_batches::batch;
+use cif_batch_command::batch;
 use cif_check::check;
 use cif_generate::generate;
 use cif_io::{Files, Sink};
 use cif_replay::replay;
 use cif_run::{Ended, Status, report};
 use cif_simulate::simulate;
-use cif_why::why;
+use cif_why_command::why;
 use std::alloc::Global;
 use std::thread::Threads;
 
@@ -90,13 +90,13 @@ fn run_words<R: Threads + Sync, F: Files, O: Sink, G: Gate + Sync>(
     if let Some(asked) = cif_replay::read_words(words) {
         return replay(alloc, &asked, files, out);
     }
-    if let Some(asked) = cif_batches::read_words(words) {
+    if let Some(asked) = cif_batch_command::read_words(words) {
         return batch(rt, alloc, &asked, files, out, gate);
     }
     if let Some(asked) = cif_simulate::read_words(words) {
         return simulate(alloc, &asked, files, out);
     }
-    if let Some(asked) = cif_why::read_words(words) {
+    if let Some(asked) = cif_why_command::read_words(words) {
         return why(alloc, &asked, files, out);
     }
     Ended::plain(alloc, Status::Usage)

@@ -6,9 +6,9 @@ use Rattle.cif_system.proofs.Picks.{all-at}
 use Rattle.cif_source.specs.Source.{Source, tree_at}
 use Rattle.cif_source.specs.Components.{Component, params_of, body_of}
 use Rattle.cif_source.specs.Objects.{bodies}
-use Rattle.cif_rules.specs.Kinds.{Demand}
-use Rattle.cif_rules.specs.Demands.{demands}
-use Rattle.cif_rules.specs.BodyRules.{BadValue, BadUse, BadArgument, MismatchDue}
+use Rattle.cif_source.specs.Kinds.{Demand}
+use Rattle.cif_source.specs.Demands.{demands}
+use Rattle.cif_source.specs.BodyRules.{BadValue, BadUse, BadArgument, MismatchDue}
 use Rattle.cif_scope.specs.Tables.{IsBody}
 use Rattle.cif_scope.specs.Scopes.{AreScopesOf}
 use Rattle.cif_scope.specs.Written.{WrittenBody, written_bodies, body_of_written}
@@ -17,15 +17,15 @@ use Rattle.cif_scope.proofs.IndexLaws.{any-of, get-at, of-any}
 use Rattle.cif_scope.proofs.LookLaws.{get-map}
 use Rattle.cif_scope.proofs.Places.{beside-back, beside-length}
 use Rattle.cif_scope.proofs.DefinitionLaws.{IsWritten, bodies-written}
-use Rattle.cif_kinds.specs.Tables.{AreKindsIn}
-use Rattle.cif_kinds.specs.Met.{is_met, AreMet, Checks}
-use Rattle.cif_kinds.specs.Uses.{ChecksUses}
-use Rattle.cif_kinds.specs.Readings.{IsReading, IsWrittenIn, source_for, component_in}
-use Rattle.cif_kinds.specs.declared.reading.Reading.{Reading}
-use Rattle.cif_kinds.specs.declared.error.KindErr.{KindErr}
-use Rattle.cif_kinds.specs.declared.error.KindErr.TheVariants.{Mismatch, Memory}
-use Rattle.cif_kinds.proofs.NameLaws.{body-is}
-use Rattle.cif_arguments.specs.Arguments.{ChecksArguments}
+use Rattle.cif_types_kinds.specs.Tables.{AreKindsIn}
+use Rattle.cif_types_kinds.specs.Met.{is_met, AreMet, Checks}
+use Rattle.cif_types_kinds.specs.Uses.{ChecksUses}
+use Rattle.cif_types_kinds.specs.Readings.{IsReading, IsWrittenIn, source_for, component_in}
+use Rattle.cif_types_kinds.specs.declared.reading.Reading.{Reading}
+use Rattle.cif_types_kinds.specs.declared.error.KindErr.{KindErr}
+use Rattle.cif_types_kinds.specs.declared.error.KindErr.TheVariants.{Mismatch, Memory}
+use Rattle.cif_types_kinds.proofs.NameLaws.{body-is}
+use Rattle.cif_types_arguments.specs.Arguments.{ChecksArguments}
 use Rattle.cif_types.specs.Bodies.{IsFine, AreFine, MismatchTold}
 
 -- the body that is read, among the others

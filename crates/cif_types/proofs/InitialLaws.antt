@@ -11,7 +11,7 @@ use Rattle.cif_source.specs.Source.{LocationTree, AutomatonTree, SourceItem, dec
 use Rattle.cif_source.specs.Components.{Component, whole, part, blank, body_of, written_name}
 use Rattle.cif_source.specs.Objects.{bodies, bodies_in, bodies_at, bodies_under, is_automaton, locs_in}
 use Rattle.cif_source.proofs.ComponentLaws.{append-cases}
-use Rattle.cif_rules.specs.BodyRules.{HasInitials, InitialsDue, initial_count, name_at}
+use Rattle.cif_source.specs.BodyRules.{HasInitials, InitialsDue, initial_count, name_at}
 use Rattle.cif_types.specs.Initials.{Counted, unless, unless_one, or_later, initials_in, item_initials, body_initials}
 use Rattle.cif_types.specs.Initials.{Tells}
 use Rattle.cif_types.specs.Kinds.{due}

@@ -4,19 +4,19 @@ use Rattle.std.specs.Prelude.{◌⊎◌}
 use Rattle.cif_system.proofs.Lists.{slice_get-below}
 use Rattle.cif_source.specs.Source.{Source}
 use Rattle.cif_source.specs.Objects.{bodies}
-use Rattle.cif_rules.specs.BodyRules.{BadValue, BadUse, BadArgument, MismatchDue, NotConstantDue, NotOwnDue, AssignedTwiceDue, EquationsDue}
+use Rattle.cif_source.specs.BodyRules.{BadValue, BadUse, BadArgument, MismatchDue, NotConstantDue, NotOwnDue, AssignedTwiceDue, EquationsDue}
 use Rattle.cif_scope.proofs.IndexLaws.{of-any}
-use Rattle.cif_constancy.specs.Due.{ConstancyDue}
-use Rattle.cif_constancy.specs.declared.error.ConstancyErr.{ConstancyErr}
-use Rattle.cif_constancy.specs.declared.error.ConstancyErr.TheVariants as constancy
-use Rattle.cif_targets.specs.Faults as targets
-use Rattle.cif_targets.specs.declared.error.TargetErr.{TargetErr}
-use Rattle.cif_targets.specs.declared.error.TargetErr.TheVariants as target
-use Rattle.cif_equations.specs.Faults as equations
-use Rattle.cif_equations.specs.declared.error.EquationErr.{EquationErr}
-use Rattle.cif_equations.specs.declared.error.EquationErr.TheVariants as equation
-use Rattle.cif_kinds.specs.declared.error.KindErr.{KindErr}
-use Rattle.cif_kinds.specs.declared.error.KindErr.TheVariants as kind
+use Rattle.cif_types_constancy.specs.Due.{ConstancyDue}
+use Rattle.cif_types_constancy.specs.declared.error.ConstancyErr.{ConstancyErr}
+use Rattle.cif_types_constancy.specs.declared.error.ConstancyErr.TheVariants as constancy
+use Rattle.cif_types_targets.specs.Faults as targets
+use Rattle.cif_types_targets.specs.declared.error.TargetErr.{TargetErr}
+use Rattle.cif_types_targets.specs.declared.error.TargetErr.TheVariants as target
+use Rattle.cif_types_equations.specs.Faults as equations
+use Rattle.cif_types_equations.specs.declared.error.EquationErr.{EquationErr}
+use Rattle.cif_types_equations.specs.declared.error.EquationErr.TheVariants as equation
+use Rattle.cif_types_kinds.specs.declared.error.KindErr.{KindErr}
+use Rattle.cif_types_kinds.specs.declared.error.KindErr.TheVariants as kind
 use Rattle.cif_types.specs.Bodies.{AreFine, MismatchTold}
 use Rattle.cif_types.specs.Errors.{kind_error, constancy_error, target_error, equation_error}
 use Rattle.cif_types.specs.Initials.{initials_in}

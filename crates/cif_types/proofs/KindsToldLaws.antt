@@ -7,15 +7,15 @@ use Rattle.cif_system.specs.Words.{AreDistinct}
 use Rattle.cif_source.specs.Source.{Text, Source}
 use Rattle.cif_source.specs.Components.{Component, Entry}
 use Rattle.cif_source.specs.Lookup.{reached}
-use Rattle.cif_rules.specs.Kinds as rules
-use Rattle.cif_rules.specs.Kinds.{kind_at}
+use Rattle.cif_source.specs.Kinds as rules
+use Rattle.cif_source.specs.Kinds.{kind_at}
 use Rattle.cif_scope.specs.Tables.{IsBody}
 use Rattle.cif_scope.specs.Scopes.{IsEntry}
-use Rattle.cif_kinds.specs.declared.kind.Kind as table
-use Rattle.cif_kinds.specs.declared.kind.Kind.TheVariants as entered
-use Rattle.cif_kinds.specs.Tables.{kind_in, kind_for, kind_at_slot}
-use Rattle.cif_kinds.proofs.SameLaws.{same-place}
-use Rattle.cif_kinds.proofs.NameLaws.{slot-kind}
+use Rattle.cif_types_kinds.specs.declared.kind.Kind as table
+use Rattle.cif_types_kinds.specs.declared.kind.Kind.TheVariants as entered
+use Rattle.cif_types_kinds.specs.Tables.{kind_in, kind_for, kind_at_slot}
+use Rattle.cif_types_kinds.proofs.SameLaws.{same-place}
+use Rattle.cif_types_kinds.proofs.NameLaws.{slot-kind}
 use Rattle.cif_types.specs.Kinds.{AreKindsOf}
 use Rattle.cif_types.specs.KindsTold.{IsKind, IsOneWith, lists_of, numbered, kind_told}
 use Rattle.cif_types.specs.declared.kinds.Kind.{Kind}

@@ -2,10 +2,10 @@
 use Rattle.std.specs.Prelude.{ℕ, ◌<◌}
 use Rattle.cif_source.specs.Source.{Source}
 use Rattle.cif_source.specs.Components.{Component}
-use Rattle.cif_rules.specs.BodyRules.{BadValue, BadUse, BadArgument, MismatchDue}
+use Rattle.cif_source.specs.BodyRules.{BadValue, BadUse, BadArgument, MismatchDue}
 use Rattle.cif_scope.specs.Tables.{IsBody}
-use Rattle.cif_kinds.specs.declared.error.KindErr.{KindErr}
-use Rattle.cif_kinds.specs.declared.error.KindErr.TheVariants.{Mismatch, Memory}
+use Rattle.cif_types_kinds.specs.declared.error.KindErr.{KindErr}
+use Rattle.cif_types_kinds.specs.declared.error.KindErr.TheVariants.{Mismatch, Memory}
 
 -- the expressions, the uses of events and the arguments of body k keep the rule
 pub record IsFine (t : Source) (k : ℕ) : Type 0 where

@@ -1,8 +1,8 @@
 -- What the kinds of a source say of it, and why a source has none.
 use Rattle.std.specs.Prelude.{ℕ}
 use Rattle.cif_source.specs.Source.{Source}
-use Rattle.cif_rules.specs.BodyRules.{MismatchDue, NotConstantDue, InitialsDue, NotOwnDue, AssignedTwiceDue, EquationsDue}
-use Rattle.cif_kinds.specs.Tables.{AreKindsIn}
+use Rattle.cif_source.specs.BodyRules.{MismatchDue, NotConstantDue, InitialsDue, NotOwnDue, AssignedTwiceDue, EquationsDue}
+use Rattle.cif_types_kinds.specs.Tables.{AreKindsIn}
 use Rattle.cif_types.specs.declared.error.TypeErr.{TypeErr}
 use Rattle.cif_types.specs.declared.error.TypeErr.TheVariants.{Mismatch, NotConstant, Initials, NotOwn, AssignedTwice, Equations, Memory}
 use Rattle.cif_types.specs.declared.kinds.Kinds.{Kinds}

@@ -1,9 +1,9 @@
 -- What is told of kinds: an enumeration by the place of its literals among all lists of literals of a source.
 use Rattle.std.specs.Prelude.{◌≡◌, ℕ, Bool, true, false, nat_lt, List, Some, slice_get}
 use Rattle.cif_source.specs.Source.{Text}
-use Rattle.cif_rules.specs.Kinds as rules
-use Rattle.cif_kinds.specs.declared.kind.Kind as table
-use Rattle.cif_kinds.specs.declared.kind.Kind.TheVariants as entered
+use Rattle.cif_source.specs.Kinds as rules
+use Rattle.cif_types_kinds.specs.declared.kind.Kind as table
+use Rattle.cif_types_kinds.specs.declared.kind.Kind.TheVariants as entered
 use Rattle.cif_types.specs.declared.kinds.Kind.{Kind}
 use Rattle.cif_types.specs.declared.kinds.Kind.TheVariants.{Bool as told_bool, Int, Enum, NoValue}
 use Rattle.cif_types.specs.declared.kinds.Kinds.{Kinds}

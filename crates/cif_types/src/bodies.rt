@@ -4,19 +4,19 @@ ghost use Rattle.std.specs.Prelude.{◌≡◌, ◌<◌, map, length, IfOk, IfErr
 ghost use Rattle.cif_ast.specs.Countable.{IsCountable};
 ghost use Rattle.cif_source.specs.Source.{source_of};
 ghost use Rattle.cif_source.specs.Objects.{bodies};
-ghost use Rattle.cif_arguments.specs.Arguments as arguments;
-ghost use Rattle.cif_rules.specs.Kinds.{no_kind};
+ghost use Rattle.cif_types_arguments.specs.Arguments as arguments;
+ghost use Rattle.cif_source.specs.Kinds.{no_kind};
 ghost use Rattle.cif_scope.specs.Scopes.{AreScopesOf};
 ghost use Rattle.cif_scope.specs.Written as written;
 ghost use Rattle.cif_scope.specs.Written.{body_of_written};
-ghost use Rattle.cif_kinds.specs.Tables.{AreKindsIn};
-ghost use Rattle.cif_kinds.specs.Readings.{IsReading, IsWrittenIn, received_in, source_for};
+ghost use Rattle.cif_types_kinds.specs.Tables.{AreKindsIn};
+ghost use Rattle.cif_types_kinds.specs.Readings.{IsReading, IsWrittenIn, received_in, source_for};
 ghost use Rattle.cif_types.specs.Bodies.{IsFine, AreFine, MismatchTold};
 
-use cif_arguments::check_arguments;
 use cif_ast::Spec;
-use cif_kinds::{Kind, KindErr, KindTable, Reading};
 use cif_scope::{Scopes, Written, number, written_bodies};
+use cif_types_arguments::check_arguments;
+use cif_types_kinds::{Kind, KindErr, KindTable, Reading};
 use std::alloc::Global;
 
 /// Checks the expressions, the uses of events and the arguments of the instances of a body.

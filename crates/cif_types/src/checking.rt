@@ -5,7 +5,7 @@ ghost use Rattle.std.specs.Result.{IfErr};
 ghost use Rattle.cif_ast.specs.Countable.{IsCountable};
 ghost use Rattle.cif_source.specs.Source.{source_of};
 ghost use Rattle.cif_scope.specs.Scopes.{AreScopesOf};
-ghost use Rattle.cif_kinds.specs.Tables.{AreKindsIn};
+ghost use Rattle.cif_types_kinds.specs.Tables.{AreKindsIn};
 ghost use Rattle.cif_types.specs.Kinds.{AreKindsOf, KeepsKinds, due};
 
 use crate::bodies::check_values;
@@ -13,12 +13,12 @@ use crate::error::TypeErr;
 use crate::initials::check_items;
 use crate::kinds::Kinds;
 use cif_ast::Spec;
-use cif_constancy::check_constancy;
-use cif_equations::check_equations;
-use cif_kinds::KindTable;
 use cif_scope::Scopes;
-use cif_targets::check_targets;
-use cif_typing::kind_table;
+use cif_types_constancy::check_constancy;
+use cif_types_equations::check_equations;
+use cif_types_kinds::KindTable;
+use cif_types_table::kind_table;
+use cif_types_targets::check_targets;
 use std::alloc::Global;
 
 /// Checks that the bodies of a source keep each of the rules on them, by the kinds of what it declares.

@@ -5,10 +5,10 @@ ghost use Rattle.cif_types.specs.Errors.{kind_error, constancy_error, target_err
 ghost use Rattle.cif_types.specs.declared.error.TypeErr.TheVariants.{Memory as no_memory};
 
 use cif_base::Memory;
-use cif_constancy::ConstancyErr;
-use cif_equations::EquationErr;
-use cif_kinds::KindErr;
-use cif_targets::TargetErr;
+use cif_types_constancy::ConstancyErr;
+use cif_types_equations::EquationErr;
+use cif_types_kinds::KindErr;
+use cif_types_targets::TargetErr;
 
 /// Why a source has no kinds, with the byte where that is, counted from 0, or that memory ran out.
 #[derive(Clone, Copy, Debug, PartialEq, Eq)]

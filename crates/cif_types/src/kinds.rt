@@ -4,13 +4,13 @@ ghost use Rattle.std.specs.Prelude.{◌≡◌};
 ghost use Rattle.cif_source.specs.Source.{Source};
 ghost use Rattle.cif_source.specs.Components.{Component, Entry};
 ghost use Rattle.cif_source.specs.Lookup.{reached};
-ghost use Rattle.cif_rules.specs.Kinds.{kind_at};
+ghost use Rattle.cif_source.specs.Kinds.{kind_at};
 ghost use Rattle.cif_scope.specs.Tables.{IsBody};
 ghost use Rattle.cif_scope.specs.Scopes.{IsEntry};
 ghost use Rattle.cif_types.specs.Kinds.{AreKindsOf};
 ghost use Rattle.cif_types.specs.KindsTold.{IsKind, IsOneWith, lists_of, kind_told};
 
-use cif_kinds::{Kind as Entered, KindTable};
+use cif_types_kinds::{Kind as Entered, KindTable};
 
 /// The kind of a value.
 #[derive(Clone, Copy, Debug, PartialEq, Eq)]

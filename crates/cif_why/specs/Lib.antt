@@ -1,3 +1,14 @@
-pub mod Words
-pub mod Requests
-pub mod Explains
+pub mod Agreeing
+pub mod Breaking
+pub mod Channels
+pub mod Leaving
+pub mod Lists
+pub mod Marked
+pub mod Marks
+pub mod Numbering
+pub mod Openings
+pub mod Parties
+pub mod Restoring
+pub mod Sent
+pub mod Stepping
+pub mod View

@@ -1,12 +1,22 @@
-//! The command `why FILE SCRIPT EVENT`: it reads a source, follows a script silently, and writes the reasons why an event has no step in
-//! the state reached.
+//! Why an event has no step in a state of a net (CIF 3 language reference, "Synchronization", "Channels", "Invariants").
 #![tactic(auto)]
 
-mod command;
-mod explaining;
-mod request;
-mod words;
+mod blocking;
+mod breaking;
+mod excluding;
+mod leaves;
+mod leaving;
+mod marked;
+mod marks;
+mod numbering;
+mod openings;
+mod parties;
+mod ranges;
+mod reason;
+mod roles;
+mod stepping;
+mod storing;
+mod telling;
 
-pub use command::why;
-pub use request::Why;
-pub use words::read_words;
+pub use reason::Reason;
+pub use telling::reasons;

@@ -6,13 +6,13 @@ use Rattle.cif_system.specs.System.{State, System}
 use Rattle.cif_system.specs.Step.{Step}
 use Rattle.cif_system.specs.Choices.{first_step}
 use Rattle.cif_system.proofs.ScanLaws.{first_step-none, first_step-step}
-use Rattle.why_face.specs.Parties.{HasOneRole}
-use Rattle.why_face.specs.Reasons.{all_reasons, reasons_of}
-use Rattle.why_face.specs.Telling.{TellsOf}
-use Rattle.why_face.specs.Told.{Told}
-use Rattle.why_face.proofs.Enough.{no-reason}
-use Rattle.why_face.proofs.Holding.{reasons-hold}
-use Rattle.why_face.proofs.Telling.{all-told}
+use Rattle.cif_why_model.specs.Parties.{HasOneRole}
+use Rattle.cif_why_model.specs.Reasons.{all_reasons, reasons_of}
+use Rattle.cif_why_model.specs.Telling.{TellsOf}
+use Rattle.cif_why_model.specs.Told.{Told}
+use Rattle.cif_why_model.proofs.Enough.{no-reason}
+use Rattle.cif_why_model.proofs.Holding.{reasons-hold}
+use Rattle.cif_why_model.proofs.Telling.{all-told}
 use Rattle.cif_why_laws.specs.Reasons.{HasNoStep, ExplainsSteps}
 
 module _ (names : ℕ → Text) (m : System) (t : Told) (one : (e : ℕ) → HasOneRole m e) (told : TellsOf names m t) where

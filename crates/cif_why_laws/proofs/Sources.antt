@@ -7,44 +7,44 @@ use Rattle.cif_system.specs.Words.{Member}
 use Rattle.cif_system.specs.System.{State, System}
 use Rattle.cif_system.specs.Choices.{first_step}
 use Rattle.cif_system.proofs.Lists.{some-same}
-use Rattle.cif_model.specs.Facts.{is_net}
-use Rattle.cif_model.specs.Inline.{Unfolds}
-use Rattle.cif_model.specs.Meaning.{defined_value, system_of_net}
-use Rattle.cif_model.specs.Net.{NetAlg, NetStored, Net}
-use Rattle.cif_plain.proofs.Solved.{member-at}
+use Rattle.cif_net_model.specs.Facts.{is_net}
+use Rattle.cif_net_model.specs.Inline.{Unfolds}
+use Rattle.cif_net_model.specs.Meaning.{defined_value, system_of_net}
+use Rattle.cif_net_model.specs.Net.{NetAlg, NetStored, Net}
+use Rattle.cif_net_laws.proofs.Solved.{member-at}
 use Rattle.cif_source.specs.Source.{Source}
 use Rattle.cif_source.specs.Components.{Component}
 use Rattle.cif_source.specs.Objects.{algs, components_of, automata, Declared, EventEdge, event_edges}
 use Rattle.cif_source.specs.Step.{alg_value, system_of}
-use Rattle.cif_rules.specs.BodyRules.{targets_of_all}
-use Rattle.cif_image.specs.Flat.{net_alg, net_of_source}
-use Rattle.cif_image.specs.Small.{HasSmallParts}
-use Rattle.cif_image.proofs.DistinctLaws.{algs-differ}
-use Rattle.cif_image.proofs.EdgeLaws.{is_some, SameValues, names_variable, names_its_objects}
-use Rattle.cif_image.proofs.RuleLaws.{all-from, constants-kept, declaration-cases}
-use Rattle.cif_image.proofs.SystemLaws.{MeansTheSame, names_all}
-use Rattle.cif_image.proofs.ValueLaws.{value-same}
-use Rattle.cif_fits.specs.Forms.{HasSmallArguments}
-use Rattle.cif_fits.proofs.FitLaws.{all-fit, demanded-fit, expressions-fit, guards-fit, sent-fit}
-use Rattle.cif_small.proofs.SmallLaws.{small-arguments, small-parts}
-use Rattle.cif_nets.proofs.Finding.{numbered, variable-denoted, variable-named}
-use Rattle.cif_nets.proofs.Forms.{automaton-home, edge-of, use-of}
-use Rattle.cif_nets.proofs.Net.{net-stands}
-use Rattle.cif_nets.proofs.Represented.{represented}
-use Rattle.cif_nets.proofs.Sound.{IsSound, few, ranges, root, scopes}
-use Rattle.cif_nets.proofs.Uses.{event-used, variable-used}
-use Rattle.sim_face.specs.Names.{Names, ValueNames}
-use Rattle.why_face.specs.Parties.{HasOneRole}
-use Rattle.why_face.specs.Reasons.{Holds, Reason, reasons_of}
-use Rattle.why_face.specs.Telling.{TellsOf}
-use Rattle.why_face.proofs.Enough.{no-reason}
-use Rattle.why_face.proofs.Telling.{all-told}
-use Rattle.sim_shown.specs.Nets.{stored_names, told_of_net, variable_path_in}
-use Rattle.sim_shown.specs.Sources.{names_of, told_of}
-use Rattle.sim_shown.proofs.NameLaws.{names-same}
-use Rattle.sim_shown.proofs.RoleLaws.{one-role-each}
-use Rattle.sim_shown.proofs.ToldLaws.{at-mapped, nets-tell}
-use Rattle.sim_shown.proofs.WholeLaws as whole
+use Rattle.cif_source.specs.BodyRules.{targets_of_all}
+use Rattle.cif_inst_model.specs.Flat.{net_alg, net_of_source}
+use Rattle.cif_inst_model.specs.Small.{HasSmallParts}
+use Rattle.cif_inst_model.proofs.DistinctLaws.{algs-differ}
+use Rattle.cif_inst_model.proofs.EdgeLaws.{is_some, SameValues, names_variable, names_its_objects}
+use Rattle.cif_inst_model.proofs.RuleLaws.{all-from, constants-kept, declaration-cases}
+use Rattle.cif_inst_model.proofs.SystemLaws.{MeansTheSame, names_all}
+use Rattle.cif_inst_model.proofs.ValueLaws.{value-same}
+use Rattle.cif_inst_laws.specs.Forms.{HasSmallArguments}
+use Rattle.cif_inst_laws.proofs.FitLaws.{all-fit, demanded-fit, expressions-fit, guards-fit, sent-fit}
+use Rattle.cif_inst_laws.proofs.SmallLaws.{small-arguments, small-parts}
+use Rattle.cif_inst_laws.proofs.Finding.{numbered, variable-denoted, variable-named}
+use Rattle.cif_inst_laws.proofs.Forms.{automaton-home, edge-of, use-of}
+use Rattle.cif_inst_laws.proofs.Net.{net-stands}
+use Rattle.cif_inst_laws.proofs.Represented.{represented}
+use Rattle.cif_inst_laws.proofs.Sound.{IsSound, few, ranges, root, scopes}
+use Rattle.cif_inst_laws.proofs.Uses.{event-used, variable-used}
+use Rattle.cif_sim_model.specs.Names.{Names, ValueNames}
+use Rattle.cif_why_model.specs.Parties.{HasOneRole}
+use Rattle.cif_why_model.specs.Reasons.{Holds, Reason, reasons_of}
+use Rattle.cif_why_model.specs.Telling.{TellsOf}
+use Rattle.cif_why_model.proofs.Enough.{no-reason}
+use Rattle.cif_why_model.proofs.Telling.{all-told}
+use Rattle.cif_sim_names.specs.Nets.{stored_names, told_of_net, variable_path_in}
+use Rattle.cif_sim_names.specs.Sources.{names_of, told_of}
+use Rattle.cif_sim_names.proofs.NameLaws.{names-same}
+use Rattle.cif_sim_names.proofs.RoleLaws.{one-role-each}
+use Rattle.cif_sim_names.proofs.ToldLaws.{at-mapped, nets-tell}
+use Rattle.cif_sim_names.proofs.WholeLaws as whole
 use Rattle.cif_why_laws.specs.Acceptable.{IsAcceptable}
 use Rattle.cif_why_laws.specs.Reasons.{ExplainsSteps, variable_path}
 use Rattle.cif_why_laws.proofs.Reasons.{explains}

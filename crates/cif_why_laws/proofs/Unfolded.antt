@@ -4,20 +4,20 @@ use Rattle.std.specs.Prelude.{option_map, option_to_list, if◌then◌else◌}
 use Rattle.std.specs.List.{zip}
 use Rattle.grammar.specs.Pieces.{Text}
 use Rattle.cif_system.specs.System.{State, System, syncing}
-use Rattle.cif_term.specs.Tree.{NetExpr, net_expr, NetForm, n_truth, n_number, n_loc, n_var, n_input, n_alg, n_received, n_minus, n_plus, n_not, n_abs, n_min, n_max, n_sum, n_product, n_compare, n_and, n_or, n_implies, n_iff, n_if, NetUpdate, net_set, net_choose, NetUpdates, no_net_updates, net_updates, NetUpdateBranches, no_net_update_branches, net_update_branches}
-use Rattle.cif_model.specs.Net.{NetAuto, NetEdge, NetExclusion, NetInvariant, Net}
-use Rattle.cif_model.specs.Exprs.{expr_at, placed, writes_all, writes_by, writes_in}
-use Rattle.cif_model.specs.Facts.{is_net}
-use Rattle.cif_model.specs.Inline.{replaced, form_replaced, updates_replaced, update_replaced, update_branches_replaced, edge_replaced, auto_replaced, net_replaced, Unfolds}
-use Rattle.cif_model.specs.Meaning.{value_in}
-use Rattle.cif_model.specs.Value.{is_true}
-use Rattle.cif_model.proofs.ValueLaws.{ap-two}
-use Rattle.cif_plain.proofs.Lists.{map-after}
-use Rattle.cif_plain.proofs.Means.{system-same}
-use Rattle.cif_plain.proofs.Settled.{Settled, settled}
-use Rattle.cif_plain.proofs.Written.{targets-same}
-use Rattle.why_face.specs.Told.{Assigned, AutomatonTold}
-use Rattle.sim_shown.specs.Nets.{event_path_in, variable_path_in, net_numbered_all, net_numbered_by, net_numbered_in, paths_of_edge, value_told, net_edge_told, told_of_net}
+use Rattle.cif_net_expr.specs.Tree.{NetExpr, net_expr, NetForm, n_truth, n_number, n_loc, n_var, n_input, n_alg, n_received, n_minus, n_plus, n_not, n_abs, n_min, n_max, n_sum, n_product, n_compare, n_and, n_or, n_implies, n_iff, n_if, NetUpdate, net_set, net_choose, NetUpdates, no_net_updates, net_updates, NetUpdateBranches, no_net_update_branches, net_update_branches}
+use Rattle.cif_net_model.specs.Net.{NetAuto, NetEdge, NetExclusion, NetInvariant, Net}
+use Rattle.cif_net_model.specs.Exprs.{expr_at, placed, writes_all, writes_by, writes_in}
+use Rattle.cif_net_model.specs.Facts.{is_net}
+use Rattle.cif_net_model.specs.Inline.{replaced, form_replaced, updates_replaced, update_replaced, update_branches_replaced, edge_replaced, auto_replaced, net_replaced, Unfolds}
+use Rattle.cif_net_model.specs.Meaning.{value_in}
+use Rattle.cif_net_model.specs.Value.{is_true}
+use Rattle.cif_net_model.proofs.ValueLaws.{ap-two}
+use Rattle.cif_net_laws.proofs.Lists.{map-after}
+use Rattle.cif_net_laws.proofs.Means.{system-same}
+use Rattle.cif_net_laws.proofs.Settled.{Settled, settled}
+use Rattle.cif_net_laws.proofs.Written.{targets-same}
+use Rattle.cif_why_model.specs.Told.{Assigned, AutomatonTold}
+use Rattle.cif_sim_names.specs.Nets.{event_path_in, variable_path_in, net_numbered_all, net_numbered_by, net_numbered_in, paths_of_edge, value_told, net_edge_told, told_of_net}
 
 -- ---- places
 

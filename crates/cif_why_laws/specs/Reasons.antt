@@ -4,9 +4,9 @@ use Rattle.grammar.specs.Pieces.{Text}
 use Rattle.cif_system.specs.Words.{Member}
 use Rattle.cif_system.specs.System.{State, System}
 use Rattle.cif_system.specs.Step.{Step}
-use Rattle.sim_face.specs.Names.{Names, ValueNames}
-use Rattle.why_face.specs.Reasons.{Holds, Reason, reasons_of}
-use Rattle.why_face.specs.Told.{Told}
+use Rattle.cif_sim_model.specs.Names.{Names, ValueNames}
+use Rattle.cif_why_model.specs.Reasons.{Holds, Reason, reasons_of}
+use Rattle.cif_why_model.specs.Told.{Told}
 
 -- the path of a variable
 abbrev pub variable_path : Names → ℕ → Text

@@ -1,15 +1,15 @@
 //! The laws, each the contract of a function without a body.
 
 ghost use Rattle.std.specs.Prelude.{◌≡◌, true};
-ghost use Rattle.cif_model.specs.Facts.{is_net};
-ghost use Rattle.cif_model.specs.Inline.{Unfolds};
-ghost use Rattle.cif_model.specs.Net.{Net};
+ghost use Rattle.cif_net_model.specs.Facts.{is_net};
+ghost use Rattle.cif_net_model.specs.Inline.{Unfolds};
+ghost use Rattle.cif_net_model.specs.Net.{Net};
 ghost use Rattle.cif_source.specs.Source.{Source};
 ghost use Rattle.cif_source.specs.Step.{system_of};
-ghost use Rattle.cif_image.specs.Flat.{net_of_source};
-ghost use Rattle.why_face.specs.Telling.{TellsOf};
-ghost use Rattle.sim_shown.specs.Nets.{told_of_net};
-ghost use Rattle.sim_shown.specs.Sources.{names_of, told_of};
+ghost use Rattle.cif_inst_model.specs.Flat.{net_of_source};
+ghost use Rattle.cif_why_model.specs.Telling.{TellsOf};
+ghost use Rattle.cif_sim_names.specs.Nets.{told_of_net};
+ghost use Rattle.cif_sim_names.specs.Sources.{names_of, told_of};
 ghost use Rattle.cif_why_laws.specs.Acceptable.{IsAcceptable};
 ghost use Rattle.cif_why_laws.specs.Reasons.{ExplainsSteps, variable_path};
 

@@ -4,17 +4,17 @@ use Rattle.std.specs.Prelude.{◌==◌, codes, option_map, slice_get, unwrap_or}
 use Rattle.std.specs.Option.{option_copied}
 use Rattle.std.proofs.lemmas.Bool.{eqb-true}
 use Rattle.grammar.specs.Pieces.{Text}
-use Rattle.cif_term.specs.View.{view}
-use Rattle.cif_model.specs.Exprs.{expr_at}
-use Rattle.cif_model.specs.Net.{Net, NetExclusion, NetInvariant}
+use Rattle.cif_net_expr.specs.View.{view}
+use Rattle.cif_net_model.specs.Exprs.{expr_at}
+use Rattle.cif_net_model.specs.Net.{Net, NetExclusion, NetInvariant}
 use Rattle.cif_net.specs.Parts.{auto_tree, exclusion_tree, invariant_tree}
 use Rattle.cif_net.specs.declared.automata.Auto.{Auto}
 use Rattle.cif_net.specs.declared.predicates.Exclusion.{Exclusion}
 use Rattle.cif_net.specs.declared.predicates.Invariant.{Invariant}
-use Rattle.why_face.specs.Lines.{place_told, reasons_text}
-use Rattle.why_face.specs.Told.{Told}
-use Rattle.cif_reasons.specs.View.{reason_tree}
-use Rattle.cif_reasons.specs.declared.reason.Reason.{Reason}
+use Rattle.cif_why_model.specs.Lines.{place_told, reasons_text}
+use Rattle.cif_why_model.specs.Told.{Told}
+use Rattle.cif_why.specs.View.{reason_tree}
+use Rattle.cif_why.specs.declared.reason.Reason.{Reason}
 use Rattle.cif_why_lines.specs.Lines.{lines_of, place_shown}
 use Rattle.cif_why_lines.proofs.TargetLaws.{automaton_told}
 

@@ -1,8 +1,8 @@
 -- A search by number finds the variable of the right side with this number.
 use Rattle.std.proofs.Common.{◌≡◌, ℕ, zero, suc, List, [], ◌∷◌, ◌++◌, map, Option, None, Some, refl, ap, ◌∙◌}
 use Rattle.std.specs.Prelude.{slice_get}
-use Rattle.cif_term.specs.Tree.{NetExpr, NetUpdate, net_set, net_choose, NetUpdates, no_net_updates, net_updates, NetUpdateBranches, no_net_update_branches, net_update_branches}
-use Rattle.cif_model.specs.Exprs.{Written, writes_all, writes_by, writes_in}
+use Rattle.cif_net_expr.specs.Tree.{NetExpr, NetUpdate, net_set, net_choose, NetUpdates, no_net_updates, net_updates, NetUpdateBranches, no_net_update_branches, net_update_branches}
+use Rattle.cif_net_model.specs.Exprs.{Written, writes_all, writes_by, writes_in}
 use Rattle.cif_why_lines.specs.Searches.{or_on, searched_all, searched_at, searched_by, searched_in}
 use Rattle.cif_why_lines.specs.Targets.{assigned_targets}
 use Rattle.cif_why_lines.specs.declared.targets.Search.{Search}

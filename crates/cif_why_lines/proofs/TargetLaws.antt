@@ -3,11 +3,11 @@ use Rattle.std.proofs.Common.{◌≡◌, ℕ, zero, suc, true, false, List, [], 
 use Rattle.std.specs.Prelude.{is_some, option_and_then, option_map, option_to_list, slice_get}
 use Rattle.std.specs.List.{zip}
 use Rattle.grammar.specs.Pieces.{Text}
-use Rattle.cif_model.specs.Exprs.{targets}
-use Rattle.cif_model.specs.Net.{Net, NetAuto, NetEdge}
-use Rattle.why_face.specs.Lines.{value_at}
-use Rattle.why_face.specs.Told.{AutomatonTold, EdgeTold}
-use Rattle.sim_shown.specs.Nets.{event_path_in, net_edge_told, told_of_net, value_told, variable_path_in}
+use Rattle.cif_net_model.specs.Exprs.{targets}
+use Rattle.cif_net_model.specs.Net.{Net, NetAuto, NetEdge}
+use Rattle.cif_why_model.specs.Lines.{value_at}
+use Rattle.cif_why_model.specs.Told.{AutomatonTold, EdgeTold}
+use Rattle.cif_sim_names.specs.Nets.{event_path_in, net_edge_told, told_of_net, value_told, variable_path_in}
 use Rattle.cif_why_lines.specs.Targets.{target_path, targets_of, value_of_auto, value_of_edge, value_with}
 use Rattle.cif_why_lines.specs.declared.targets.Target.{Target}
 use Rattle.cif_why_lines.specs.declared.targets.Target.TheVariants.{Event, Variable}

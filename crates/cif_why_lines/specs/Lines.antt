@@ -1,9 +1,9 @@
 -- The lines of reasons.
 use Rattle.std.specs.Prelude.{ℕ, List, [], ◌++◌, codes, decimal, flat_map, Option, None, Some}
 use Rattle.grammar.specs.Pieces.{Text}
-use Rattle.why_face.specs.Told.{Told}
-use Rattle.why_face.specs.Reasons.{Reason}
-use Rattle.why_face.specs.Lines.{reason_told}
+use Rattle.cif_why_model.specs.Told.{Told}
+use Rattle.cif_why_model.specs.Reasons.{Reason}
+use Rattle.cif_why_model.specs.Lines.{reason_told}
 
 abbrev pub lines_of : Told → List Reason → Text
 lines_of t rs = flat_map (λ r. reason_told t r ++ codes "\n") rs

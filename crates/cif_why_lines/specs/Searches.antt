@@ -1,6 +1,6 @@
 -- The search for a right side of updates by its number.
 use Rattle.std.specs.Prelude.{ℕ, zero, suc}
-use Rattle.cif_term.specs.Tree.{NetUpdate, net_set, net_choose, NetUpdates, no_net_updates, net_updates, NetUpdateBranches, no_net_update_branches, net_update_branches}
+use Rattle.cif_net_expr.specs.Tree.{NetUpdate, net_set, net_choose, NetUpdates, no_net_updates, net_updates, NetUpdateBranches, no_net_update_branches, net_update_branches}
 use Rattle.cif_why_lines.specs.declared.targets.Search.{Search}
 use Rattle.cif_why_lines.specs.declared.targets.Search.TheVariants.{Found, Left}
 

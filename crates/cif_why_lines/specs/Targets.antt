@@ -2,11 +2,11 @@
 use Rattle.std.specs.Prelude.{ℕ, List, ◌++◌, map, option_to_list, Option, None, Some, option_and_then, slice_get}
 use Rattle.std.specs.List.{zip}
 use Rattle.grammar.specs.Pieces.{Text}
-use Rattle.cif_term.specs.Tree.{NetExpr, NetUpdates}
-use Rattle.cif_model.specs.Net.{Net, NetAuto, NetEdge}
-use Rattle.cif_model.specs.Exprs.{targets}
-use Rattle.why_face.specs.Told.{ValueTold}
-use Rattle.sim_shown.specs.Nets.{event_path_in, paths_of_edge, value_told, variable_path_in}
+use Rattle.cif_net_expr.specs.Tree.{NetExpr, NetUpdates}
+use Rattle.cif_net_model.specs.Net.{Net, NetAuto, NetEdge}
+use Rattle.cif_net_model.specs.Exprs.{targets}
+use Rattle.cif_why_model.specs.Told.{ValueTold}
+use Rattle.cif_sim_names.specs.Nets.{event_path_in, paths_of_edge, value_told, variable_path_in}
 use Rattle.cif_why_lines.specs.declared.targets.Target.{Target}
 use Rattle.cif_why_lines.specs.declared.targets.Target.TheVariants.{Event, Variable}
 

@@ -1,20 +1,20 @@
 //! A line for each reason.
 
 ghost use Rattle.std.specs.Prelude.{◌≡◌, ◌++◌, codes, map, option_map, slice_get, OnOk};
-ghost use Rattle.why_face.specs.Lines.{auto_path, place_told, reason_told, reasons_text};
-ghost use Rattle.sim_shown.specs.Nets.{told_of_net};
-ghost use Rattle.cif_model.specs.Exprs.{expr_at};
+ghost use Rattle.cif_why_model.specs.Lines.{auto_path, place_told, reason_told, reasons_text};
+ghost use Rattle.cif_sim_names.specs.Nets.{told_of_net};
+ghost use Rattle.cif_net_model.specs.Exprs.{expr_at};
 ghost use Rattle.cif_net.specs.View.{net_tree};
 ghost use Rattle.cif_net.specs.declared.predicates.Exclusion.{Exclusion};
 ghost use Rattle.cif_net.specs.declared.predicates.Invariant.{Invariant};
-ghost use Rattle.cif_reasons.specs.View.{reason_tree};
-ghost use Rattle.cif_term.specs.View.{view};
+ghost use Rattle.cif_why.specs.View.{reason_tree};
+ghost use Rattle.cif_net_expr.specs.View.{view};
 ghost use Rattle.cif_why_lines.specs.Lines.{lines_of, place_shown};
 
 use crate::values::{put_leaves, put_place};
 use cif_base::Memory;
 use cif_net::{Exclusion, Invariant, Net, NetExpr};
-use cif_reasons::Reason;
+use cif_why::Reason;
 
 /// Appends a line for each reason why an event has no step, with paths and places of the source, or the line `enabled` where
 /// there is no reason. A number that the net lacks has no path and no place.

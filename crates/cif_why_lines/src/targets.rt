@@ -2,7 +2,7 @@
 
 ghost use Rattle.std.specs.Prelude.{◌≡◌, slice_get};
 ghost use Rattle.cif_net.specs.Parts.{edge_tree};
-ghost use Rattle.cif_term.specs.View.{view_update, view_updates, view_update_branches};
+ghost use Rattle.cif_net_expr.specs.View.{view_update, view_updates, view_update_branches};
 ghost use Rattle.cif_why_lines.specs.Searches.{searched_all, searched_at, searched_by, searched_in};
 ghost use Rattle.cif_why_lines.specs.Targets.{assigned_targets, targets_of};
 

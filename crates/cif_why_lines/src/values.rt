@@ -1,8 +1,8 @@
 //! The values of edges by place and path.
 
 ghost use Rattle.std.specs.Prelude.{◌≡◌, ◌++◌, decimal, OnOk, Some};
-ghost use Rattle.why_face.specs.Lines.{leaves_told, value_at};
-ghost use Rattle.sim_shown.specs.Nets.{event_path_in, told_of_net, variable_path_in};
+ghost use Rattle.cif_why_model.specs.Lines.{leaves_told, value_at};
+ghost use Rattle.cif_sim_names.specs.Nets.{event_path_in, told_of_net, variable_path_in};
 ghost use Rattle.cif_net.specs.Parts.{auto_tree, edge_tree};
 ghost use Rattle.cif_net.specs.View.{net_tree};
 ghost use Rattle.cif_why_lines.specs.Targets.{target_path, value_of_auto, value_of_edge, value_with};

@@ -9,3 +9,6 @@ pub mod Closing
 pub mod Runs
 pub mod Keys
 pub mod Decimals
+pub mod Fronts
+pub mod Tables
+pub mod Table

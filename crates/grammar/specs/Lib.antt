@@ -4,3 +4,4 @@ pub mod Sets
 pub mod Loops
 pub mod Pieces
 pub mod Bytes
+pub mod Classes

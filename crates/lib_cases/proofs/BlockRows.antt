@@ -1,11 +1,11 @@
 -- Worked examples of blocks of declarations as they are read, by computation: from the text to the program. That what is
--- read so is what the grammar derives, and nothing else is, are the laws `pieces_found` of `st_lex` and `read_derives` and
+-- read so is what the grammar derives, and nothing else is, are the laws `pieces_found` of `st_read` and `read_derives` and
 -- `none_derives` of `st_read`.
 use Rattle.std.proofs.Common.{◌≡◌, pos, negsuc, true, List, [], ◌∷◌, Some, None, refl}
 use Rattle.std.specs.Prelude.{codes, map, Option, filter_map}
 use Rattle.grammar.specs.Pieces.{Text, cut_from, cut_all, rest_after}
 use Rattle.grammar.specs.Reader.{one_at, many_from, deep_from}
-use Rattle.st_lex.specs.Cutting.{piece_cut}
+use Rattle.st_read.specs.Cutting.{piece_cut}
 use Rattle.st_ast.specs.Tokens.{Piece, token_of}
 use Rattle.st_ast.specs.Tree.{no_stms, Program}
 use Rattle.st_ast.specs.declared.tree.StVar.{StVar}

@@ -4,7 +4,7 @@ use crate::rules::constant_of;
 use crate::sources::tree_of;
 use case_text::{Fault, Fields, Put, first_word, number};
 use cif_ast::{Form, Name};
-use cif_components::{Components, number_components};
+use cif_inst_components::{Components, number_components};
 use cif_resolve::resolve;
 use cif_scope::Scopes;
 

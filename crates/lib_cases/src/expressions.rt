@@ -3,9 +3,9 @@
 use case_text::Fault;
 use cif_ast::{Branch, CmpOp, Expr, Factor, Form, MulOp, Name, Term};
 use cif_base::{Boxed, Items, Memory};
-use cif_expr::expr;
 use cif_lex::lex;
-use cif_term::{NetBranch, NetExpr, NetFactor, NetForm, NetTerm};
+use cif_net_expr::{NetBranch, NetExpr, NetFactor, NetForm, NetTerm};
+use cif_parse_expr::expr;
 use std::alloc::Global;
 
 /// The most bytes of a source.
@@ -36,22 +36,22 @@ fn number_of(name: &Name) -> u32 {
     }
 }
 
-fn operator_of(op: CmpOp) -> cif_term::CmpOp {
+fn operator_of(op: CmpOp) -> cif_net_expr::CmpOp {
     match op {
-        CmpOp::Eq => cif_term::CmpOp::Eq,
-        CmpOp::Ne => cif_term::CmpOp::Ne,
-        CmpOp::Lt => cif_term::CmpOp::Lt,
-        CmpOp::Le => cif_term::CmpOp::Le,
-        CmpOp::Gt => cif_term::CmpOp::Gt,
-        CmpOp::Ge => cif_term::CmpOp::Ge,
+        CmpOp::Eq => cif_net_expr::CmpOp::Eq,
+        CmpOp::Ne => cif_net_expr::CmpOp::Ne,
+        CmpOp::Lt => cif_net_expr::CmpOp::Lt,
+        CmpOp::Le => cif_net_expr::CmpOp::Le,
+        CmpOp::Gt => cif_net_expr::CmpOp::Gt,
+        CmpOp::Ge => cif_net_expr::CmpOp::Ge,
     }
 }
 
-fn factor_of(op: MulOp) -> cif_term::MulOp {
+fn factor_of(op: MulOp) -> cif_net_expr::MulOp {
     match op {
-        MulOp::Times => cif_term::MulOp::Times,
-        MulOp::Div => cif_term::MulOp::Div,
-        MulOp::Mod => cif_term::MulOp::Mod,
+        MulOp::Times => cif_net_expr::MulOp::Times,
+        MulOp::Div => cif_net_expr::MulOp::Div,
+        MulOp::Mod => cif_net_expr::MulOp::Mod,
     }
 }
 

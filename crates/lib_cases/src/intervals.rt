@@ -2,8 +2,8 @@
 
 use crate::expressions::expression_of;
 use case_text::{Fault, Fields, Put};
+use cif_alg_measure::{Ranges, expr_measure, interval};
 use cif_base::{Items, Iv};
-use cif_measure::{Ranges, expr_measure, interval};
 
 fn put_interval(page: &mut String, range: Iv) -> Put {
     write!(page, "  {} to {}", range.lo(), range.hi())

@@ -1,7 +1,7 @@
 //! Cases of the names of a generated program's variables.
 
 use case_text::{Fault, Fields, first_word, number, put_text};
-use plc_face::Letter;
+use plc_model::Letter;
 use plc_names::name_of;
 
 fn letter_named(word: &str) -> Result<Letter, Fault> {

@@ -1,7 +1,7 @@
 //! Cases of the components of a source by numbers, and of the numbers of what they declare.
 
 ghost use Rattle.std.specs.Prelude.{◌<◌, length};
-ghost use Rattle.cif_components.specs.Numbers.{AreComponentsOf};
+ghost use Rattle.cif_inst_components.specs.Numbers.{AreComponentsOf};
 ghost use Rattle.cif_scope.specs.Looks.{names_at};
 ghost use Rattle.cif_scope.specs.Scopes.{AreScopesOf};
 ghost use Rattle.cif_source.specs.Source.{source_of};
@@ -9,8 +9,8 @@ ghost use Rattle.cif_source.specs.Source.{source_of};
 use crate::components::put_components;
 use case_text::{Fault, Put, put_text};
 use cif_ast::Spec;
-use cif_components::{Component, Components, Place, number_components};
-use cif_numbers::{Counted, Numbers, number_objects};
+use cif_inst_components::{Component, Components, Place, number_components};
+use cif_inst_numbers::{Counted, Numbers, number_objects};
 use cif_scope::{Inside, Scopes, Written, written_bodies};
 use std::alloc::Global;
 

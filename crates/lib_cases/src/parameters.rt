@@ -1,16 +1,16 @@
 //! Cases of the rules on kinds, and of what the parameters of components stand for.
 
 ghost use Rattle.cif_ast.specs.Countable.{IsCountable};
-ghost use Rattle.cif_components.specs.Numbers.{AreComponentsOf};
-ghost use Rattle.cif_rules.specs.BodyRules.{MismatchDue};
+ghost use Rattle.cif_inst_components.specs.Numbers.{AreComponentsOf};
+ghost use Rattle.cif_source.specs.BodyRules.{MismatchDue};
 ghost use Rattle.cif_scope.specs.Scopes.{AreScopesOf};
 ghost use Rattle.cif_source.specs.Source.{source_of};
 ghost use Rattle.std.specs.Prelude.{ℕ};
 
 use case_text::{Fault, Put};
 use cif_ast::Spec;
-use cif_components::{Components, number_components};
-use cif_parameters::{Given, parameters};
+use cif_inst_components::{Components, number_components};
+use cif_inst_parameters::{Given, parameters};
 use cif_scope::Scopes;
 use cif_types::check_kinds;
 use std::alloc::Global;

@@ -7,13 +7,13 @@ ghost use Rattle.cif_source.specs.Source.{source_of};
 use case_text::{Fault, Put, put_text};
 use cif_ast::{Decl, Expr, Item, Spec};
 use cif_base::{Items, Text};
-use cif_constancy::check_constancy;
-use cif_constants::{NameValues, evaluate};
-use cif_equations::check_equations;
-use cif_kinds::Kind;
+use cif_inst_constants::{NameValues, evaluate};
 use cif_scope::Scopes;
-use cif_targets::check_targets;
-use cif_typing::kind_table;
+use cif_types_constancy::check_constancy;
+use cif_types_equations::check_equations;
+use cif_types_kinds::Kind;
+use cif_types_table::kind_table;
+use cif_types_targets::check_targets;
 use std::alloc::Global;
 
 /// The kinds of the names of each body.

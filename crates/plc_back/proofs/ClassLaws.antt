@@ -4,8 +4,8 @@ use Rattle.std.specs.Prelude.{slice_get, if◌then◌else◌}
 use Rattle.cif_system.specs.System.{plain}
 use Rattle.cif_system.proofs.Lists.{false-true}
 use Rattle.cif_system.specs.Step.{has_class, same_class}
-use Rattle.cif_model.specs.Net.{Net, NetEvent}
-use Rattle.cif_model.specs.Meaning.{event_in}
+use Rattle.cif_net_model.specs.Net.{Net, NetEvent}
+use Rattle.cif_net_model.specs.Meaning.{event_in}
 use Rattle.plc_back.specs.Written.{AreClassed, IsFirstUnclassed, first_unclassed}
 use Rattle.plc_back.specs.declared.error.ProfileErr.{ProfileErr}
 use Rattle.plc_back.specs.declared.error.ProfileErr.TheVariants.{Unclassed}

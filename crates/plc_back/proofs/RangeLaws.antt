@@ -6,8 +6,8 @@ use Rattle.st_ast.specs.Interface.{inputs_of, AreOfTypes}
 use Rattle.st_ast.specs.Tree.{Program}
 use Rattle.st_ast.specs.declared.tree.StVar.{StVar}
 use Rattle.st_ast.specs.declared.tree.StClass.TheVariants as class
-use Rattle.plc_face.specs.declared.letter.Letter.TheVariants as letter
-use Rattle.plc_face.specs.Face.{Face, VariableFace, HasInterface, IsFaceOf, declaration, stored_of}
+use Rattle.plc_model.specs.declared.letter.Letter.TheVariants as letter
+use Rattle.plc_model.specs.Face.{Face, VariableFace, HasInterface, IsFaceOf, declaration, stored_of}
 use Rattle.plc_back.specs.Texts.{TakesInRange}
 
 fits : (k : ℕ) (xs : List VariableFace) (row : List ℤ) → AreOfTypes (map (declaration letter.I class.Input) (enumerate_from k xs)) row → AllFit (map stored_of xs) row

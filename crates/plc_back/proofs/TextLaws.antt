@@ -2,30 +2,30 @@
 use Rattle.std.proofs.Common.{◌≡◌, ℕ, true, sym, subst}
 use Rattle.grammar.specs.Pieces.{Text}
 use Rattle.cif_system.specs.System.{initial}
-use Rattle.cif_model.specs.Net.{Net}
-use Rattle.cif_model.specs.Listing.{guarded_of}
-use Rattle.cif_model.specs.Meaning.{system_of_net}
+use Rattle.cif_net_model.specs.Net.{Net}
+use Rattle.cif_net_model.specs.Listing.{guarded_of}
+use Rattle.cif_net_model.specs.Meaning.{system_of_net}
 use Rattle.st_ast.specs.ReadsAs.{ReadsBack}
 use Rattle.st_ast.specs.Scan.{start_memory}
 use Rattle.st_ast.specs.Spelled.{is_spelled}
 use Rattle.st_ast.specs.Tree.{Program}
 use Rattle.st_print.proofs.PrintedPrograms.{reads_back}
-use Rattle.plc_face.specs.Face.{HasInterface, StateOf}
-use Rattle.plc_face.specs.Scans.{NeverFaults, RunsFirstSteps, ScansLegally, ScansExactly, ShowsOutputs, StaysTyped}
-use Rattle.plc_face.proofs.ScanLaws.{exact-first, exact-legal}
-use Rattle.plc_gen.specs.Faces.{face_of_net}
-use Rattle.plc_gen.specs.Makes.{Makes}
-use Rattle.plc_gen.proofs.Facts.{face-is}
-use Rattle.plc_parts.specs.Parts.{data_program}
-use Rattle.plc_sound.proofs.Whole.{program-spelled}
-use Rattle.plc_fits.proofs.FitLaws.{fitted-makes}
+use Rattle.plc_model.specs.Face.{HasInterface, StateOf}
+use Rattle.plc_model.specs.Scans.{NeverFaults, RunsFirstSteps, ScansLegally, ScansExactly, ShowsOutputs, StaysTyped}
+use Rattle.plc_model.proofs.ScanLaws.{exact-first, exact-legal}
+use Rattle.plc_frame.specs.Faces.{face_of_net}
+use Rattle.plc_frame.specs.Makes.{Makes}
+use Rattle.plc_frame.proofs.Facts.{face-is}
+use Rattle.plc_event_model.specs.ProgramParts.{net_program}
+use Rattle.plc_gen_laws.proofs.Whole.{program-spelled}
+use Rattle.plc_gen_laws.proofs.FitLaws.{fitted-makes}
 use Rattle.plc_back.specs.Texts.{IsLayoutOf, TakesInRange, TheProgram}
 use Rattle.plc_back.specs.Written.{IsTextOf}
 use Rattle.plc_back.proofs.RangeLaws.{takes}
 
 module _ (n : Net) (U C : ℕ) (text : Text) (h : IsTextOf n U C text) where
   abbrev written : Program
-  written = data_program n (guarded_of n) U C
+  written = net_program n (guarded_of n) U C
 
   made : Makes n U C written
   made = fitted-makes n (guarded_of n) U C h.has.parts h.has.shallow

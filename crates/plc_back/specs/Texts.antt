@@ -7,7 +7,7 @@ use Rattle.st_ast.specs.Interface.{inputs_of, AreOfTypes}
 use Rattle.st_ast.specs.Tree.{Program}
 use Rattle.st_ast.specs.ReadsAs.{ReadsAsProgram}
 use Rattle.st_print.specs.Layout.{printed}
-use Rattle.plc_face.specs.Scans.{AreRows}
+use Rattle.plc_model.specs.Scans.{AreRows}
 
 -- the text reads as one program and no other, and that is so
 abbrev pub TheProgram : Text → (Program → Type 0) → Type 0

@@ -3,12 +3,12 @@ use Rattle.std.specs.Prelude.{◌≡◌, ℕ, ◌+◌, ◌<◌, true, IsTrue, Li
 use Rattle.grammar.specs.Pieces.{Text}
 use Rattle.cif_system.specs.System.{plain}
 use Rattle.cif_system.specs.Step.{is_of, same_class}
-use Rattle.cif_model.specs.Net.{Net, NetEvent}
-use Rattle.cif_model.specs.Meaning.{system_of_net}
-use Rattle.cif_model.specs.Listing.{guarded_of}
+use Rattle.cif_net_model.specs.Net.{Net, NetEvent}
+use Rattle.cif_net_model.specs.Meaning.{system_of_net}
+use Rattle.cif_net_model.specs.Listing.{guarded_of}
 use Rattle.st_print.specs.Layout.{printed}
-use Rattle.cif_nesting.specs.Nesting.{is_shallow}
-use Rattle.plc_parts.specs.Parts.{HasParts, data_program}
+use Rattle.cif_net_model.specs.Nesting.{is_shallow}
+use Rattle.plc_event_model.specs.ProgramParts.{HasParts, net_program}
 
 -- A plain net whose conditional updates nest no deeper than statements can, and these bounds. The literals of an enumeration
 -- are numbered in 32 bits, and the program's own variables in 31.
@@ -32,7 +32,7 @@ IsFirstUnclassed n e = IsUnclassed n e × ((k : ℕ) → k < e → IsUnclassed n
 pub record IsTextOf (n : Net) (U C : ℕ) (text : Text) : Type 0 where
   pub has : HasProgram n U C
   pub classed : AreClassed n
-  pub is : text ≡ printed (data_program n (guarded_of n) U C)
+  pub is : text ≡ printed (net_program n (guarded_of n) U C)
 
 -- the first of the events without a class, where they have numbers from k on
 abbrev pub first_unclassed : ℕ → List NetEvent → Option ℕ

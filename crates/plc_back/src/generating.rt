@@ -2,17 +2,17 @@
 
 ghost use Rattle.std.specs.Prelude.{◌≡◌, ◌<◌, ◌≤◌, ◌^◌, ℕ, true, length, map, IfOk, Err};
 ghost use Rattle.cif_net.specs.View.{net_tree, choice_tree, event_tree};
-ghost use Rattle.cif_nesting.specs.Nesting.{is_shallow};
+ghost use Rattle.cif_net_model.specs.Nesting.{is_shallow};
 ghost use Rattle.st_print.specs.Layout.{printed};
-ghost use Rattle.plc_parts.specs.Parts.{HasParts, data_program};
+ghost use Rattle.plc_event_model.specs.ProgramParts.{HasParts, net_program};
 ghost use Rattle.plc_back.specs.Written.{IsFirstUnclassed, IsTextOf, first_unclassed};
 ghost use Rattle.plc_back.specs.declared.error.ProfileErr.TheVariants.{Unclassed};
 
 use crate::error::ProfileErr;
 use cif_base::Memory;
 use cif_net::{Class, Event, Guarded};
-use plc_code::emit;
-use plc_gen::Bounds;
+use plc_frame::Bounds;
+use plc_gen::emit;
 use st_print::print;
 use std::alloc::Global;
 
@@ -58,7 +58,7 @@ fn program_text(alloc: Global, guarded: &Guarded, bounds: Bounds) -> Result<Vec<
     requires unc { bounds.unc ≤ 10000 }
     requires con { bounds.con ≤ 10000 }
     ensures text { IfOk result (λ text. text.items
-        ≡ printed (data_program (net_tree guarded.now.plain.net) (map choice_tree guarded.now.choices) bounds.unc bounds.con)) }
+        ≡ printed (net_program (net_tree guarded.now.plain.net) (map choice_tree guarded.now.choices) bounds.unc bounds.con)) }
     ensures parts { IfOk result
         (λ text. HasParts (net_tree guarded.now.plain.net) (map choice_tree guarded.now.choices) bounds.unc bounds.con) }
 {

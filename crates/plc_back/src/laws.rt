@@ -3,12 +3,12 @@
 
 ghost use Rattle.std.specs.Prelude.{ℕ, List};
 ghost use Rattle.cif_system.specs.System.{initial};
-ghost use Rattle.cif_model.specs.Net.{Net};
-ghost use Rattle.cif_model.specs.Meaning.{system_of_net};
+ghost use Rattle.cif_net_model.specs.Net.{Net};
+ghost use Rattle.cif_net_model.specs.Meaning.{system_of_net};
 ghost use Rattle.st_ast.specs.Scan.{start_memory};
-ghost use Rattle.plc_face.specs.Face.{HasInterface, StateOf};
-ghost use Rattle.plc_face.specs.Scans.{NeverFaults, RunsFirstSteps, ScansLegally, ScansExactly, ShowsOutputs, StaysTyped};
-ghost use Rattle.plc_gen.specs.Faces.{face_of_net};
+ghost use Rattle.plc_model.specs.Face.{HasInterface, StateOf};
+ghost use Rattle.plc_model.specs.Scans.{NeverFaults, RunsFirstSteps, ScansLegally, ScansExactly, ShowsOutputs, StaysTyped};
+ghost use Rattle.plc_frame.specs.Faces.{face_of_net};
 ghost use Rattle.plc_back.specs.Texts.{IsLayoutOf, TakesInRange, TheProgram};
 ghost use Rattle.plc_back.specs.Written.{IsTextOf};
 

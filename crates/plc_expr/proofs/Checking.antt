@@ -2,18 +2,18 @@
 use Rattle.std.proofs.Common.{◌≡◌, ℕ, ◌+◌, Bool, true, List, [], ◌++◌, Option, Some, refl, sym, ap, subst, ◌∙◌}
 use Rattle.grammar.specs.Pieces.{Text}
 use Rattle.cif_base.specs.declared.types.Ty.{Ty}
-use Rattle.cif_term.specs.Tree.{NetExpr, net_expr, NetForm, n_truth, n_number, n_loc, n_var, n_input, n_alg, n_received, n_minus, n_plus, n_not, n_abs, n_min, n_max, n_sum, n_product, n_compare, n_and, n_or, n_implies, n_iff, n_if, NetExprs, no_net_exprs, net_exprs, NetTerms, no_net_terms, net_terms, NetFactors, no_net_factors, net_factors, NetBranches, no_net_branches, net_branches}
-use Rattle.cif_model.specs.Net.{Net}
-use Rattle.cif_model.specs.Kinds.{Kind, bool_kind, int_kind, is_bool, fits, form_fits, terms_fit, factors_fit, all_fit, branches_fit}
-use Rattle.cif_model.specs.Reads.{names_in, form_names, term_names, factor_names, list_names, branch_names}
-use Rattle.cif_model.proofs.Passing.{and-left, and-right}
+use Rattle.cif_net_expr.specs.Tree.{NetExpr, net_expr, NetForm, n_truth, n_number, n_loc, n_var, n_input, n_alg, n_received, n_minus, n_plus, n_not, n_abs, n_min, n_max, n_sum, n_product, n_compare, n_and, n_or, n_implies, n_iff, n_if, NetExprs, no_net_exprs, net_exprs, NetTerms, no_net_terms, net_terms, NetFactors, no_net_factors, net_factors, NetBranches, no_net_branches, net_branches}
+use Rattle.cif_net_model.specs.Net.{Net}
+use Rattle.cif_net_model.specs.Kinds.{Kind, bool_kind, int_kind, is_bool, fits, form_fits, terms_fit, factors_fit, all_fit, branches_fit}
+use Rattle.cif_net_model.specs.Reads.{names_in, form_names, term_names, factor_names, list_names, branch_names}
+use Rattle.cif_net_model.proofs.Passing.{and-left, and-right}
 use Rattle.st_ast.specs.Tree.{Expr, Stms, Branches, assign, no_stms, stms, no_branches, branches, append}
 use Rattle.st_ast.specs.Checks.{Sort, boolean, integer, sort_of_type, is_same_sort, sort_of, knows_conditions, boolean_conditions, stm_count, stm_faults, stms_faults, branches_faults}
 use Rattle.st_ast.specs.declared.tree.StVar.{StVar}
 use Rattle.st_ast.specs.declared.tree.StTy.{StTy}
 use Rattle.plc_expr.specs.Texts.{Naming, temps, branches_temps, text, branches_text, case_text, before, form_before, terms_before, factors_before, list_before, branches_before}
 use Rattle.plc_expr.specs.Sorts.{type_by, own_types, form_types, terms_types, factors_types, list_types, branches_types, HasSort, NamesHaveSorts, OwnIs, AreOwn}
-use Rattle.cif_safe.proofs.Sides.{sides-fit}
+use Rattle.cif_net_model.proofs.Sides.{sides-fit}
 use Rattle.plc_expr.proofs.Sorting.{NoAlg, no-algs, bool-by, types-length, branches-length, sort-of_type, own-both, expr-sort}
 
 module _ (vars : List StVar) where

@@ -2,12 +2,12 @@
 use Rattle.std.proofs.Common.{◌≡◌, ℕ, ◌+◌, ◌<◌, ◌≤◌, ℤ, pos, List, length, refl, sym, ap, ◌∙◌, arith, length-set}
 use Rattle.std.specs.Prelude.{slice_get, slice_set, slice_index_or, unwrap_or}
 use Rattle.std.proofs.lemmas.Option.{unwrap_or-slice_get}
-use Rattle.cif_term.specs.Tree.{NetExpr, net_expr, NetForm, n_truth, n_number, n_loc, n_var, n_input, n_alg, n_received, n_minus, n_plus, n_not, n_abs, n_min, n_max, n_sum, n_product, n_compare, n_and, n_or, n_implies, n_iff, n_if, NetExprs, no_net_exprs, net_exprs, NetTerms, no_net_terms, net_terms, NetFactors, no_net_factors, net_factors, NetBranches, no_net_branches, net_branches}
+use Rattle.cif_net_expr.specs.Tree.{NetExpr, net_expr, NetForm, n_truth, n_number, n_loc, n_var, n_input, n_alg, n_received, n_minus, n_plus, n_not, n_abs, n_min, n_max, n_sum, n_product, n_compare, n_and, n_or, n_implies, n_iff, n_if, NetExprs, no_net_exprs, net_exprs, NetTerms, no_net_terms, net_terms, NetFactors, no_net_factors, net_factors, NetBranches, no_net_branches, net_branches}
 use Rattle.st_ast.specs.Values.{Memory}
 use Rattle.st_ast.specs.declared.tree.StVar.{StVar}
-use Rattle.plc_face.proofs.FaceLaws.{slice_get-set_same, slice_get-set_other}
+use Rattle.plc_model.proofs.FaceLaws.{slice_get-set_same, slice_get-set_other}
 use Rattle.plc_expr.specs.Texts.{Naming, temps, form_temps, terms_temps, factors_temps, list_temps, branches_temps}
-use Rattle.cif_safe.specs.Safe.{Setting}
+use Rattle.cif_net_model.specs.Safe.{Setting}
 use Rattle.plc_expr.specs.Held.{held_at, Held, HeldForm, HeldTerms, HeldFactors, HeldList, HeldBranches, OwnPlaces, IsBeside}
 
 -- what is read at a place is told from the place

@@ -1,16 +1,16 @@
 -- The numbers of nets and those of Structured Text: they are compared, tested and bounded alike.
 use Rattle.std.proofs.Common.{◌≡◌, ℤ, pos, negsuc, Bool, true, false, if◌then◌else◌, refl, sym, subst, ap, ◌∙◌, arith}
 use Rattle.std.specs.Prelude.{◌*ℤ◌, int_div, int_rem, Ok, Err}
-use Rattle.cif_term.specs.Tree.{MulOp, times, divided, modulo}
+use Rattle.cif_net_expr.specs.Tree.{MulOp, times, divided, modulo}
 use Rattle.std.specs.Ordering.{int_eq}
 use Rattle.std.specs.Int.{int_min, int_max}
 use Rattle.std.proofs.lemmas.Int.{ints, clamps}
 use Rattle.std.proofs.lemmas.Bool.Decides.{nat_tests}
-use Rattle.cif_model.specs.Value as v
-use Rattle.cif_model.specs.Kinds.{in_32_bits}
+use Rattle.cif_net_model.specs.Value as v
+use Rattle.cif_net_model.specs.Kinds.{in_32_bits}
 use Rattle.st_ast.specs.Values.{of_bool, is_true, same_number, smaller, larger, fits, checked, overflow, zero_divide, added, multiplied}
 use Rattle.plc_expr.specs.Texts.{mul_of}
-use Rattle.cif_safe.specs.Safe.{IsTruth, HasBits, CanDivide}
+use Rattle.cif_net_model.specs.Safe.{IsTruth, HasBits, CanDivide}
 
 pub same-truth : (b : Bool) → of_bool b ≡ v.of_bool b
 same-truth true = refl

@@ -3,7 +3,7 @@ use Rattle.std.proofs.Common.{◌≡◌, ℕ, pos, negsuc, true, false, ◌∷�
 use Rattle.std.specs.Prelude.{codes, decimal}
 use Rattle.std.specs.Fmt.{digits}
 use Rattle.grammar.specs.Pieces.{Text}
-use Rattle.cif_term.specs.Tree.{eq, ne, lt, le, gt, ge, times, divided, modulo, NetExpr, net_expr, NetForm, n_truth, n_number, n_loc, n_var, n_input, n_received, n_minus, n_plus, n_not, n_abs, n_min, n_max, n_sum, n_product, n_compare, n_and, n_or, n_implies, n_iff, n_if, no_net_exprs, net_exprs, no_net_terms, net_terms, no_net_factors, net_factors, no_net_branches, net_branches}
+use Rattle.cif_net_expr.specs.Tree.{eq, ne, lt, le, gt, ge, times, divided, modulo, NetExpr, net_expr, NetForm, n_truth, n_number, n_loc, n_var, n_input, n_received, n_minus, n_plus, n_not, n_abs, n_min, n_max, n_sum, n_product, n_compare, n_and, n_or, n_implies, n_iff, n_if, no_net_exprs, net_exprs, no_net_terms, net_terms, no_net_factors, net_factors, no_net_branches, net_branches}
 use Rattle.st_ast.specs.Tree.{Expr, truth, number, named, paren, negation, complement, product, sum, order, equal, all_of, any_of, absolute, least, greatest, no_exprs, exprs, no_factors, factors, no_terms, terms, assign, choice, no_stms, stms, no_branches, branches, other}
 use Rattle.st_ast.specs.declared.tree.StMul.TheVariants as mul
 use Rattle.st_ast.specs.declared.tree.StOrder.TheVariants as cmp

@@ -2,17 +2,17 @@
 use Rattle.std.proofs.Common.{◌≡◌, ℕ, ◌+◌, ◌<◌, ◌≤◌, ℤ, pos, Bool, true, false, ◌++◌, length, Ok, refl, sym, ap, subst, ◌∙◌, if◌then◌else◌, arith}
 use Rattle.std.specs.Prelude.{List, slice_set, slice_index_or}
 use Rattle.std.specs.List.{AllByRecursion}
-use Rattle.cif_term.specs.Tree.{NetExpr, net_expr, NetForm, n_truth, n_number, n_loc, n_var, n_input, n_alg, n_received, n_minus, n_plus, n_not, n_abs, n_min, n_max, n_sum, n_product, n_compare, n_and, n_or, n_implies, n_iff, n_if, NetExprs, no_net_exprs, net_exprs, NetTerms, no_net_terms, net_terms, NetFactors, no_net_factors, net_factors, NetBranches, no_net_branches, net_branches}
-use Rattle.cif_model.specs.Value as v
-use Rattle.cif_model.specs.Reads.{Read, names_in, form_names, term_names, factor_names, list_names, branch_names}
-use Rattle.cif_model.proofs.ValueLaws.{all-parts}
+use Rattle.cif_net_expr.specs.Tree.{NetExpr, net_expr, NetForm, n_truth, n_number, n_loc, n_var, n_input, n_alg, n_received, n_minus, n_plus, n_not, n_abs, n_min, n_max, n_sum, n_product, n_compare, n_and, n_or, n_implies, n_iff, n_if, NetExprs, no_net_exprs, net_exprs, NetTerms, no_net_terms, net_terms, NetFactors, no_net_factors, net_factors, NetBranches, no_net_branches, net_branches}
+use Rattle.cif_net_model.specs.Value as v
+use Rattle.cif_net_model.specs.Reads.{Read, names_in, form_names, term_names, factor_names, list_names, branch_names}
+use Rattle.cif_net_model.proofs.ValueLaws.{all-parts}
 use Rattle.st_ast.specs.Tree.{Expr, Stms, assign, no_stms, stms, other, append}
 use Rattle.st_ast.specs.Values.{Memory, is_true, with_value, value_of}
 use Rattle.st_ast.specs.Exec.{Outcome, Ended, Faulted, and_then, exec, exec_one, exec_other, exec_choice}
 use Rattle.st_ast.proofs.Runs.{append_runs, assign_runs}
 use Rattle.st_ast.specs.declared.tree.StVar.{StVar}
 use Rattle.plc_expr.specs.Texts.{Naming, temps, form_temps, terms_temps, factors_temps, list_temps, branches_temps, text, branches_text, case_text, before, form_before, terms_before, factors_before, list_before, branches_before}
-use Rattle.cif_safe.specs.Safe.{Setting, value_at, IsSafe, IsSafeForm, AreSafeTerms, AreSafeFactors, AreSafeTruths, AreSafeBranches}
+use Rattle.cif_net_model.specs.Safe.{Setting, value_at, IsSafe, IsSafeForm, AreSafeTerms, AreSafeFactors, AreSafeTruths, AreSafeBranches}
 use Rattle.plc_expr.specs.Held.{held_at, IsRead, Reads, Held, HeldForm, HeldTerms, HeldFactors, HeldList, HeldBranches, OwnPlaces, IsBeside, Prepares}
 use Rattle.plc_expr.proofs.Numbers.{truth-is}
 use Rattle.plc_expr.proofs.Values.{text-value}

@@ -8,12 +8,12 @@ use Rattle.std.proofs.lemmas.List.{length-append}
 use Rattle.grammar.specs.Pieces.{Text}
 use Rattle.cif_base.specs.declared.types.Ty.{Ty}
 use Rattle.cif_base.specs.declared.types.Ty.TheVariants as cif_ty
-use Rattle.cif_term.specs.Tree.{CmpOp, eq, ne, lt, le, gt, ge, NetExpr, net_expr, NetForm, n_truth, n_number, n_loc, n_var, n_input, n_alg, n_received, n_minus, n_plus, n_not, n_abs, n_min, n_max, n_sum, n_product, n_compare, n_and, n_or, n_implies, n_iff, n_if, NetExprs, no_net_exprs, net_exprs, NetTerms, no_net_terms, net_terms, NetFactors, no_net_factors, net_factors, NetBranches, no_net_branches, net_branches}
-use Rattle.cif_model.specs.Net.{NetStored, Net}
-use Rattle.cif_model.specs.Kinds.{Kind, bool_kind, int_kind, enum_kind, is_bool, is_int, is_equality, same_kind, kind_of, has_type, number_fits, stored_fits, received_fits, fits, form_fits, terms_fit, factors_fit, all_fit}
-use Rattle.cif_model.specs.Reads.{Read, alg_passes, names_in, form_names, term_names, factor_names, list_names, branch_names}
-use Rattle.cif_model.proofs.Passing.{and-left, and-right, both-pass}
-use Rattle.cif_model.proofs.PlainLaws.{never}
+use Rattle.cif_net_expr.specs.Tree.{CmpOp, eq, ne, lt, le, gt, ge, NetExpr, net_expr, NetForm, n_truth, n_number, n_loc, n_var, n_input, n_alg, n_received, n_minus, n_plus, n_not, n_abs, n_min, n_max, n_sum, n_product, n_compare, n_and, n_or, n_implies, n_iff, n_if, NetExprs, no_net_exprs, net_exprs, NetTerms, no_net_terms, net_terms, NetFactors, no_net_factors, net_factors, NetBranches, no_net_branches, net_branches}
+use Rattle.cif_net_model.specs.Net.{NetStored, Net}
+use Rattle.cif_net_model.specs.Kinds.{Kind, bool_kind, int_kind, enum_kind, is_bool, is_int, is_equality, same_kind, kind_of, has_type, number_fits, stored_fits, received_fits, fits, form_fits, terms_fit, factors_fit, all_fit}
+use Rattle.cif_net_model.specs.Reads.{Read, alg_passes, names_in, form_names, term_names, factor_names, list_names, branch_names}
+use Rattle.cif_net_model.proofs.Passing.{and-left, and-right, both-pass}
+use Rattle.cif_net_model.proofs.PlainLaws.{never}
 use Rattle.st_ast.specs.Tree.{Expr, Factors, Terms, truth, named, negation, complement, order, equal, absolute, least, greatest, exprs_of, no_factors, factors, no_terms, terms}
 use Rattle.st_ast.specs.Checks.{sort_of_type, is_same_sort, all_integers, all_integer_factors, all_booleans, knows_all, knows_terms, knows_factors}
 use Rattle.st_ast.specs.declared.tree.StVar.{StVar}
@@ -23,7 +23,7 @@ use Rattle.st_ast.specs.declared.tree.StOrder.TheVariants as cmp
 use Rattle.st_ast.specs.declared.tree.StTy.{StTy}
 use Rattle.plc_expr.specs.Texts.{Naming, is_leaf, is_joined, is_test, is_factor, is_term, wrapped, operand, side, factor, term, number_text, negated, all_said, conjunction, said_or, all_said_or, disjunction, implication, comparison, mul_of, sum_text, product_text, temps, form_temps, terms_temps, factors_temps, list_temps, branches_temps, text, form_text, terms_text, factors_text, texts}
 use Rattle.plc_expr.specs.Sorts.{is_bool_type, stored_boolean, received_boolean, is_boolean, form_boolean, sort_by, type_by, own_types, form_types, terms_types, factors_types, list_types, branches_types, HasSort, NamesHaveSorts, OwnIs, AreOwn}
-use Rattle.cif_safe.proofs.Sides.{sides-fit}
+use Rattle.cif_net_model.proofs.Sides.{sides-fit}
 use Rattle.plc_expr.proofs.Spelling.{said-all, said_or-all}
 
 -- ---- kinds

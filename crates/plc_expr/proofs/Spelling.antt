@@ -6,17 +6,17 @@ use Rattle.std.specs.List.{AllByRecursion}
 use Rattle.std.proofs.lemmas.Bool.Decides.{nat_tests}
 use Rattle.std.proofs.lemmas.Int.{ints}
 use Rattle.cif_base.specs.declared.types.Ty.{Ty}
-use Rattle.cif_term.specs.Tree.{CmpOp, eq, ne, lt, le, gt, ge, NetExpr, net_expr, NetForm, n_truth, n_number, n_loc, n_var, n_input, n_alg, n_received, n_minus, n_plus, n_not, n_abs, n_min, n_max, n_sum, n_product, n_compare, n_and, n_or, n_implies, n_iff, n_if, NetExprs, no_net_exprs, net_exprs, NetTerms, no_net_terms, net_terms, NetFactors, no_net_factors, net_factors, NetBranches, no_net_branches, net_branches}
-use Rattle.cif_model.specs.Net.{Net}
-use Rattle.cif_model.specs.Counts.{Measure, measure_by, form_measure, terms_measure, factors_measure, list_measure, branches_measure}
-use Rattle.cif_model.specs.Kinds.{Kind, bool_kind, int_kind, in_32_bits, fits, form_fits, terms_fit, factors_fit, all_fit, branches_fit}
-use Rattle.cif_model.proofs.Passing.{and-left, and-right}
+use Rattle.cif_net_expr.specs.Tree.{CmpOp, eq, ne, lt, le, gt, ge, NetExpr, net_expr, NetForm, n_truth, n_number, n_loc, n_var, n_input, n_alg, n_received, n_minus, n_plus, n_not, n_abs, n_min, n_max, n_sum, n_product, n_compare, n_and, n_or, n_implies, n_iff, n_if, NetExprs, no_net_exprs, net_exprs, NetTerms, no_net_terms, net_terms, NetFactors, no_net_factors, net_factors, NetBranches, no_net_branches, net_branches}
+use Rattle.cif_net_model.specs.Net.{Net}
+use Rattle.cif_net_model.specs.Counts.{Measure, measure_by, form_measure, terms_measure, factors_measure, list_measure, branches_measure}
+use Rattle.cif_net_model.specs.Kinds.{Kind, bool_kind, int_kind, in_32_bits, fits, form_fits, terms_fit, factors_fit, all_fit, branches_fit}
+use Rattle.cif_net_model.proofs.Passing.{and-left, and-right}
 use Rattle.st_ast.specs.Grammar.{Level, at_or, at_xor, at_equal, at_order, at_sum, at_product, at_unary}
 use Rattle.st_ast.specs.Tree.{Expr, Factors, Terms, Stms, Branches, truth, named, negation, complement, product, sum, order, equal, all_of, odd_of, any_of, absolute, least, greatest, exprs_of, no_factors, factors, no_terms, terms, assign, no_stms, stms, no_branches, branches, append}
 use Rattle.st_ast.specs.Spelled.{has_literal, is_name, is_expr, are_exprs, are_terms, are_factors, is_whole_expr, is_stm, are_stms, are_branches}
 use Rattle.plc_expr.specs.Texts.{Naming, is_leaf, is_joined, is_test, is_factor, is_term, wrapped, operand, side, factor, term, number_text, negated, says, said, all_said, conjunction, says_or, said_or, all_said_or, disjunction, implication, comparison, sum_text, product_text, temps, branches_temps, text, form_text, terms_text, factors_text, texts, branches_text, case_text, before, form_before, terms_before, factors_before, list_before, branches_before}
 use Rattle.plc_expr.specs.Sorts.{NamesAreSpelled}
-use Rattle.cif_safe.proofs.Sides.{sides-fit, number-small}
+use Rattle.cif_net_model.proofs.Sides.{sides-fit, number-small}
 
 both-true : (a b : Bool) → a ≡ true → b ≡ true → (a && b) ≡ true
 both-true a b x y = rw x y

@@ -4,14 +4,14 @@ use Rattle.std.specs.Prelude.{is_some, nat_lt}
 use Rattle.std.specs.List.{list_all, AllByRecursion}
 use Rattle.std.proofs.lemmas.Bool.Decides.{nat_tests}
 use Rattle.cif_base.specs.declared.types.Ty.{Ty}
-use Rattle.cif_term.specs.Tree.{NetExpr, net_expr, NetForm, n_truth, n_number, n_loc, n_var, n_input, n_alg, n_received, n_minus, n_plus, n_not, n_abs, n_min, n_max, n_sum, n_product, n_compare, n_and, n_or, n_implies, n_iff, n_if, NetExprs, no_net_exprs, net_exprs, NetTerms, no_net_terms, net_terms, NetFactors, no_net_factors, net_factors, NetBranches, no_net_branches, net_branches}
-use Rattle.cif_model.specs.Net.{NetAuto, NetStored, Net}
-use Rattle.cif_model.specs.Kinds.{Kind, bool_kind, int_kind, places_of, stored_fits, received_fits, fits, form_fits, terms_fit, factors_fit, all_fit, branches_fit}
-use Rattle.cif_model.specs.Reads.{Read, alg_passes, names_in, form_names, term_names, factor_names, list_names, branch_names}
-use Rattle.cif_model.proofs.Passing.{and-left, and-right, both-pass}
-use Rattle.cif_model.proofs.PlainLaws.{never}
+use Rattle.cif_net_expr.specs.Tree.{NetExpr, net_expr, NetForm, n_truth, n_number, n_loc, n_var, n_input, n_alg, n_received, n_minus, n_plus, n_not, n_abs, n_min, n_max, n_sum, n_product, n_compare, n_and, n_or, n_implies, n_iff, n_if, NetExprs, no_net_exprs, net_exprs, NetTerms, no_net_terms, net_terms, NetFactors, no_net_factors, net_factors, NetBranches, no_net_branches, net_branches}
+use Rattle.cif_net_model.specs.Net.{NetAuto, NetStored, Net}
+use Rattle.cif_net_model.specs.Kinds.{Kind, bool_kind, int_kind, places_of, stored_fits, received_fits, fits, form_fits, terms_fit, factors_fit, all_fit, branches_fit}
+use Rattle.cif_net_model.specs.Reads.{Read, alg_passes, names_in, form_names, term_names, factor_names, list_names, branch_names}
+use Rattle.cif_net_model.proofs.Passing.{and-left, and-right, both-pass}
+use Rattle.cif_net_model.proofs.PlainLaws.{never}
 use Rattle.plc_expr.specs.Held.{IsThere}
-use Rattle.cif_safe.proofs.Sides.{sides-fit}
+use Rattle.cif_net_model.proofs.Sides.{sides-fit}
 
 below : {A : Type 0} (xs : List A) (k : ℕ) → is_some (slice_get xs k) ≡ true → k < length xs
 below [] k h = never h

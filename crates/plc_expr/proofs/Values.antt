@@ -2,20 +2,20 @@
 -- which its own variables hold what they are to hold.
 use Rattle.std.proofs.Common.{◌≡◌, ℕ, ◌+◌, ℤ, pos, negsuc, neg_ℤ, nat_abs, Bool, true, false, not, ◌&&◌, ◌||◌, List, [], ◌∷◌, map, Result, Ok, Err, refl, sym, ap, subst, ◌∙◌, if◌then◌else◌}
 use Rattle.std.specs.List.{AllByRecursion}
-use Rattle.cif_term.specs.Tree.{CmpOp, eq, ne, lt, le, gt, ge, NetExpr, net_expr, NetForm, n_truth, n_number, n_loc, n_var, n_input, n_alg, n_received, n_minus, n_plus, n_not, n_abs, n_min, n_max, n_sum, n_product, n_compare, n_and, n_or, n_implies, n_iff, n_if, NetExprs, no_net_exprs, net_exprs, NetTerms, no_net_terms, net_terms, NetFactors, no_net_factors, net_factors}
-use Rattle.cif_model.specs.Value as v
-use Rattle.cif_model.specs.Reads.{names_in, form_names, term_names, factor_names, list_names}
-use Rattle.cif_model.proofs.ValueLaws.{all-parts}
-use Rattle.cif_term.specs.Tree.{MulOp}
-use Rattle.cif_model.specs.Kinds.{in_32_bits}
+use Rattle.cif_net_expr.specs.Tree.{CmpOp, eq, ne, lt, le, gt, ge, NetExpr, net_expr, NetForm, n_truth, n_number, n_loc, n_var, n_input, n_alg, n_received, n_minus, n_plus, n_not, n_abs, n_min, n_max, n_sum, n_product, n_compare, n_and, n_or, n_implies, n_iff, n_if, NetExprs, no_net_exprs, net_exprs, NetTerms, no_net_terms, net_terms, NetFactors, no_net_factors, net_factors}
+use Rattle.cif_net_model.specs.Value as v
+use Rattle.cif_net_model.specs.Reads.{names_in, form_names, term_names, factor_names, list_names}
+use Rattle.cif_net_model.proofs.ValueLaws.{all-parts}
+use Rattle.cif_net_expr.specs.Tree.{MulOp}
+use Rattle.cif_net_model.specs.Kinds.{in_32_bits}
 use Rattle.st_ast.specs.declared.tree.StOrder.TheVariants as cmp
-use Rattle.cif_safe.specs.Safe.{HasBits, CanDivide}
+use Rattle.cif_net_model.specs.Safe.{HasBits, CanDivide}
 use Rattle.st_ast.specs.Tree.{Expr, Factors, Terms, truth, negation, complement, absolute, equal, order, no_factors, factors, no_terms, terms, exprs_of}
 use Rattle.st_ast.specs.Values.{Fault, Memory, of_bool, is_true, value_of, joined, with_value, both, checked, added, are_equal, holds, sum_on, product_on, multiplied, smaller, larger}
 use Rattle.st_ast.specs.declared.tree.StVar.{StVar}
 use Rattle.st_ast.specs.declared.tree.StOrder.{StOrder}
 use Rattle.plc_expr.specs.Texts.{Naming, is_leaf, wrapped, is_joined, is_test, is_factor, is_term, operand, side, factor, term, number_text, negated, says, said, all_said, conjunction, says_or, said_or, all_said_or, disjunction, implication, comparison, mul_of, sum_text, product_text, temps, text, form_text, terms_text, factors_text, texts}
-use Rattle.cif_safe.specs.Safe.{Setting, value_at, IsTruth, IsSafe, IsSafeForm, AreSafeTerms, AreSafeFactors, AreSafeTruths}
+use Rattle.cif_net_model.specs.Safe.{Setting, value_at, IsTruth, IsSafe, IsSafeForm, AreSafeTerms, AreSafeFactors, AreSafeTruths}
 use Rattle.plc_expr.specs.Held.{IsRead, Reads, Held, HeldForm, HeldTerms, HeldFactors, HeldList}
 use Rattle.plc_expr.proofs.Numbers.{same-truth, same-equal, same-least, same-greatest, bits-more, checked-is, same-added, same-product}
 

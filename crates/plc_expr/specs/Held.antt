@@ -2,18 +2,18 @@
 -- variables hold the values of the `if`s.
 use Rattle.std.specs.Prelude.{◌≡◌, ℕ, ◌+◌, ◌<◌, ◌≤◌, ℤ, pos, nat_eq, true, List, length, Ok, Option, is_some, slice_get, slice_index_or}
 use Rattle.std.specs.List.{AllByRecursion}
-use Rattle.cif_term.specs.Tree.{NetExpr, net_expr, NetForm, n_minus, n_plus, n_not, n_abs, n_min, n_max, n_sum, n_product, n_compare, n_and, n_or, n_implies, n_iff, n_if, NetExprs, no_net_exprs, net_exprs, NetTerms, no_net_terms, net_terms, NetFactors, no_net_factors, net_factors, NetBranches, no_net_branches, net_branches}
+use Rattle.cif_net_expr.specs.Tree.{NetExpr, net_expr, NetForm, n_minus, n_plus, n_not, n_abs, n_min, n_max, n_sum, n_product, n_compare, n_and, n_or, n_implies, n_iff, n_if, NetExprs, no_net_exprs, net_exprs, NetTerms, no_net_terms, net_terms, NetFactors, no_net_factors, net_factors, NetBranches, no_net_branches, net_branches}
 use Rattle.cif_base.specs.declared.types.Ty.{Ty}
-use Rattle.cif_model.specs.Net.{Net}
-use Rattle.cif_model.specs.Value.{net_cases}
-use Rattle.cif_model.specs.Reads.{Read, a_var, an_input, an_alg, a_place, the_received, names_in}
+use Rattle.cif_net_model.specs.Net.{Net}
+use Rattle.cif_net_model.specs.Value.{net_cases}
+use Rattle.cif_net_model.specs.Reads.{Read, a_var, an_input, an_alg, a_place, the_received, names_in}
 use Rattle.grammar.specs.Pieces.{Text}
 use Rattle.st_ast.specs.Names.{place_of}
 use Rattle.st_ast.specs.Values.{Memory, of_bool, value_of}
 use Rattle.st_ast.specs.Exec.{Ended, exec, is_within, type_at}
 use Rattle.st_ast.specs.declared.tree.StVar.{StVar}
 use Rattle.plc_expr.specs.Texts.{Naming, temps, branches_temps, before}
-use Rattle.cif_safe.specs.Safe.{Setting, value_at}
+use Rattle.cif_net_model.specs.Safe.{Setting, value_at}
 
 -- what the variable with this name holds
 abbrev pub held_at : List StVar → Memory → Text → ℤ

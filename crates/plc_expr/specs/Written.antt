@@ -2,8 +2,8 @@
 use Rattle.std.specs.Prelude.{ℕ, pos, true, false, nat_eq, List, [], Option, Some, None, slice_get}
 use Rattle.grammar.specs.Pieces.{Text}
 use Rattle.st_ast.specs.Tree.{Expr, truth, number, named, equal}
-use Rattle.plc_face.specs.Names.{name_for}
-use Rattle.plc_face.specs.declared.letter.Letter.TheVariants as letter
+use Rattle.plc_model.specs.Names.{name_for}
+use Rattle.plc_model.specs.declared.letter.Letter.TheVariants as letter
 use Rattle.plc_expr.specs.Texts.{Naming}
 use Rattle.plc_expr.specs.declared.names.Names.{Names}
 use Rattle.plc_expr.specs.declared.names.PlaceText.{PlaceText}

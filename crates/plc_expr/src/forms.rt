@@ -1,7 +1,7 @@
 //! The forms of expressions, given the texts of their operands.
 
 ghost use Rattle.std.specs.Prelude.{◌≡◌, map, IfOk};
-ghost use Rattle.cif_term.specs.View.{view_cmp, view_mul};
+ghost use Rattle.cif_net_expr.specs.View.{view_cmp, view_mul};
 ghost use Rattle.st_ast.specs.Tree.{absolute, equal, greatest, least, negation, order, product, sum};
 ghost use Rattle.st_ast.specs.View.{view_expr, view_factor, view_factors, view_term, view_terms};
 ghost use Rattle.plc_expr.specs.Texts.{all_said, all_said_or, comparison, conjunction, disjunction, factor, implication, mul_of, number_text, operand, product_text, side, sum_text, term};
@@ -10,7 +10,7 @@ use crate::shapes::{
     as_factor, as_operand, as_side, as_term, literal_of, negation_of, says_more, says_more_or,
 };
 use cif_base::{Boxed, Items, Memory};
-use cif_term::{CmpOp, MulOp};
+use cif_net_expr::{CmpOp, MulOp};
 use st_ast::{StExpr, StFactor, StMul, StOrder, StTerm};
 use std::alloc::Global;
 

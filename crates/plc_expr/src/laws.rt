@@ -3,18 +3,18 @@
 ghost use Rattle.std.specs.Prelude.{◌≡◌, ℕ, ◌+◌, ◌*◌, ◌≤◌, true, List, [], length, Ok, Option};
 ghost use Rattle.std.specs.List.{AllByRecursion};
 ghost use Rattle.cif_base.specs.declared.types.Ty.{Ty};
-ghost use Rattle.cif_term.specs.Tree.{NetExpr};
-ghost use Rattle.cif_model.specs.Net.{Net};
-ghost use Rattle.cif_model.specs.Kinds.{Kind, is_bool, fits};
-ghost use Rattle.cif_model.specs.Counts.{Measure, measure_by};
-ghost use Rattle.cif_model.specs.Reads.{names_in, names_no_alg};
+ghost use Rattle.cif_net_expr.specs.Tree.{NetExpr};
+ghost use Rattle.cif_net_model.specs.Net.{Net};
+ghost use Rattle.cif_net_model.specs.Kinds.{Kind, is_bool, fits};
+ghost use Rattle.cif_net_model.specs.Counts.{Measure, measure_by};
+ghost use Rattle.cif_net_model.specs.Reads.{names_in, names_no_alg};
 ghost use Rattle.st_ast.specs.Values.{Memory, value_of};
 ghost use Rattle.st_ast.specs.Checks.{stms_faults};
 ghost use Rattle.st_ast.specs.Grammar.{at_or};
 ghost use Rattle.st_ast.specs.Spelled.{is_expr, are_stms};
 ghost use Rattle.st_ast.specs.declared.tree.StVar.{StVar};
 ghost use Rattle.plc_expr.specs.Texts.{Naming, temps, text, before};
-ghost use Rattle.cif_safe.specs.Safe.{Setting, value_at, IsSafe};
+ghost use Rattle.cif_net_model.specs.Safe.{Setting, value_at, IsSafe};
 ghost use Rattle.plc_expr.specs.Held.{Reads, Held, IsThere, OwnPlaces, IsBeside, Prepares};
 ghost use Rattle.plc_expr.specs.Sorts.{own_types, is_boolean, HasSort, NamesHaveSorts, AreOwn, NamesAreSpelled};
 

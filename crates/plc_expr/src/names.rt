@@ -6,7 +6,7 @@ ghost use Rattle.st_ast.specs.View.{view_expr};
 ghost use Rattle.plc_expr.specs.Written.{name_at, naming_of};
 
 use cif_base::{Boxed, Items, Memory, Text};
-use plc_face::Letter;
+use plc_model::Letter;
 use plc_names::name_of;
 use st_ast::StExpr;
 use std::alloc::Global;

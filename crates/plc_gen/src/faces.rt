@@ -1,159 +1,250 @@
-//! What the program shows of the automata, variables, inputs and algebraic variables of a net.
+//! The own variables of an event.
 
-ghost use Rattle.std.specs.Prelude.{◌≡◌, ◌<◌, ◌^◌, length, map, IfOk, if◌then◌else◌};
-ghost use Rattle.cif_net.specs.View.{net_tree, alg_tree, auto_tree, input_tree, var_tree};
-ghost use Rattle.st_ast.specs.declared.tree.StTy.TheVariants as st;
-ghost use Rattle.plc_face.specs.Face.{alg_face, algs_of, place_face, places_of};
-ghost use Rattle.plc_gen.specs.Faces as f;
-ghost use Rattle.plc_gen.specs.Faces.{alg_face_of, auto_face, face_of_net, stored_face};
-ghost use Rattle.plc_gen.specs.Shown.{face_tree, AreFaces};
-ghost use Rattle.plc_gen.specs.Variables.{mark_and_counter};
+ghost use Rattle.std.specs.Prelude.{◌≡◌, ◌+◌, ◌++◌, [], ◌∷◌, flat_map, length, map, IfOk, OnOk, Some, None};
+ghost use Rattle.cif_net_model.specs.Exprs.{targets};
+ghost use Rattle.cif_net_model.specs.Listing.{NetChoice};
+ghost use Rattle.cif_net.specs.View.{choice_tree, net_tree};
+ghost use Rattle.plc_model.specs.Face.{declaration, literal_of};
+ghost use Rattle.plc_model.specs.Names.{name_for};
+ghost use Rattle.plc_model.specs.declared.letter.Letter.TheVariants as letter;
+ghost use Rattle.st_ast.specs.declared.tree.StClass.TheVariants as class;
+ghost use Rattle.plc_event_model.specs.Own as o;
+ghost use Rattle.plc_gen.specs.Outlines.{IsOutline, Keeps, NamesNew, StandOnce, declared_from, done_if, face_tree, range_if};
 
-use cif_base::{Boxed, Items, Memory, Text, Ty};
-use cif_net::{Auto, Net};
-use st_ast::StTy;
+use crate::asking::Changes;
+use crate::events::needs_mark;
+use crate::marks::once_of;
+use crate::targets::{add_targets, any_tested};
+use crate::types::{add_choice_types, event_type, new_type, sent_type};
+use crate::writing::NewTexts;
+use cif_base::{Items, Memory, Text, Ty};
+use cif_net::{Choice, Net};
+use plc_model::Letter;
+use plc_names::name_of;
+use st_ast::{StClass, StLit, StTy, StVar};
 use std::alloc::Global;
 
-/// A variable of the program: the path of what it stands for, its type, and its first value, where a BOOL is 0 or 1.
+/// What decides which own variables an event has: whether it has a mark that a choice was made, and one that new values are in
+/// their ranges, the variables that its choices assign, the type of what is sent, and the types of the `if`s in its expressions.
 #[derive(Drop)]
-pub struct Shown {
+pub struct Outline {
+    pub has_mark: bool,
+    pub tests_range: bool,
+    pub vars: Items<u32>,
+    pub sent: Option<Ty>,
+    pub types: Items<StTy>,
+}
+
+/// The outline of the event of these choices.
+pub fn outline_of(
+    alloc: Global,
+    net: &Net,
+    choices: &[Choice],
+    changes: &mut Changes,
+) -> Result<Outline, Memory>
+    ensures { IfOk result (λ x. IsOutline (net_tree net.now) (map choice_tree choices.now) x) }
+{
+    let targets = all_targets(alloc, choices)?;
+    Ok(Outline {
+        has_mark: needs_mark(alloc, net, choices, changes)?,
+        tests_range: any_range_tested(net, choices),
+        vars: once_of(alloc, targets.as_slice(), &mut changes.variables)?,
+        sent: event_type(net, choices),
+        types: all_types(alloc, net, choices, changes)?,
+    })
+}
+
+fn all_targets(alloc: Global, choices: &[Choice]) -> Result<Items<u32>, Memory>
+    ensures { IfOk result (λ all. all ≡ flat_map (λ (c : NetChoice). targets c.writes) (map choice_tree choices.now)) }
+{
+    let mut all = Items::new(alloc);
+    for choice in choices {
+        add_targets(choice.writes.as_slice(), &mut all)?;
+    }
+    Ok(all)
+}
+
+fn any_range_tested(net: &Net, choices: &[Choice]) -> bool
+    ensures { result ≡ o.tests_range (net_tree net.now) (map choice_tree choices.now) }
+{
+    for choice in choices {
+        if any_tested(net, choice.writes.as_slice()) {
+            return true;
+        }
+    }
+    false
+}
+
+fn all_types(
+    alloc: Global,
+    net: &Net,
+    choices: &[Choice],
+    changes: &mut Changes,
+) -> Result<Items<StTy>, Memory>
+    ensures { IfOk result
+        (λ all. all ≡ flat_map (o.choice_types (net_tree net.now)) (map choice_tree choices.now)) }
+{
+    let mut all = Items::new(alloc);
+    for choice in choices {
+        add_choice_types(alloc, choice, net, changes, &mut all)?;
+    }
+    Ok(all)
+}
+
+fn literal(ty: StTy, first: i64) -> StLit
+    ensures { result ≡ literal_of ty first }
+{
+    match ty {
+        StTy::Bool => StLit::Bool(first != 0),
+        _ => StLit::Int(first),
+    }
+}
+
+/// The path, the type and the first value of a new value.
+#[derive(Drop)]
+pub struct NewFace {
     pub path: Text,
     pub ty: StTy,
     pub first: i64,
 }
 
-/// What the program shows of a net: the places of automata, the discrete variables, the inputs, and the algebraic variables.
-#[derive(Drop)]
-pub struct Faces {
-    pub places: Items<Shown>,
-    pub variables: Items<Shown>,
-    pub inputs: Items<Shown>,
-    pub algs: Items<Shown>,
-}
-
-/// What the program shows of the net.
-pub fn shown_faces(alloc: Global, net: &Net) -> Result<Faces, Memory>
-    ensures { IfOk result (λ f. AreFaces (net_tree net.now) f) }
+/// The new value of a variable. One that is not there has an integer; no net has it.
+fn new_face_of(alloc: Global, net: &Net, var: u32) -> Result<NewFace, Memory>
+    ensures { IfOk result (λ x. face_tree x ≡ o.new_face (net_tree net.now) var) }
 {
-    let places = shown_places(alloc, net)?;
-    let variables = shown_variables(alloc, net)?;
-    let inputs = shown_inputs(alloc, net)?;
-    let algs = shown_algs(alloc, net)?;
-    Ok(Faces {
-        places,
-        variables,
-        inputs,
-        algs,
+    let Some(found) = net.vars.get(var as usize) else {
+        return Ok(NewFace {
+            path: Text::from_slice(alloc, b"new")?,
+            ty: StTy::Lint,
+            first: 0,
+        });
+    };
+    let mut path = Text::from_slice(alloc, b"new_")?;
+    path.push_slice(found.path.as_slice())?;
+    Ok(NewFace {
+        path,
+        ty: new_type(found.ty),
+        first: found.first,
     })
 }
 
-/// The type of a variable, where a literal of an enumeration is its place.
-fn st_type(ty: Ty) -> StTy
-    ensures { result ≡ f.st_type ty }
-{
-    match ty {
-        Ty::Bool => StTy::Bool,
-        Ty::Int { lo, hi } => StTy::Range { lo, hi },
-        Ty::Enum { size } => StTy::Range {
-            lo: 0,
-            hi: i64::from(size) - 1,
-        },
+/// The declarations of own variables, and the number of the next one.
+#[derive(Drop)]
+pub struct OwnVariables {
+    pub variables: Items<StVar>,
+    pub next: u32,
+}
+
+impl OwnVariables {
+    /// Declares a variable with this name, which has the next number. A number that runs out is want of memory.
+    fn declare(&mut self, name: Text, ty: StTy, first: i64) -> Result<(), Memory>
+        ensures variables { OnOk result (self.new.variables ≡ self.old.variables
+            ++ record { name = name; class = class.Plain; ty = ty; init = Some (literal_of ty first); at = None } ∷ []) }
+        ensures next { OnOk result (self.new.next ≡ self.old.next + 1) }
+    {
+        let Some(next) = self.next.checked_add(1) else {
+            return Err(Memory);
+        };
+        self.next = next;
+        self.variables.push(StVar {
+            name,
+            class: StClass::Plain,
+            ty,
+            init: Some(literal(ty, first)),
+            at: None,
+        })
     }
-}
 
-fn shown_place(alloc: Global, auto: &Auto) -> Result<Boxed<Shown>, Memory>
-    requires { length auto.now.locs < 2 ^ 32 }
-    ensures { IfOk result (λ x. face_tree x ≡ place_face (auto_face (auto_tree auto.now))) }
-{
-    let path = auto.path.copy(alloc)?;
-    let ty = StTy::Range {
-        lo: 0,
-        hi: auto.locs.len().saturating_sub(1) as i64,
-    };
-    let first = i64::from(auto.first);
-    Boxed::new(alloc, Shown { path, ty, first })
-}
-
-/// The places of the automata.
-fn shown_places(alloc: Global, net: &Net) -> Result<Items<Shown>, Memory>
-    ensures { IfOk result (λ all. map face_tree all ≡ places_of (face_of_net (net_tree net.now))) }
-{
-    let mut all = Items::new(alloc);
-    for auto in net.autos.as_slice() {
-        all.push(shown_place(alloc, auto)?.into_inner())?;
+    /// Declares a variable with this path.
+    fn declare_as(&mut self, alloc: Global, path: &[u8], ty: StTy, first: i64) -> Result<(), Memory>
+        ensures variables { OnOk result (self.new.variables ≡ self.old.variables
+            ++ declaration letter.T class.Plain (self.old.next, record { path = path.now; ty = ty; first = first }) ∷ []) }
+        ensures next { OnOk result (self.new.next ≡ self.old.next + 1) }
+    {
+        let name = name_of(alloc, Letter::T, self.next, path)?;
+        self.declare(name, ty, first)
     }
-    Ok(all)
-}
 
-/// The discrete variables.
-fn shown_variables(alloc: Global, net: &Net) -> Result<Items<Shown>, Memory>
-    ensures { IfOk result (λ all. map face_tree all ≡ (face_of_net (net_tree net.now)).variables) }
-{
-    let mut all = Items::new(alloc);
-    for var in net.vars.as_slice() {
-        all.push(Shown {
-            path: var.path.copy(alloc)?,
-            ty: st_type(var.ty),
-            first: var.first,
-        })?;
+    /// Declares the mark that a choice was made, if the event has it.
+    pub fn add_done(&mut self, alloc: Global, has_mark: bool) -> Result<(), Memory>
+        ensures variables { OnOk result (self.new.variables ≡ self.old.variables ++ declared_from self.old.next (done_if has_mark)) }
+        ensures next { OnOk result (self.new.next ≡ self.old.next + length (done_if has_mark)) }
+    {
+        if has_mark {
+            self.declare_as(alloc, b"done", StTy::Bool, 0)?;
+        }
+        Ok(())
     }
-    Ok(all)
-}
 
-/// The inputs.
-fn shown_inputs(alloc: Global, net: &Net) -> Result<Items<Shown>, Memory>
-    ensures { IfOk result (λ all. map face_tree all ≡ (face_of_net (net_tree net.now)).inputs) }
-{
-    let mut all = Items::new(alloc);
-    for input in net.inputs.as_slice() {
-        all.push(Shown {
-            path: input.path.copy(alloc)?,
-            ty: st_type(input.ty),
-            first: input.first,
-        })?;
+    /// Declares the mark that new values are in their ranges, if the event has it.
+    pub fn add_range(&mut self, alloc: Global, tests_range: bool) -> Result<(), Memory>
+        ensures variables { OnOk result (self.new.variables ≡ self.old.variables ++ declared_from self.old.next (range_if tests_range)) }
+        ensures next { OnOk result (self.new.next ≡ self.old.next + length (range_if tests_range)) }
+    {
+        if tests_range {
+            self.declare_as(alloc, b"in_range", StTy::Bool, 0)?;
+        }
+        Ok(())
     }
-    Ok(all)
-}
 
-/// The type of the variable that shows an algebraic one: any integer, where it isn't Boolean.
-fn alg_type(ty: Ty) -> StTy
-    ensures { result ≡ (if f.is_boolean ty then st.Bool else st.Lint) }
-{
-    match ty {
-        Ty::Bool => StTy::Bool,
-        _ => StTy::Lint,
+    /// Declares the new value of a variable, and keeps its name.
+    fn declare_new(
+        &mut self,
+        alloc: Global,
+        net: &Net,
+        var: u32,
+        new: &mut NewTexts,
+    ) -> Result<(), Memory>
+        ensures variables { OnOk result (self.new.variables ≡ self.old.variables
+            ++ declaration letter.T class.Plain (self.old.next, o.new_face (net_tree net.now) var) ∷ []) }
+        ensures next { OnOk result (self.new.next ≡ self.old.next + 1) }
+        ensures kept { OnOk result (Keeps new.old new.new var (name_for letter.T self.old.next (o.new_face (net_tree net.now) var).path)) }
+    {
+        let NewFace { path, ty, first } = new_face_of(alloc, net, var)?;
+        let name = name_of(alloc, Letter::T, self.next, path.as_slice())?;
+        new.keep(var, name.copy(alloc)?)?;
+        self.declare(name, ty, first)
     }
-}
 
-/// The algebraic variables.
-fn shown_algs(alloc: Global, net: &Net) -> Result<Items<Shown>, Memory>
-    ensures { IfOk result (λ all. map face_tree all ≡ algs_of (face_of_net (net_tree net.now))) }
-{
-    let mut all = Items::new(alloc);
-    for alg in net.algs.as_slice() {
-        all.push(Shown {
-            path: alg.path.copy(alloc)?,
-            ty: alg_type(alg.ty),
-            first: 0,
-        })?;
+    /// Declares the new values of variables, and keeps their names.
+    pub fn add_new(
+        &mut self,
+        alloc: Global,
+        net: &Net,
+        vars: &[u32],
+        new: &mut NewTexts,
+    ) -> Result<(), Memory>
+        requires { StandOnce vars.now }
+        ensures variables { OnOk result (self.new.variables ≡ self.old.variables ++ declared_from self.old.next (map (o.new_face (net_tree net.now)) vars.now)) }
+        ensures next { OnOk result (self.new.next ≡ self.old.next + length vars.now) }
+        ensures names { OnOk result (NamesNew (net_tree net.now) self.old.next vars.now new.new) }
+        ensures in_range { OnOk result (new.new.in_range ≡ new.old.in_range) }
+    {
+        for var in vars {
+            self.declare_new(alloc, net, *var, new)?;
+        }
+        Ok(())
     }
-    Ok(all)
-}
 
-/// The mark that something fired, and the counter of rounds.
-pub fn own_variables(alloc: Global) -> Result<Items<Shown>, Memory>
-    ensures { IfOk result (λ all. map face_tree all ≡ mark_and_counter) }
-{
-    let mut all = Items::new(alloc);
-    all.push(Shown {
-        path: Text::from_slice(alloc, b"fired")?,
-        ty: StTy::Bool,
-        first: 0,
-    })?;
-    all.push(Shown {
-        path: Text::from_slice(alloc, b"rounds")?,
-        ty: StTy::Lint,
-        first: 0,
-    })?;
-    Ok(all)
+    /// Declares what is sent, if the event carries values.
+    pub fn add_sent(&mut self, alloc: Global, sent: Option<Ty>) -> Result<(), Memory>
+        ensures variables { OnOk result (self.new.variables ≡ self.old.variables ++ declared_from self.old.next (o.faces_sent sent)) }
+        ensures next { OnOk result (self.new.next ≡ self.old.next + length (o.faces_sent sent)) }
+    {
+        if let Some(ty) = sent {
+            self.declare_as(alloc, b"sent", sent_type(ty), 0)?;
+        }
+        Ok(())
+    }
+
+    /// Declares the variables of `if`s with these types.
+    pub fn add_ifs(&mut self, alloc: Global, types: &[StTy]) -> Result<(), Memory>
+        ensures variables { OnOk result (self.new.variables ≡ self.old.variables ++ declared_from self.old.next (map o.if_face types.now)) }
+        ensures next { OnOk result (self.new.next ≡ self.old.next + length types.now) }
+    {
+        for ty in types {
+            self.declare_as(alloc, b"if", *ty, 0)?;
+        }
+        Ok(())
+    }
 }

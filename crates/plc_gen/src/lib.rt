@@ -1,15 +1,25 @@
-//! The Structured Text program of a net of automata (IEC 61131-3), from the statements of its events: the variables, the loops
-//! of rounds, the outputs, and that the scans of the program are the net's.
+//! The Structured Text program of a net (IEC 61131-3): the parts of its events, and the part that shows its algebraic
+//! variables, from which `plc_frame` makes the program.
 #![tactic(auto)]
 
-mod bounds;
+mod acting;
+mod after;
+mod asking;
+mod emitting;
+mod events;
 mod faces;
-mod given;
-mod looping;
-mod names;
-mod scan;
-mod tries;
-mod variables;
+mod keeping;
+mod marks;
+mod moves;
+mod naming;
+mod parts;
+mod program;
+mod ranges;
+mod selecting;
+mod sending;
+mod showing;
+mod targets;
+mod types;
+mod writing;
 
-pub use bounds::Bounds;
-pub use given::{Part, frame};
+pub use emitting::emit;

@@ -5,9 +5,9 @@ use Rattle.std.proofs.lemmas.List.{drop_all}
 use Rattle.std.specs.Fmt.{decimal}
 use Rattle.std.proofs.lemmas.Bool.Decides.{nat_tests}
 use Rattle.grammar.specs.Pieces.{Text}
-use Rattle.plc_face.specs.declared.letter.Letter.{Letter}
-use Rattle.plc_face.specs.Names.{text_of, name_for, underscore, is_kept, runs_joined, front_trimmed, end_trimmed, or_x, most_bytes, tidied}
-use Rattle.plc_face.proofs.Tidying.{AreSingle}
+use Rattle.plc_model.specs.declared.letter.Letter.{Letter}
+use Rattle.plc_model.specs.Names.{text_of, name_for, underscore, is_kept, runs_joined, front_trimmed, end_trimmed, or_x, most_bytes, tidied}
+use Rattle.plc_model.proofs.Tidying.{AreSingle}
 
 -- ---- bytes
 

@@ -1,12 +1,12 @@
 //! A name: the letter, the number, `_` and the tidied path.
 
 ghost use Rattle.std.specs.Prelude.{◌≡◌, ◌∷◌, [], IfOk};
-ghost use Rattle.plc_face.specs.Names.{text_of, name_for};
+ghost use Rattle.plc_model.specs.Names.{text_of, name_for};
 
 use crate::tidying::{first_bytes, or_letter, without_last};
 use cif_base::{Memory, Text};
 use itoa::Buffer;
-use plc_face::Letter;
+use plc_model::Letter;
 use std::alloc::Global;
 
 /// The name of a variable: the letter, the number in decimal, `_` and the path tidied. For that each run of bytes that aren't

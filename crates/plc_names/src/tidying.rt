@@ -1,7 +1,7 @@
 //! The path of an object, tidied to the last part of a name.
 
 ghost use Rattle.std.specs.Prelude.{◌≡◌, true, take, IfOk};
-ghost use Rattle.plc_face.specs.Names.{runs_joined, end_trimmed, or_x, most_bytes};
+ghost use Rattle.plc_model.specs.Names.{runs_joined, end_trimmed, or_x, most_bytes};
 
 use cif_base::{Memory, Text};
 use std::alloc::Global;

@@ -4,3 +4,4 @@ pub mod Numbers
 pub mod Firsts
 pub mod Listed
 pub mod Sorted
+pub mod ListedPlaces

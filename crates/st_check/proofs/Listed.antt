@@ -7,10 +7,10 @@ use Rattle.st_ast.specs.declared.tree.StTerm.{StTerm}
 use Rattle.st_ast.specs.declared.tree.Stmt.{Stmt}
 use Rattle.st_ast.specs.declared.tree.StBranch.{StBranch}
 use Rattle.st_ast.specs.View.{view_expr, view_exprs, view_factor, view_factors, view_term, view_terms, view_stmt, view_stmts, view_branch, view_branches}
-use Rattle.st_place.specs.PlacedTree as to
-use Rattle.st_place.specs.PlacedTree.{Operator, of_factor, of_term}
-use Rattle.st_place.specs.PlacedView.{branches_of}
-use Rattle.st_place.specs.Placing.{placed, placed_exprs, placed_factors, placed_terms, placed_stm, placed_stms, placed_branches}
+use Rattle.st_check.specs.PlacedTree as to
+use Rattle.st_check.specs.PlacedTree.{Operator, of_factor, of_term}
+use Rattle.st_check.specs.PlacedView.{branches_of}
+use Rattle.st_check.specs.Placing.{placed, placed_exprs, placed_factors, placed_terms, placed_stm, placed_stms, placed_branches}
 
 abbrev pub operand_placed : List StVar → StExpr → to.Expr
 operand_placed vars e = placed vars (view_expr e)

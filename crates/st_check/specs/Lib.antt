@@ -4,3 +4,7 @@ pub mod Sorts
 pub mod Operations
 pub mod Rows
 pub mod Outcome
+pub mod PlacedTree
+pub mod PlacedTests
+pub mod PlacedView
+pub mod Placing

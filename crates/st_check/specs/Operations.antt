@@ -1,10 +1,10 @@
 -- Helper of the code: the sort of an operation, from those of its operands.
 use Rattle.std.specs.Prelude.{Option, ◌&&◌}
 use Rattle.st_ast.specs.Checks.{Sort, boolean, integer, is_boolean, is_integer, is_same_sort, given}
-use Rattle.st_place.specs.declared.placed.Pairing.{Pairing}
-use Rattle.st_place.specs.declared.placed.Pairing.TheVariants as between
-use Rattle.st_place.specs.declared.placed.Single.{Single}
-use Rattle.st_place.specs.declared.placed.Single.TheVariants as one
+use Rattle.st_check.specs.declared.placed.Pairing.{Pairing}
+use Rattle.st_check.specs.declared.placed.Pairing.TheVariants as between
+use Rattle.st_check.specs.declared.placed.Single.{Single}
+use Rattle.st_check.specs.declared.placed.Single.TheVariants as one
 
 abbrev pub single_sort : Single → Option Sort → Option Sort
 single_sort one.Minus s = given (is_integer s) integer

@@ -5,9 +5,10 @@ ghost use Rattle.st_ast.specs.Checks.{check_faults, stms_count};
 ghost use Rattle.st_ast.specs.Interface.{is_output, numbers_of, is_input};
 ghost use Rattle.st_ast.specs.View.{view, view_stmts};
 ghost use Rattle.st_check.specs.Told.{IsFirst, IsPlace};
-ghost use Rattle.st_place.specs.PlacedView.{stmts_view};
-ghost use Rattle.st_place.specs.Placing.{placed_stms};
+ghost use Rattle.st_check.specs.PlacedView.{stmts_view};
+ghost use Rattle.st_check.specs.Placing.{placed_stms};
 
+use crate::PlacedStmt;
 use crate::error::StCheckErr;
 use crate::names::Names;
 use crate::rows::{Row, numbers};
@@ -16,7 +17,6 @@ use crate::statements::check_body;
 use crate::variables::check_variables;
 use cif_base::{Items, Memory};
 use st_ast::Program;
-use st_place::PlacedStmt;
 use std::alloc::Global;
 use std::marker::Model;
 
@@ -41,8 +41,8 @@ impl Model for Checked {
     ghost use Rattle.st_ast.specs.declared.tree.Program.{Program};
     ghost use Rattle.st_ast.specs.contracts.tree.Stmt as statement;
     ghost use Rattle.st_check.specs.Keys.{keys_of};
-    ghost use Rattle.st_place.specs.PlacedView.{stmts_view};
-    ghost use Rattle.st_place.specs.Placing.{placed_stms};
+    ghost use Rattle.st_check.specs.PlacedView.{stmts_view};
+    ghost use Rattle.st_check.specs.Placing.{placed_stms};
 
     ghost Value = { Program };
 

@@ -7,21 +7,21 @@ ghost use Rattle.st_ast.specs.Values.{of_bool};
 ghost use Rattle.st_ast.specs.View.{view_expr, view_exprs, view_factors, view_terms};
 ghost use Rattle.st_check.specs.Operations.{single_sort, pair_sort};
 ghost use Rattle.st_check.specs.Sorts.{sort_told};
-ghost use Rattle.st_place.specs.PlacedTree as to;
-ghost use Rattle.st_place.specs.PlacedView.{expr_view, terms_view, factors_view};
-ghost use Rattle.st_place.specs.Placing as placing;
+ghost use Rattle.st_check.specs.PlacedTree as to;
+ghost use Rattle.st_check.specs.PlacedView.{expr_view, terms_view, factors_view};
+ghost use Rattle.st_check.specs.Placing as placing;
 
 use crate::scope::Scope;
 use crate::sorts::{
     Sort, both, given, is_boolean, is_integer, sort_at, sort_of_integers, sort_of_pair,
     sort_of_selection, sort_of_single,
 };
-use cif_base::{Items, Memory};
-use st_ast::{StExpr, StFactor, StTerm};
-use st_place::{
+use crate::{
     Join, Pairing, PlacedExpr, PlacedFactor, PlacedTerm, Single, join_all, pair, product, select,
     single, sum, truth,
 };
+use cif_base::{Items, Memory};
+use st_ast::{StExpr, StFactor, StTerm};
 use std::alloc::Global;
 
 fn place_name(

@@ -8,9 +8,9 @@ ghost use Rattle.st_check.specs.Operations.{single_sort, pair_sort};
 ghost use Rattle.st_check.specs.Sorts.{sort_told, told};
 
 use crate::scope::Scope;
+use crate::{Pairing, Single};
 use cif_base::Memory;
 use st_ast::{StExpr, StFactor, StTerm, StTy};
-use st_place::{Pairing, Single};
 use std::alloc::Global;
 
 /// What an expression is.

@@ -5,18 +5,18 @@ ghost use Rattle.st_ast.specs.Checks as checks;
 ghost use Rattle.st_ast.specs.Tree.{assign, choice, loop, no_other, no_stms};
 ghost use Rattle.st_ast.specs.View.{view_expr, view_stmt, view_stmts, view_branches};
 ghost use Rattle.st_check.specs.Outcome.{Tells, Counts};
-ghost use Rattle.st_place.specs.PlacedView.{expr_view, stmt_view, stmts_view, branches_view};
-ghost use Rattle.st_place.specs.Placing as placing;
+ghost use Rattle.st_check.specs.PlacedView.{expr_view, stmt_view, stmts_view, branches_view};
+ghost use Rattle.st_check.specs.Placing as placing;
 
 use crate::error::StCheckErr;
 use crate::placing::place_expr;
 use crate::scope::Scope;
 use crate::sorts::{both, is_boolean, is_same, knows, sort_of_type};
-use cif_base::Memory;
-use st_ast::{StBranch, StClass, StExpr, StVar, Stmt};
-use st_place::{
+use crate::{
     PlacedBranch, PlacedExpr, PlacedStmt, push_assignment, push_branch, push_choice, push_loop,
 };
+use cif_base::Memory;
+use st_ast::{StBranch, StClass, StExpr, StVar, Stmt};
 use std::alloc::Global;
 
 /// Whether every name of the conditions is declared.

@@ -8,8 +8,8 @@ use Rattle.grammar.proofs.Texts.{and_left, and_right, same_equal}
 use Rattle.st_ast.specs.Tokens as tk
 use Rattle.grammar.specs.Bytes.{is_blank, begins_word, is_digit, is_wordy}
 use Rattle.st_ast.specs.Tokens.{Piece, piece, is_sign, opens_comment, token_of, Tokens}
-use Rattle.st_lex.specs.Cutting.{piece_cut}
-use Rattle.st_lex.proofs.CuttingLaws.{piece_cuts}
+use Rattle.st_read.specs.Cutting.{piece_cut}
+use Rattle.st_read.proofs.CuttingLaws.{piece_cuts}
 use Rattle.grammar.proofs.Decimals.{decimal_digits, decimal_nonempty}
 use Rattle.st_print.specs.Layout.{Mark, line, word, digits, sign, dash, times, call, gap, closes, opens, fresh_after, text_of}
 use Rattle.st_ast.specs.Spelled.{is_word_text}

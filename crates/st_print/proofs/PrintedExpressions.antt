@@ -18,7 +18,7 @@ use Rattle.st_ast.specs.Tree.{Expr, Exprs, Factors, Terms, truth, number, named,
 use Rattle.st_print.specs.Layout.{Mark, truth_marks, order_text, equal_text, plus_text, mul_mark, expr_marks, factors_marks, terms_marks, operands_marks, more_marks}
 use Rattle.st_print.specs.Layout as mark
 use Rattle.st_print.specs.Marks.{is_mark}
-use Rattle.st_lex.proofs.Decimals.{number_of-decimal, kind_of_number-decimal}
+use Rattle.st_read.proofs.Decimals.{number_of-decimal, kind_of_number-decimal}
 use Rattle.st_print.proofs.Derived.{Derives, both_derive, map_derives, left_derives, right_derives, more_derive, none_derives, some_derive}
 
 -- ---- tests

@@ -3,11 +3,11 @@ use Rattle.std.proofs.Common.{◌≡◌, ◌<◌, Bool, true, false, ◌∷◌, 
 use Rattle.std.proofs.lemmas.Bool.{leb-false}
 use Rattle.grammar.specs.Pieces.{Text, Cut, IsLongest}
 use Rattle.grammar.proofs.Cutting.{text_made}
-use Rattle.cutting.specs.Classes.{letter, digit}
-use Rattle.cutting.proofs.Fronts.{so_where_ok, not_where_err}
+use Rattle.grammar.specs.Classes.{letter, digit}
+use Rattle.grammar.proofs.Fronts.{so_where_ok, not_where_err}
 use Rattle.st_ast.specs.Tokens.{Token, Piece, blank, comment, word, number, sign, signs, piece, token_of, number_of, greatest}
-use Rattle.st_lex.specs.Cutting.{piece_cut}
-use Rattle.st_lex.proofs.CuttingLaws.{piece_cuts}
+use Rattle.st_read.specs.Cutting.{piece_cut}
+use Rattle.st_read.proofs.CuttingLaws.{piece_cuts}
 use Rattle.st_read.specs.declared.found.Fault.{Fault}
 use Rattle.st_read.specs.declared.found.Fault.TheVariants as f
 use Rattle.st_read.specs.Lexing.{Found, IsInRange, after_close, commented, opens, inside, front_of}

@@ -7,10 +7,10 @@ use Rattle.grammar.proofs.Texts.{same_equal}
 use Rattle.grammar.proofs.Cutting.{text_made}
 use Rattle.grammar.proofs.Closing.{rest_of, close_is}
 use Rattle.grammar.specs.Bytes.{is_blank, begins_word, is_digit, is_wordy, none_of}
-use Rattle.cutting.specs.Classes.{letter, digit, wordy}
-use Rattle.cutting.proofs.Fronts.{none_run}
+use Rattle.grammar.specs.Classes.{letter, digit, wordy}
+use Rattle.grammar.proofs.Fronts.{none_run}
 use Rattle.st_ast.specs.Tokens.{Piece, blank, comment, word, number, sign, signs, token_of, piece, is_sign, number_of, greatest}
-use Rattle.st_lex.specs.Cutting.{first_cut, piece_cut}
+use Rattle.st_read.specs.Cutting.{first_cut, piece_cut}
 use Rattle.st_read.specs.declared.found.Fault.TheVariants as f
 use Rattle.st_read.specs.Lexing.{Found, is_reserved, other_kind, word_kind, sign_kind, value_in, numbered, after_close, commented, with_sign, sign_in, sign_of, signed, opens, inside, front_of}
 

@@ -8,7 +8,7 @@ use Rattle.grammar.specs.Pieces.{Text, Begun}
 use Rattle.grammar.proofs.Begun.{begun_more, begun_short, pieces_all}
 use Rattle.grammar.proofs.Closing.{none_closes}
 use Rattle.st_ast.specs.Tokens.{Token, Piece, blank, comment, word, number, sign, piece, is_sign, opens_comment, token_of}
-use Rattle.st_lex.proofs.CuttingLaws.{piece_cuts}
+use Rattle.st_read.proofs.CuttingLaws.{piece_cuts}
 use Rattle.st_read.specs.declared.found.Fault.{Fault}
 use Rattle.st_read.specs.declared.found.Fault.TheVariants as f
 use Rattle.st_read.specs.declared.error.StErr.{StErr}

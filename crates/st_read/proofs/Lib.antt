@@ -19,3 +19,5 @@ pub mod Identifiers
 pub mod Told
 pub mod ProperTokens
 pub mod Spellings
+pub mod CuttingLaws
+pub mod Decimals

@@ -12,7 +12,7 @@ use Rattle.grammar.specs.Lang.{has}
 use Rattle.grammar.specs.Pieces.{Text, Begun, run_of}
 use Rattle.grammar.specs.Reader.{starts, one_at}
 use Rattle.grammar.proofs.Runs.{run_is, first_within}
-use Rattle.cutting.specs.Classes.{letter, digit, wordy}
+use Rattle.grammar.specs.Classes.{letter, digit, wordy}
 use Rattle.st_ast.specs.Grammar.{code, sort}
 use Rattle.st_ast.specs.Tokens.{Token, Piece, piece, number_of, greatest}
 use Rattle.st_ast.specs.declared.kinds.TokenKind.{TokenKind}

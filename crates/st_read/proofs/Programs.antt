@@ -12,7 +12,7 @@ use Rattle.st_ast.specs.Tree.{Expr, Stm, Stms, stms_of, Program}
 use Rattle.st_ast.specs.View.{branches_of, other_of}
 use Rattle.st_ast.specs.Checks.{stm_count, stms_count, branches_count, other_count}
 use Rattle.st_ast.specs.Grammar.{code, sort, second, word, word_of, identifier, natural, products, sums, orders, equalities, Level, at_or, at_xor, at_and, at_equal, at_order, at_sum, at_product, at_unary, one_argument, two_arguments, three_arguments, prim, unary, operands, multiplied, summed, ordered, equated, conjunction, exclusion, disjunction, level, max_depth, below, expression, without_word, assignment, guarded, conditional, repetition, statement, signed, first_value, type_use, declaration, block_of, block, whole}
-use Rattle.st_lex.proofs.CuttingLaws.{piece_cuts}
+use Rattle.st_read.proofs.CuttingLaws.{piece_cuts}
 use Rattle.st_ast.specs.ReadsAs.{Derives}
 use Rattle.st_ast.specs.declared.tree.StVar.{StVar}
 use Rattle.st_ast.specs.declared.tree.StClass.{StClass}

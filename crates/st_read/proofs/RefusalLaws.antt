@@ -10,8 +10,8 @@ use Rattle.grammar.proofs.Closing.{unclosed}
 use Rattle.st_ast.specs.Tokens.{Token, Piece, blank, comment, word, number, sign, piece, signs, is_sign, opens_comment, token_of, number_of, greatest, kind_of_number}
 use Rattle.st_ast.specs.declared.kinds.TokenKind.TheVariants as kinds
 use Rattle.st_ast.specs.Tree.{Program}
-use Rattle.st_lex.specs.Cutting.{piece_cut}
-use Rattle.st_lex.proofs.CuttingLaws.{piece_cuts}
+use Rattle.st_read.specs.Cutting.{piece_cut}
+use Rattle.st_read.proofs.CuttingLaws.{piece_cuts}
 use Rattle.st_read.specs.declared.error.StErr.{StErr}
 use Rattle.st_read.specs.declared.error.StErr.TheVariants as err
 use Rattle.st_ast.specs.ReadsAs.{Derives}

@@ -5,7 +5,7 @@ use Rattle.grammar.specs.Pieces.{Text}
 use Rattle.st_ast.specs.Tokens.{Token}
 use Rattle.st_ast.specs.Tree.{Program}
 use Rattle.st_ast.specs.ReadsAs.{Derives}
-use Rattle.st_lex.proofs.CuttingLaws.{token_lists_agree}
+use Rattle.st_read.proofs.CuttingLaws.{token_lists_agree}
 use Rattle.st_read.specs.declared.error.StErr.{StErr}
 use Rattle.st_read.specs.declared.error.StErr.TheVariants as err
 use Rattle.st_read.specs.Told.{Refuses, Tells}

@@ -6,7 +6,7 @@ use Rattle.st_ast.specs.Tokens.{Token}
 use Rattle.st_ast.specs.Tree.{Program}
 use Rattle.st_ast.specs.Grammar.{whole}
 use Rattle.st_ast.specs.ReadsAs.{Derives, ReadsAsProgram}
-use Rattle.st_lex.proofs.CuttingLaws.{token_lists_agree}
+use Rattle.st_read.proofs.CuttingLaws.{token_lists_agree}
 use Rattle.st_read.specs.Reading.{program_at, ended, finished, program_of}
 use Rattle.st_read.proofs.Agrees.{program_takes}
 

@@ -7,7 +7,7 @@ use Rattle.std.proofs.lemmas.Bool.Decides.{same_from_decides}
 use Rattle.std.proofs.lemmas.Slice.Eq.{bytes_eq-Decides}
 use Rattle.grammar.specs.Pieces.{Text}
 use Rattle.grammar.proofs.Texts.{and_right}
-use Rattle.cutting.proofs.Tables.{look, having, found_having, is_other, other_length}
+use Rattle.grammar.proofs.Tables.{look, having, found_having, is_other, other_length}
 use Rattle.st_ast.specs.Names.{same_name}
 use Rattle.st_ast.specs.Tokens.{keywords, reserved, in_table}
 use Rattle.st_ast.specs.declared.kinds.TokenKind.{TokenKind}

@@ -4,7 +4,7 @@ use Rattle.std.specs.List.{list_any}
 use Rattle.grammar.specs.Pieces.{Text, run_of, strip, rest_after}
 use Rattle.st_ast.specs.Names.{same_name}
 use Rattle.grammar.specs.Bytes.{is_blank}
-use Rattle.cutting.specs.Classes.{letter, digit, wordy}
+use Rattle.grammar.specs.Classes.{letter, digit, wordy}
 use Rattle.st_ast.specs.Tokens.{Token, Piece, blank, comment, word, number, sign, Tokens, signs, keywords, reserved, in_table, is_identifier, number_of, greatest, kind_of_sign}
 use Rattle.st_ast.specs.declared.kinds.TokenKind.{TokenKind}
 use Rattle.st_ast.specs.declared.kinds.TokenKind.TheVariants as kinds

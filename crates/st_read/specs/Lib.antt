@@ -8,3 +8,4 @@ pub mod Told
 pub mod Marks
 pub mod Refusals
 pub mod PartsOf
+pub mod Cutting

@@ -3,7 +3,7 @@
 ghost use Rattle.std.specs.Prelude.{◌≡◌, ◌≤◌, min, map, length, option_map, All, IfOk, IfErr};
 ghost use Rattle.std.specs.Option.{option_copied};
 ghost use Rattle.grammar.specs.Pieces.{run_of, strip};
-ghost use Rattle.cutting.specs.Classes.{digit, wordy};
+ghost use Rattle.grammar.specs.Classes.{digit, wordy};
 ghost use Rattle.st_ast.specs.Tokens as k;
 ghost use Rattle.st_read.specs.Lexing as lexing;
 ghost use Rattle.st_read.specs.Lexing.{Finds, Lexes, refusal_of};
@@ -15,7 +15,7 @@ use crate::found::{Fault, Found};
 use crate::marks::Mark;
 use crate::words::{kind_of_word, value_of};
 use cif_base::Items;
-use cutting::{after_pair, begins_word, is_blank, is_digit, split_number, split_word};
+use grammar::{after_pair, begins_word, is_blank, is_digit, split_number, split_word};
 use st_ast::TokenKind;
 use std::alloc::Global;
 

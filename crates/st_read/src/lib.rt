@@ -1,4 +1,5 @@
-//! Reading Structured Text (IEC 61131-3, "Structured Text") with one token of sight.
+//! Reading Structured Text (IEC 61131-3, "Structured Text"): the pieces of a text, its tokens, and its statements with
+//! one token of sight.
 #![tactic(auto)]
 
 mod declarations;
@@ -14,9 +15,11 @@ mod operands;
 mod program;
 mod statements;
 mod texts;
+mod token_lists;
 mod tokens;
 mod words;
 
 pub use error::StErr;
 pub use laws::{no_program_where_refused, one_program, programs_are_small};
 pub use texts::read;
+pub use token_lists::one_token_list;

@@ -5,7 +5,7 @@ ghost use Rattle.st_ast.specs.Tokens.{number_of, greatest};
 ghost use Rattle.st_read.specs.Marks.{IsMark, token_of};
 
 use crate::words::value_of;
-use cutting::{split_number, split_word};
+use grammar::{split_number, split_word};
 use st_ast::TokenKind;
 use std::marker::Model;
 

@@ -15,9 +15,9 @@ use Rattle.st_ast.specs.Interface.{numbers_of, is_input}
 use Rattle.st_ast.specs.Scan.{turns_of_scan, scan_of}
 use Rattle.st_ast.specs.View.{view_stmts, view}
 use Rattle.st_ast.specs.declared.tree.Program.{Program}
-use Rattle.st_place.specs.Placing.{of_order, of_equality, placed, placed_exprs, placed_factors, placed_terms, placed_stm, placed_stms, placed_branches, placed_other}
-use Rattle.st_place.specs.PlacedTree as to
-use Rattle.st_place.specs.PlacedTree.{Operator, of_factor, of_term}
+use Rattle.st_check.specs.Placing.{of_order, of_equality, placed, placed_exprs, placed_factors, placed_terms, placed_stm, placed_stms, placed_branches, placed_other}
+use Rattle.st_check.specs.PlacedTree as to
+use Rattle.st_check.specs.PlacedTree.{Operator, of_factor, of_term}
 use Rattle.st_scan.specs.PlacedValues.{value_at, steps_at, applied, decided, with_truth}
 use Rattle.st_scan.specs.PlacedExec.{exec_at, exec_one_at, exec_choice_at}
 use Rattle.st_scan.specs.Stored.{stored}

@@ -7,7 +7,7 @@ use Rattle.st_ast.specs.Exec.{Outcome, Ended, Faulted, OutOfTurns, Act, and_then
 use Rattle.st_scan.specs.declared.error.ScanErr.{ScanErr}
 use Rattle.st_scan.specs.declared.error.ScanErr.TheVariants.{Overflow, ZeroDivide, SubrangeLeft, Budget}
 use Rattle.st_scan.specs.Endings.{stopped, outcome_of}
-use Rattle.st_place.specs.PlacedTree.{Stm, Stms, Branches, assign, choice, loop, no_stms, stms, no_branches, branches}
+use Rattle.st_check.specs.PlacedTree.{Stm, Stms, Branches, assign, choice, loop, no_stms, stms, no_branches, branches}
 use Rattle.st_scan.specs.PlacedValues.{value_at, decided, with_truth}
 use Rattle.st_scan.specs.PlacedExec.{store_at, exec_at, exec_one_at, exec_choice_at}
 

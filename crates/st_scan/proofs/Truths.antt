@@ -2,12 +2,12 @@
 use Rattle.std.proofs.Common.{◌≡◌, ℤ, Bool, true, false, refl, ap, ◌∙◌}
 use Rattle.std.specs.Prelude.{Result, Ok, Err, not, ◌&&◌, ◌||◌}
 use Rattle.st_ast.specs.Values.{Fault, Memory, of_bool, is_true, with_value, differ}
-use Rattle.st_place.specs.PlacedTree as op
-use Rattle.st_place.specs.PlacedTree.{Expr, Steps, Operator}
-use Rattle.st_place.specs.PlacedTests.{Test, Tests, compare, flag, contrary, all_of, any_of, no_tests, tests, under_not, expr_of, exprs_of}
+use Rattle.st_check.specs.PlacedTree as op
+use Rattle.st_check.specs.PlacedTree.{Expr, Steps, Operator}
+use Rattle.st_check.specs.PlacedTests.{Test, Tests, compare, flag, contrary, all_of, any_of, no_tests, tests, under_not, expr_of, exprs_of}
 use Rattle.st_scan.specs.PlacedTruths.{truth_at, all_at, any_at}
 use Rattle.st_scan.specs.PlacedValues.{value_at, steps_at, applied, applied_to, decided}
-use Rattle.st_place.specs.declared.placed.Single.TheVariants as one
+use Rattle.st_check.specs.declared.placed.Single.TheVariants as one
 
 of-truth : (b : Bool) → is_true (of_bool b) ≡ b
 of-truth true = refl

@@ -3,7 +3,7 @@ use Rattle.std.specs.Prelude.{ℕ, suc, ℤ, slice_set, if◌then◌else◌}
 use Rattle.st_ast.specs.Values.{subrange_left, with_value}
 use Rattle.st_ast.specs.Exec.{Ended, Faulted, Act, and_then, is_within, repeated}
 use Rattle.st_ast.specs.declared.tree.StTy.{StTy}
-use Rattle.st_place.specs.PlacedTree.{Stm, Stms, Branches, assign, choice, loop, no_stms, stms, no_branches, branches}
+use Rattle.st_check.specs.PlacedTree.{Stm, Stms, Branches, assign, choice, loop, no_stms, stms, no_branches, branches}
 use Rattle.st_scan.specs.PlacedValues.{value_at, decided, with_truth}
 
 -- a value outside the subrange of its variable is a fault

@@ -1,7 +1,7 @@
 -- Helper of the code: whether tests of variables hold, which have a truth in every memory.
 use Rattle.std.specs.Prelude.{pos, Bool, true, false, not, ◌&&◌, ◌||◌, slice_index_or}
 use Rattle.st_ast.specs.Values.{Memory, is_true, differ}
-use Rattle.st_place.specs.PlacedTests.{Test, Tests, compare, flag, contrary, all_of, any_of, no_tests, tests}
+use Rattle.st_check.specs.PlacedTests.{Test, Tests, compare, flag, contrary, all_of, any_of, no_tests, tests}
 use Rattle.st_scan.specs.PlacedValues.{related}
 
 abbrev mutual

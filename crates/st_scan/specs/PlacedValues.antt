@@ -3,14 +3,14 @@
 use Rattle.std.specs.Prelude.{ℤ, pos, neg_ℤ, nat_abs, int_lt, int_le, Bool, true, false, not, ◌&&◌, ◌||◌, Result, Ok, Err, slice_index_or, if◌then◌else◌}
 use Rattle.st_ast.specs.Values.{Fault, Memory, of_bool, is_true, checked, with_value, both, same_number, added, multiplied, smaller, larger, differ}
 use Rattle.st_ast.specs.declared.tree.StMul.TheVariants as mul
-use Rattle.st_place.specs.PlacedTree.{Operator, Expr, Steps, number, placed, single, pair, chain, selected, no_steps, steps}
-use Rattle.st_place.specs.PlacedTree as op
-use Rattle.st_place.specs.declared.placed.Relation.{Relation}
-use Rattle.st_place.specs.declared.placed.Relation.TheVariants as rel
-use Rattle.st_place.specs.declared.placed.Join.{Join}
-use Rattle.st_place.specs.declared.placed.Join.TheVariants as join
-use Rattle.st_place.specs.declared.placed.Single.{Single}
-use Rattle.st_place.specs.declared.placed.Single.TheVariants as one
+use Rattle.st_check.specs.PlacedTree.{Operator, Expr, Steps, number, placed, single, pair, chain, selected, no_steps, steps}
+use Rattle.st_check.specs.PlacedTree as op
+use Rattle.st_check.specs.declared.placed.Relation.{Relation}
+use Rattle.st_check.specs.declared.placed.Relation.TheVariants as rel
+use Rattle.st_check.specs.declared.placed.Join.{Join}
+use Rattle.st_check.specs.declared.placed.Join.TheVariants as join
+use Rattle.st_check.specs.declared.placed.Single.{Single}
+use Rattle.st_check.specs.declared.placed.Single.TheVariants as one
 
 abbrev pub applied_to : Single → ℤ → Result ℤ Fault
 applied_to one.Minus x = checked 64 (neg_ℤ x)

@@ -4,11 +4,11 @@ ghost use Rattle.std.specs.Prelude.{◌≡◌, not};
 ghost use Rattle.st_ast.specs.Values.{differ};
 ghost use Rattle.st_scan.specs.PlacedTruths.{truth_at, all_at, any_at};
 ghost use Rattle.st_scan.specs.PlacedValues.{value_at, decided};
-ghost use Rattle.st_place.specs.PlacedView.{test_view, tests_view, cond_view};
+ghost use Rattle.st_check.specs.PlacedView.{test_view, tests_view, cond_view};
 ghost use Rattle.st_scan.specs.Told.{told_truth};
 
 use crate::values::{ValueFault, is_set, is_so, read, value};
-use st_place::{PlacedCond, PlacedTest};
+use st_check::{PlacedCond, PlacedTest};
 
 /// A truth, or the other one.
 #[inline(always)]

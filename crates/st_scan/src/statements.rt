@@ -6,7 +6,7 @@ ghost use Rattle.st_ast.specs.Exec.{Act, Faulted, is_within, repeated};
 ghost use Rattle.st_scan.specs.Endings.{LeavesAtMost, chosen, outcome_of, stopped};
 ghost use Rattle.st_scan.specs.PlacedExec.{store_at, exec_at, exec_one_at, exec_choice_at};
 ghost use Rattle.st_scan.specs.PlacedValues.{value_at};
-ghost use Rattle.st_place.specs.PlacedView.{cond_view, stmt_view, stmts_view, branches_view};
+ghost use Rattle.st_check.specs.PlacedView.{cond_view, stmt_view, stmts_view, branches_view};
 ghost use Rattle.st_scan.specs.Told.{fault_of};
 
 use crate::conditions::test;
@@ -14,7 +14,7 @@ use crate::error::ScanErr;
 use crate::storing::put;
 use crate::values::{ValueFault, value};
 use st_ast::StTy;
-use st_place::{PlacedBranch, PlacedCond, PlacedStmt};
+use st_check::{PlacedBranch, PlacedCond, PlacedStmt};
 
 /// What became of the branches of an IF: the turns that the one that was taken left, none was taken, or the scan ended.
 #[derive(Clone, Copy)]

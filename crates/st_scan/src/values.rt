@@ -3,13 +3,13 @@
 
 ghost use Rattle.std.specs.Prelude.{◌≡◌, slice_index_or, pos, Ok};
 ghost use Rattle.st_ast.specs.Values.{of_bool, is_true, same_number, divided, remainder};
-ghost use Rattle.st_place.specs.PlacedTree.{of_term, of_factor, of_extreme, joined_none};
+ghost use Rattle.st_check.specs.PlacedTree.{of_term, of_factor, of_extreme, joined_none};
 ghost use Rattle.st_scan.specs.PlacedValues.{value_at, steps_at, applied_to, applied, related, joined_with};
-ghost use Rattle.st_place.specs.PlacedView.{expr_view, terms_view, factors_view, operands_view};
+ghost use Rattle.st_check.specs.PlacedView.{expr_view, terms_view, factors_view, operands_view};
 ghost use Rattle.st_scan.specs.Told.{told, or_overflow};
 
 use st_ast::StMul;
-use st_place::{Join, PlacedExpr, PlacedFactor, PlacedTerm, Relation, Single};
+use st_check::{Join, PlacedExpr, PlacedFactor, PlacedTerm, Relation, Single};
 
 /// Why an expression has no value: a result outside 64 bits, or a divisor 0.
 #[derive(Clone, Copy, Debug, PartialEq, Eq)]

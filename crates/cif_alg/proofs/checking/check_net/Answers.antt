@@ -1,5 +1,5 @@
 use Rattle.cif_net.specs.View.{net_tree}
-use Rattle.cif_algebraic.proofs.GraphLaws.{order-acyclic}
+use Rattle.cif_alg_order.proofs.GraphLaws.{order-acyclic}
 use Rattle.cif_alg.proofs.KeepLaws.{keeps}
 use Rattle.cif_alg.proofs.LimitLaws.{order-told, refusal-told}
 use Rattle.cif_alg.proofs.checking.check_net.Goals as goal

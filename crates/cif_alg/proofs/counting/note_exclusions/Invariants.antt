@@ -1,6 +1,6 @@
 use Rattle.std.proofs.Common.{◌≡◌, map, drop}
 use Rattle.cif_net.specs.View.{exclusion_tree}
-use Rattle.cif_measure.specs.Meanings.{table_measure}
+use Rattle.cif_alg_measure.specs.Meanings.{table_measure}
 use Rattle.cif_alg.specs.Tallies.{exclusions_noted}
 use Rattle.cif_alg.proofs.counting.note_exclusions.Given as goal
 

@@ -1,6 +1,6 @@
 use Rattle.cif_net.specs.View.{net_tree}
-use Rattle.cif_algebraic.proofs.GraphLaws.{order-acyclic}
-use Rattle.cif_plain.proofs.Keeping.{keep-invariants}
+use Rattle.cif_alg_order.proofs.GraphLaws.{order-acyclic}
+use Rattle.cif_net_laws.proofs.Keeping.{keep-invariants}
 use Rattle.cif_alg.proofs.KeepLaws.{keeps}
 use Rattle.cif_alg.proofs.SettleLaws.{told-due, keeps-all}
 use Rattle.cif_alg.proofs.inlining.settle.Goals as goal

@@ -1,8 +1,8 @@
 -- Each promise is one line from a law on how the call came to its end.
 use Rattle.std.proofs.Common.{inl, refl}
 use Rattle.cif_run.specs.Works.{Reading, Writing, reading, writing}
-use Rattle.plc_face.specs.Face.{HasInterface}
-use Rattle.plc_face.specs.Scans.{NeverFaults, RunsFirstSteps, ScansLegally, ScansExactly, ShowsOutputs, StaysTyped}
+use Rattle.plc_model.specs.Face.{HasInterface}
+use Rattle.plc_model.specs.Scans.{NeverFaults, RunsFirstSteps, ScansLegally, ScansExactly, ShowsOutputs, StaysTyped}
 use Rattle.plc_back.specs.Texts.{IsLayoutOf, TheProgram}
 use Rattle.cif_accept.proofs.AcceptLaws as accept
 use Rattle.cif_generate.specs.Meaning.{AreClassed, IsTextOf, StartsInitial, meant_by, shown_of}

@@ -1,5 +1,5 @@
 use Rattle.std.proofs.Common.{◌≡◌, ◌++◌, map, drop}
-use Rattle.cif_term.specs.View.{view}
+use Rattle.cif_net_expr.specs.View.{view}
 use Rattle.cif_net.specs.View.{exclusion_tree}
 use Rattle.cif_guard.specs.Tests.{tests_at}
 use Rattle.cif_guard.proofs.exclusions.tests_of.Given as goal

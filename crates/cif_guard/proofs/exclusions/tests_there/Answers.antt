@@ -1,5 +1,5 @@
 use Rattle.std.proofs.Common.{map, sym, ◌∙◌, ap}
-use Rattle.cif_term.specs.View.{view}
+use Rattle.cif_net_expr.specs.View.{view}
 use Rattle.cif_guard.proofs.GuardLaws.{test-none}
 use Rattle.cif_guard.proofs.exclusions.tests_there.Goals as goal
 

@@ -1,6 +1,6 @@
 use Rattle.std.proofs.Common.{sym, ◌∙◌, ap}
-use Rattle.cif_term.specs.View.{view}
-use Rattle.cif_term.specs.declared.expressions.NetExpr.{roll-NetExpr}
+use Rattle.cif_net_expr.specs.View.{view}
+use Rattle.cif_net_expr.specs.declared.expressions.NetExpr.{roll-NetExpr}
 use Rattle.cif_guard.specs.Tests.{members}
 use Rattle.cif_guard.proofs.GuardLaws.{parted}
 use Rattle.cif_guard.proofs.guarding.members_of.Goals as goal

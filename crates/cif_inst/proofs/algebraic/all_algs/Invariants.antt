@@ -2,7 +2,7 @@ use Rattle.std.proofs.Common.{◌≡◌, ◌++◌, map, drop}
 use Rattle.cif_net.specs.View.{alg_tree}
 use Rattle.cif_inst.specs.Algebraic.{rows_algs}
 use Rattle.cif_inst.specs.Typing.{typed_source}
-use Rattle.cif_rows.specs.Views.{row_tree}
+use Rattle.cif_inst_paths.specs.Views.{row_tree}
 use Rattle.cif_inst.proofs.algebraic.all_algs.Given as goal
 
 abbrev pub invariant-loop-place : goal.invariant-loop-place

@@ -3,7 +3,7 @@ use Rattle.cif_source.specs.Objects.{is_automaton}
 use Rattle.cif_scope.specs.Written.{inside_of}
 use Rattle.cif_inst.specs.Algebraic.{home_number}
 use Rattle.cif_inst.specs.Typing.{typed_source, typed_component}
-use Rattle.cif_rows.proofs.SoundLaws.{component-is}
+use Rattle.cif_inst_paths.proofs.SoundLaws.{component-is}
 use Rattle.cif_inst.proofs.algebraic.auto_of.Goals as goal
 
 pub returns-in-Automaton : goal.returns-in-Automaton

@@ -1,5 +1,5 @@
 use Rattle.std.proofs.Common.{◌≡◌, ◌++◌, map, drop}
-use Rattle.cif_term.specs.View as net
+use Rattle.cif_net_expr.specs.View as net
 use Rattle.cif_inst.specs.Algebraic.{definition_in}
 use Rattle.cif_inst.specs.Equations.{values_in}
 use Rattle.cif_inst.specs.Typing.{typed_component}

@@ -7,11 +7,11 @@ use Rattle.cif_source.specs.Source.{automaton_tree, location_tree}
 use Rattle.cif_scope.specs.Written.{inside_of}
 use Rattle.cif_inst.specs.Alphabets.{location_used, automaton_alphabet, body_alphabets, rows_alphabets, automaton_lacks, body_lacks, rows_lacks, tells}
 use Rattle.cif_inst.specs.Marks.{AreMarks}
-use Rattle.cif_translate.specs.Looking.{source_for, component_at}
-use Rattle.cif_rows.specs.Views.{row_tree}
+use Rattle.cif_inst_names.specs.Looking.{source_for, component_at}
+use Rattle.cif_inst_paths.specs.Views.{row_tree}
 use Rattle.cif_inst.specs.declared.alphabets.Alphabet.{Alphabet}
 use Rattle.cif_inst.proofs.MarkLaws.{first_marks, later_marks}
-use Rattle.cif_rows.proofs.RowBodyLaws.{row_below, row_written}
+use Rattle.cif_inst_paths.proofs.RowBodyLaws.{row_below, row_written}
 use Rattle.cif_inst.proofs.RowAutoLaws.{alphabet_added, no_alphabet_added, lacks_passed, lacks_told}
 use Rattle.cif_inst.proofs.alphabets.all_alphabets.Goals as goal
 use Rattle.cif_inst.proofs.alphabets.all_alphabets.Goals.{in-Automaton+in_ok-number+in_ok-number-2+in_ok-used+in_ok-alphabet_of+in_ok-push, in_default}

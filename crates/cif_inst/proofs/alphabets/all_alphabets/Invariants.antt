@@ -1,9 +1,9 @@
 use Rattle.std.proofs.Common.{◌≡◌, ◌++◌, length, map, drop}
 use Rattle.cif_source.specs.Objects.{events}
-use Rattle.cif_translate.specs.Looking.{source_for}
+use Rattle.cif_inst_names.specs.Looking.{source_for}
 use Rattle.cif_inst.specs.Alphabets.{rows_alphabets, rows_lacks}
 use Rattle.cif_inst.specs.Marks.{AreMarks}
-use Rattle.cif_rows.specs.Views.{row_tree}
+use Rattle.cif_inst_paths.specs.Views.{row_tree}
 use Rattle.cif_inst.proofs.alphabets.all_alphabets.Given as goal
 
 abbrev pub invariant-loop-place : goal.invariant-loop-place

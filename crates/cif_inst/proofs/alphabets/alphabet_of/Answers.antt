@@ -4,7 +4,7 @@ use Rattle.cif_ast.specs.declared.edges.Loc.{Loc}
 use Rattle.cif_system.specs.System.{syncing}
 use Rattle.cif_source.specs.Source.{location_tree, automaton_tree}
 use Rattle.cif_source.specs.Objects.{events}
-use Rattle.cif_translate.specs.Looking.{source_for}
+use Rattle.cif_inst_names.specs.Looking.{source_for}
 use Rattle.cif_inst.specs.Alphabets.{location_places, events_as, alphabet_by, monitors_by, automaton_lacks, tells}
 use Rattle.cif_inst.proofs.MarkLaws.{next_marks}
 use Rattle.cif_inst.proofs.AutomatonLaws.{synced_told, monitors_told, or_tells, or_none}

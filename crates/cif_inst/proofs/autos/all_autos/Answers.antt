@@ -1,8 +1,8 @@
 use Rattle.std.proofs.Common.{rules, ◌<◌, List, length, drop, sym, ◌∙◌, ap, subst}
 use Rattle.cif_source.specs.Objects.{components_of}
-use Rattle.cif_translate.specs.Looking.{source_for}
+use Rattle.cif_inst_names.specs.Looking.{source_for}
 use Rattle.cif_net.specs.declared.automata.Auto.{Auto}
-use Rattle.cif_rows.proofs.RowBodyLaws.{row_below}
+use Rattle.cif_inst_paths.proofs.RowBodyLaws.{row_below}
 use Rattle.cif_inst.proofs.autos.all_autos.Goals as goal
 
 pub loop-place-init : goal.loop-place-init

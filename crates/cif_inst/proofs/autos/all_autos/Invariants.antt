@@ -2,7 +2,7 @@ use Rattle.std.proofs.Common.{◌≡◌, ◌++◌, length, map, drop}
 use Rattle.cif_net.specs.View.{auto_tree}
 use Rattle.cif_inst.specs.Alphabets.{rows_alphabets}
 use Rattle.cif_inst.specs.Autos.{rows_autos}
-use Rattle.cif_rows.specs.Views.{row_tree}
+use Rattle.cif_inst_paths.specs.Views.{row_tree}
 use Rattle.cif_inst.proofs.autos.all_autos.Given as goal
 
 abbrev pub invariant-loop-place : goal.invariant-loop-place

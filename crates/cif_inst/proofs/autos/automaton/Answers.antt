@@ -3,7 +3,7 @@ use Rattle.std.specs.List.{position_or_len}
 use Rattle.cif_system.proofs.Lists.{map-length}
 use Rattle.cif_ast.specs.declared.edges.Loc.{Loc}
 use Rattle.cif_source.specs.Source.{location_tree, automaton_tree}
-use Rattle.cif_image.specs.Flat.{location_name}
+use Rattle.cif_inst_model.specs.Flat.{location_name}
 use Rattle.cif_inst.specs.Autos.{is_initial}
 use Rattle.cif_inst.specs.Edges.{locations_edges}
 use Rattle.cif_inst.proofs.AutoLaws.{made_auto}

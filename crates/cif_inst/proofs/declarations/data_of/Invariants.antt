@@ -1,6 +1,6 @@
 use Rattle.std.proofs.Common.{◌≡◌, ◌++◌, map, drop}
 use Rattle.cif_inst.specs.Declarations.{rows_data}
-use Rattle.cif_rows.specs.Views.{row_tree}
+use Rattle.cif_inst_paths.specs.Views.{row_tree}
 use Rattle.cif_inst.specs.Views.{datum_tree}
 use Rattle.cif_inst.proofs.declarations.data_of.Given as goal
 

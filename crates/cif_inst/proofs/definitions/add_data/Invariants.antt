@@ -1,5 +1,5 @@
 use Rattle.std.proofs.Common.{◌≡◌, ◌++◌, map, drop}
-use Rattle.cif_weights.specs.Definitions.{definition_tree}
+use Rattle.cif_inst_sizes.specs.Definitions.{definition_tree}
 use Rattle.cif_inst.specs.Definitions.{definition_with}
 use Rattle.cif_inst.specs.Equations.{values_in}
 use Rattle.cif_inst.specs.Views.{datum_tree}

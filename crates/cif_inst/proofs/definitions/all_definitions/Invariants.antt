@@ -1,6 +1,6 @@
 use Rattle.std.proofs.Common.{◌≡◌, ◌++◌, map, drop}
-use Rattle.cif_weights.specs.Definitions.{definition_tree}
-use Rattle.cif_rows.specs.Views.{row_tree}
+use Rattle.cif_inst_sizes.specs.Definitions.{definition_tree}
+use Rattle.cif_inst_paths.specs.Views.{row_tree}
 use Rattle.cif_inst.specs.Definitions.{rows_definitions}
 use Rattle.cif_inst.proofs.definitions.all_definitions.Given as goal
 

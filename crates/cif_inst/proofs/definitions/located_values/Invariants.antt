@@ -1,5 +1,5 @@
 use Rattle.std.proofs.Common.{◌≡◌, ◌++◌, map, drop}
-use Rattle.cif_weights.specs.Definitions.{value_tree}
+use Rattle.cif_inst_sizes.specs.Definitions.{value_tree}
 use Rattle.cif_inst.specs.Equations.{value_for, values_in}
 use Rattle.cif_inst.proofs.definitions.located_values.Given as goal
 

@@ -2,10 +2,10 @@ use Rattle.std.proofs.Common.{List, map, ◌∙◌, ap}
 use Rattle.cif_ast.specs.View.{view as source_view, view_updates as source_updates}
 use Rattle.cif_ast.specs.declared.expressions.Expr.{Expr}
 use Rattle.cif_ast.specs.declared.edges.Update.{Update}
-use Rattle.cif_term.specs.View.{view}
-use Rattle.cif_image.specs.Flat.{net_updates_of}
-use Rattle.cif_image.specs.Translation.{net_guard}
-use Rattle.cif_translate.specs.Looking.{component_at}
+use Rattle.cif_net_expr.specs.View.{view}
+use Rattle.cif_inst_model.specs.Flat.{net_updates_of}
+use Rattle.cif_inst_model.specs.Translation.{net_guard}
+use Rattle.cif_inst_names.specs.Looking.{component_at}
 use Rattle.cif_inst.proofs.EdgeLaws.{edge_added}
 use Rattle.cif_inst.proofs.edges.add_use.Goals as goal
 

@@ -1,6 +1,6 @@
 use Rattle.std.proofs.Common.{◌≡◌, ◌++◌, map, drop}
 use Rattle.cif_inst.specs.Events.{rows_events}
-use Rattle.cif_rows.specs.Views.{row_tree}
+use Rattle.cif_inst_paths.specs.Views.{row_tree}
 use Rattle.cif_inst.specs.Views.{event_datum}
 use Rattle.cif_inst.proofs.events.all_events.Given as goal
 

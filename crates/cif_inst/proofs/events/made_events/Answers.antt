@@ -1,6 +1,6 @@
 use Rattle.std.proofs.Common.{[], ◌∷◌, ◌++◌, map, ◌∙◌, ap}
 use Rattle.std.proofs.lemmas.List.{map-append}
-use Rattle.cif_model.specs.Net.{NetEvent}
+use Rattle.cif_net_model.specs.Net.{NetEvent}
 use Rattle.cif_net.specs.View.{event_tree}
 use Rattle.cif_inst.specs.Events.{made_event}
 use Rattle.cif_inst.specs.Typing.{typed_source}

@@ -1,7 +1,7 @@
 use Rattle.std.proofs.Common.{sym, ◌∙◌, ap}
 use Rattle.cif_source.specs.Source.{type_tree, channel_tree}
-use Rattle.cif_model.specs.Net.{net_chan_of}
-use Rattle.cif_image.specs.Types.{NetType, net_channel}
+use Rattle.cif_net_model.specs.Net.{net_chan_of}
+use Rattle.cif_inst_model.specs.Types.{NetType, net_channel}
 use Rattle.cif_inst.specs.Typing.{typed_source, typed_component}
 use Rattle.cif_inst.proofs.TypingLaws.{home_listed, home_body}
 use Rattle.cif_inst.proofs.events.net_chan.Goals as goal

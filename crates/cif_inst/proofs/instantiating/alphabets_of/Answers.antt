@@ -1,8 +1,8 @@
 use Rattle.std.proofs.Common.{rules, map, sym, ◌∙◌, ap}
-use Rattle.cif_translate.specs.Looking.{source_for}
+use Rattle.cif_inst_names.specs.Looking.{source_for}
 use Rattle.cif_inst.specs.Net.{due}
 use Rattle.cif_inst.specs.Roles.{first_mixed}
-use Rattle.cif_rows.specs.Views.{row_tree}
+use Rattle.cif_inst_paths.specs.Views.{row_tree}
 use Rattle.cif_inst.proofs.MixedLaws.{mixed_told, all_below}
 use Rattle.cif_inst.proofs.NetLaws.{matched_names, kept_rules, told_due}
 use Rattle.cif_inst.proofs.instantiating.alphabets_of.Goals as goal

@@ -1,17 +1,17 @@
 use Rattle.std.proofs.Common.{◌≡◌, ℕ, true, ◌++◌, rules, map, sym, subst, ◌∙◌, ap}
 use Rattle.cif_net.specs.View.{event_tree}
-use Rattle.cif_model.specs.Counts as counts
-use Rattle.cif_measure.specs.Sizes.{AreMeasured}
-use Rattle.cif_image.specs.Flat.{net_of_source}
-use Rattle.cif_translate.specs.Looking.{source_for}
-use Rattle.cif_rows.specs.Names.{AreMatchedNames}
-use Rattle.cif_rows.specs.Views.{row_tree}
-use Rattle.cif_weights.specs.Definitions.{definition_tree}
-use Rattle.cif_predicates.specs.Weights.{AreWeightsOf}
+use Rattle.cif_net_model.specs.Counts as counts
+use Rattle.cif_alg_measure.specs.Sizes.{AreMeasured}
+use Rattle.cif_inst_model.specs.Flat.{net_of_source}
+use Rattle.cif_inst_names.specs.Looking.{source_for}
+use Rattle.cif_inst_paths.specs.Names.{AreMatchedNames}
+use Rattle.cif_inst_paths.specs.Views.{row_tree}
+use Rattle.cif_inst_sizes.specs.Definitions.{definition_tree}
+use Rattle.cif_inst_predicates.specs.Weights.{AreWeightsOf}
 use Rattle.cif_inst.specs.Measures.{predicate_weights, rows_weights}
 use Rattle.cif_inst.specs.Net.{due}
 use Rattle.cif_inst.proofs.DefinitionLaws.{definitions-are}
-use Rattle.cif_weights.proofs.DefinitionLaws.{exact-alg}
+use Rattle.cif_inst_sizes.proofs.DefinitionLaws.{exact-alg}
 use Rattle.cif_inst.proofs.NetLaws.{matched_names, source_fits}
 use Rattle.cif_inst.proofs.SizeLaws.{IsOutlined, size_due}
 use Rattle.cif_inst.proofs.instantiating.check_expressions.Goals as goal

@@ -1,10 +1,10 @@
 use Rattle.std.proofs.Common.{rules, ◌≡◌, List, map, sym, subst}
 use Rattle.std.specs.Global.{Vec}
 use Rattle.cif_source.specs.Source.{source_of}
-use Rattle.cif_parameters.specs.declared.given.Given.{Given}
-use Rattle.cif_parameters.specs.Given.{given_items, AreParametersOf}
-use Rattle.cif_translate.specs.Objects.{AreValuesOf}
-use Rattle.cif_translate.specs.declared.objects.Value.{Value}
+use Rattle.cif_inst_parameters.specs.declared.given.Given.{Given}
+use Rattle.cif_inst_parameters.specs.Given.{given_items, AreParametersOf}
+use Rattle.cif_inst_names.specs.Objects.{AreValuesOf}
+use Rattle.cif_inst_names.specs.declared.objects.Value.{Value}
 use Rattle.cif_inst.specs.Net.{due, of_components, of_constants}
 use Rattle.cif_inst.specs.declared.error.InstErr.{InstErr}
 use Rattle.cif_inst.proofs.NetLaws.{components_due, constants_due}

@@ -1,8 +1,8 @@
 use Rattle.std.proofs.Common.{List, map, ◌∙◌, ap}
 use Rattle.cif_net.specs.View.{event_tree}
 use Rattle.cif_net.specs.declared.events.Event.{Event}
-use Rattle.cif_rows.specs.Views.{row_tree}
-use Rattle.cif_rows.specs.declared.rows.Row.{Row}
+use Rattle.cif_inst_paths.specs.Views.{row_tree}
+use Rattle.cif_inst_paths.specs.declared.rows.Row.{Row}
 use Rattle.cif_inst.proofs.NetLaws.{IsMade, matched_names, fits_with, represents_with}
 use Rattle.cif_inst.proofs.instantiating.made_net.Goals as goal
 

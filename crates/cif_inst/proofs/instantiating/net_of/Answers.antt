@@ -1,7 +1,7 @@
 use Rattle.std.proofs.Common.{List, map, Option, Bor, ◌∙◌, ap}
 use Rattle.cif_ast.specs.declared.declarations.Decl.{Decl}
-use Rattle.cif_constants.specs.Slots.{row_of}
-use Rattle.cif_translate.specs.Looking.{source_for}
+use Rattle.cif_inst_constants.specs.Slots.{row_of}
+use Rattle.cif_inst_names.specs.Looking.{source_for}
 use Rattle.cif_inst.proofs.RuleLaws.{bounds_kept}
 use Rattle.cif_inst.proofs.instantiating.net_of.Goals as goal
 

@@ -1,6 +1,6 @@
 use Rattle.cif_source.specs.Source.{edge_tree}
-use Rattle.cif_translate.specs.Looking.{component_at}
-use Rattle.cif_weights.specs.Weights.{alg_by}
+use Rattle.cif_inst_names.specs.Looking.{component_at}
+use Rattle.cif_inst_sizes.specs.Weights.{alg_by}
 use Rattle.cif_inst.proofs.MeasureLaws.{weight_added}
 use Rattle.cif_inst.proofs.measures.add_edge.Goals as goal
 

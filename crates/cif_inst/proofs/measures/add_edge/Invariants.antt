@@ -1,7 +1,7 @@
 use Rattle.std.proofs.Common.{◌≡◌, ◌++◌, map, drop}
 use Rattle.cif_source.specs.Source.{use_tree, edge_tree}
-use Rattle.cif_translate.specs.Looking.{component_at}
-use Rattle.cif_weights.specs.Weights.{alg_by, use_weight}
+use Rattle.cif_inst_names.specs.Looking.{component_at}
+use Rattle.cif_inst_sizes.specs.Weights.{alg_by, use_weight}
 use Rattle.cif_inst.proofs.measures.add_edge.Given as goal
 
 abbrev pub invariant-loop-event_use : goal.invariant-loop-event_use

@@ -1,6 +1,6 @@
 use Rattle.std.proofs.Common.{◌≡◌, ◌++◌, map, flat_map, drop}
 use Rattle.cif_source.specs.Source.{edge_tree}
-use Rattle.cif_weights.specs.Weights.{alg_by}
+use Rattle.cif_inst_sizes.specs.Weights.{alg_by}
 use Rattle.cif_inst.specs.Measures.{edge_weights}
 use Rattle.cif_inst.proofs.measures.add_edges.Given as goal
 

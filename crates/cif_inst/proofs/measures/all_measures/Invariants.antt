@@ -1,6 +1,6 @@
 use Rattle.std.proofs.Common.{◌≡◌, ◌++◌, map, drop}
-use Rattle.cif_rows.specs.Views.{row_tree}
-use Rattle.cif_weights.specs.Weights.{alg_by}
+use Rattle.cif_inst_paths.specs.Views.{row_tree}
+use Rattle.cif_inst_sizes.specs.Weights.{alg_by}
 use Rattle.cif_inst.specs.Measures.{predicate_weights, rows_weights}
 use Rattle.cif_inst.proofs.measures.all_measures.Given as goal
 

@@ -1,10 +1,10 @@
 use Rattle.std.proofs.Common.{ℕ, ◌+◌, ◌++◌, [], ◌∷◌, List, append_assoc, drop, map, sym, ap, ◌∙◌}
 use Rattle.std.proofs.lemmas.List.{at_drop_more, map-append}
-use Rattle.cif_model.specs.Net.{NetInvariant}
+use Rattle.cif_net_model.specs.Net.{NetInvariant}
 use Rattle.cif_net.specs.View.{invariant_tree}
 use Rattle.cif_net.specs.declared.predicates.Invariant.{Invariant}
-use Rattle.cif_term.specs.Tree.{NetExpr}
-use Rattle.cif_measure.specs.declared.measures.Measure.{Measure}
+use Rattle.cif_net_expr.specs.Tree.{NetExpr}
+use Rattle.cif_alg_measure.specs.declared.measures.Measure.{Measure}
 use Rattle.cif_inst.specs.Outlines as outlines
 use Rattle.cif_inst.proofs.outlines.outline_invariants.Goals as goal
 

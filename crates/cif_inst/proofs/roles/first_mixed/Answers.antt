@@ -1,7 +1,7 @@
 use Rattle.std.proofs.Common.{refl, sym, ◌∙◌, subst}
 use Rattle.cif_inst.specs.Marks.{AreMarks}
 use Rattle.cif_inst.proofs.MarkLaws.{first_marks, mixed_by, marks_after, mixed_passed, mixed_found}
-use Rattle.cif_rows.proofs.SoundLaws.{item-listed}
+use Rattle.cif_inst_paths.proofs.SoundLaws.{item-listed}
 use Rattle.cif_inst.proofs.roles.first_mixed.Goals as goal
 
 pub loop-place-init : goal.loop-place-init

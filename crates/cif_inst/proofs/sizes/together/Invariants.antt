@@ -1,5 +1,5 @@
 use Rattle.std.proofs.Common.{◌≡◌, drop}
-use Rattle.cif_measure.specs.Sizes.{table_counted}
+use Rattle.cif_alg_measure.specs.Sizes.{table_counted}
 use Rattle.cif_inst.specs.Outlines as outlines
 use Rattle.cif_inst.proofs.sizes.together.Given as goal
 

@@ -1,6 +1,6 @@
 use Rattle.std.proofs.Common.{[], ◌∷◌, ◌++◌, map, ◌∙◌, ap}
 use Rattle.std.proofs.lemmas.List.{map-append}
-use Rattle.cif_model.specs.Net.{NetStored}
+use Rattle.cif_net_model.specs.Net.{NetStored}
 use Rattle.cif_net.specs.View.{var_tree}
 use Rattle.cif_inst.specs.Typing.{typed_source}
 use Rattle.cif_inst.specs.Variables.{stored}

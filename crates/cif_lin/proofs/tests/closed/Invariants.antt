@@ -1,5 +1,5 @@
 use Rattle.std.proofs.Common.{◌≡◌, ◌++◌, map, drop}
-use Rattle.cif_term.specs.View.{view}
+use Rattle.cif_net_expr.specs.View.{view}
 use Rattle.cif_net.specs.View.{auto_tree}
 use Rattle.cif_lin.specs.Pieces as p
 use Rattle.cif_lin.proofs.tests.closed.Given as goal

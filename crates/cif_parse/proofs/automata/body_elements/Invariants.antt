@@ -1,7 +1,7 @@
 use Rattle.std.proofs.Common.{◌≡◌, ◌-◌}
 use Rattle.grammar.specs.Reader.{many_from, many_at}
 use Rattle.grammar.specs.Loops.{after}
-use Rattle.cif_expr.specs.TokenKinds.{sort}
+use Rattle.cif_parse_expr.specs.TokenKinds.{sort}
 use Rattle.cif_parse.specs.Reading.{body_element_first, body_element_at}
 use Rattle.cif_parse.proofs.automata.body_elements.Given as goal
 

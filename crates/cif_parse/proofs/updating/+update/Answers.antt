@@ -1,5 +1,5 @@
 use Rattle.std.proofs.Common.{rules, subst, sym}
-use Rattle.cif_expr.specs.Gives.{Gives}
+use Rattle.cif_parse_expr.specs.Gives.{Gives}
 use Rattle.cif_parse.proofs.Depths.{choice_read}
 use Rattle.cif_parse.proofs.updating.+update.Goals as goal
 

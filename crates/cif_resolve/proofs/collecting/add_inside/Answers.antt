@@ -2,7 +2,7 @@ use Rattle.std.proofs.Common.{◌≡◌, ◌++◌, map, subst, sym}
 use Rattle.std.specs.Prelude.{OnOk}
 use Rattle.cif_source.specs.Source.{no_source}
 use Rattle.cif_source.specs.Components.{whole}
-use Rattle.cif_uses.specs.Views.{use_of}
+use Rattle.cif_scope_uses.specs.Views.{use_of}
 use Rattle.cif_scope.specs.declared.written.Inside.{Inside}
 use Rattle.cif_scope.specs.Written.{body_of_written, inside_of}
 use Rattle.cif_resolve.specs.Bodies.{uses_under}

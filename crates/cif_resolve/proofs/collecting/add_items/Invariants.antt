@@ -1,7 +1,7 @@
 use Rattle.std.proofs.Common.{◌≡◌, ◌++◌, map, drop}
 use Rattle.cif_ast.specs.View.{view_items}
 use Rattle.cif_source.specs.Source.{source_items}
-use Rattle.cif_uses.specs.Views.{use_of}
+use Rattle.cif_scope_uses.specs.Views.{use_of}
 use Rattle.cif_scope.specs.Written.{body_of_written}
 use Rattle.cif_resolve.specs.Bodies.{uses_in}
 use Rattle.cif_resolve.proofs.collecting.add_items.Given as goal

@@ -1,7 +1,7 @@
 use Rattle.std.proofs.Common.{◌≡◌, ◌++◌, map, drop}
 use Rattle.cif_ast.specs.View.{view_items}
 use Rattle.cif_source.specs.Source.{source_items}
-use Rattle.cif_uses.specs.Views.{own_name_of}
+use Rattle.cif_scope_uses.specs.Views.{own_name_of}
 use Rattle.cif_resolve.specs.Bodies.{own_in}
 use Rattle.cif_resolve.proofs.collecting.add_own_items.Given as goal
 

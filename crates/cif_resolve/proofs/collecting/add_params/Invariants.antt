@@ -1,7 +1,7 @@
 use Rattle.std.proofs.Common.{◌≡◌, ◌++◌, map, flat_map, drop}
 use Rattle.cif_source.specs.Source.{param_tree}
 use Rattle.cif_source.specs.Uses.{param_uses}
-use Rattle.cif_uses.specs.Views.{use_of}
+use Rattle.cif_scope_uses.specs.Views.{use_of}
 use Rattle.cif_resolve.proofs.collecting.add_params.Given as goal
 
 abbrev pub invariant-loop-param : goal.invariant-loop-param

@@ -1,5 +1,5 @@
 use Rattle.std.proofs.Common.{◌≡◌, map, drop}
-use Rattle.cif_uses.specs.Views.{own_name_of}
+use Rattle.cif_scope_uses.specs.Views.{own_name_of}
 use Rattle.cif_resolve.specs.Tests.{first_some, own_fault}
 use Rattle.cif_resolve.proofs.testing.first_own.Given as goal
 

@@ -1,5 +1,5 @@
 use Rattle.std.proofs.Common.{◌≡◌, map, drop}
-use Rattle.cif_uses.specs.Views.{use_of}
+use Rattle.cif_scope_uses.specs.Views.{use_of}
 use Rattle.cif_resolve.specs.Tests.{first_some, used_fault}
 use Rattle.cif_resolve.proofs.testing.first_used.Given as goal
 

@@ -1,6 +1,6 @@
 use Rattle.std.proofs.Common.{◌++◌, sym, ap, ◌∙◌}
 use Rattle.std.proofs.lemmas.List.{append-nil}
-use Rattle.cif_model.specs.Net.{NetEvent}
+use Rattle.cif_net_model.specs.Net.{NetEvent}
 use Rattle.cif_net.specs.Parts.{event_tree}
 use Rattle.grammar.specs.Pieces.{Text}
 use Rattle.cif_script.proofs.Listing.{no_path, nothing_there, path_at}

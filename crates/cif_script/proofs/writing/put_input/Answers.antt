@@ -5,8 +5,8 @@ use Rattle.std.proofs.lemmas.List.{append-nil}
 use Rattle.cif_net.specs.Parts.{input_tree}
 use Rattle.cif_net.specs.View.{net_tree}
 use Rattle.grammar.specs.Pieces.{Text}
-use Rattle.sim_face.specs.Texts.{input_told, value_told}
-use Rattle.sim_shown.specs.Nets.{names_of_net, stored_names}
+use Rattle.cif_sim_model.specs.Texts.{input_told, value_told}
+use Rattle.cif_sim_names.specs.Nets.{names_of_net, stored_names}
 use Rattle.cif_script.specs.Views.{stored_of}
 use Rattle.cif_script.proofs.Listing.{nothing_there, nothing_told, told_at}
 use Rattle.cif_script.proofs.writing.put_input.Goals as goal

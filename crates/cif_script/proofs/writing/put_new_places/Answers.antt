@@ -1,8 +1,8 @@
 use Rattle.std.proofs.Common.{arith, ◌∙◌}
 use Rattle.std.specs.Prelude.{nat_eq}
 use Rattle.cif_net.specs.Parts.{auto_tree}
-use Rattle.sim_face.specs.Texts.{place_told}
-use Rattle.sim_shown.specs.Nets.{auto_names}
+use Rattle.cif_sim_model.specs.Texts.{place_told}
+use Rattle.cif_sim_names.specs.Nets.{auto_names}
 use Rattle.cif_script.proofs.Listing.{all_told, change_told, got}
 use Rattle.cif_script.proofs.writing.put_new_places.Goals as goal
 

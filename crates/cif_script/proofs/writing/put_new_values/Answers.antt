@@ -1,8 +1,8 @@
 use Rattle.std.proofs.Common.{arith, ◌∙◌}
 use Rattle.std.specs.Ordering.{int_eq}
 use Rattle.cif_net.specs.Parts.{var_tree}
-use Rattle.sim_face.specs.Texts.{value_told}
-use Rattle.sim_shown.specs.Nets.{stored_names}
+use Rattle.cif_sim_model.specs.Texts.{value_told}
+use Rattle.cif_sim_names.specs.Nets.{stored_names}
 use Rattle.cif_script.proofs.Listing.{all_told, change_told, got}
 use Rattle.cif_script.proofs.writing.put_new_values.Goals as goal
 

@@ -2,8 +2,8 @@ use Rattle.std.proofs.Common.{◌++◌, map, length, sym, ap, ◌∙◌}
 use Rattle.std.proofs.lemmas.List.{append-nil}
 use Rattle.std.proofs.lemmas.Slice.Zip.{zip_end}
 use Rattle.cif_net.specs.Parts.{auto_tree}
-use Rattle.sim_face.specs.Texts.{listed, place_told}
-use Rattle.sim_shown.specs.Nets.{auto_names}
+use Rattle.cif_sim_model.specs.Texts.{listed, place_told}
+use Rattle.cif_sim_names.specs.Nets.{auto_names}
 use Rattle.cif_script.proofs.Listing.{pairs_end}
 use Rattle.cif_script.proofs.writing.put_places.Goals as goal
 

@@ -2,7 +2,7 @@ use Rattle.std.proofs.Common.{◌++◌, map, ap, ◌∙◌}
 use Rattle.std.specs.Prelude.{codes}
 use Rattle.std.specs.List.{zip}
 use Rattle.grammar.specs.Pieces.{Text}
-use Rattle.sim_face.specs.Texts.{listed, place_told, value_told}
+use Rattle.cif_sim_model.specs.Texts.{listed, place_told, value_told}
 use Rattle.cif_script.specs.Views.{autos_named, vars_named}
 use Rattle.cif_script.proofs.Listing.{start_parts}
 use Rattle.cif_script.proofs.writing.put_start.Goals as goal

@@ -5,8 +5,8 @@ use Rattle.std.specs.Ordering.{int_eq}
 use Rattle.std.proofs.lemmas.Int.{to_z_pos}
 use Rattle.cif_net.specs.View.{net_tree}
 use Rattle.grammar.specs.Pieces.{Text}
-use Rattle.sim_face.specs.Texts.{changed, event_path, listed, place_told, value_told}
-use Rattle.sim_shown.specs.Nets.{names_of_net}
+use Rattle.cif_sim_model.specs.Texts.{changed, event_path, listed, place_told, value_told}
+use Rattle.cif_sim_names.specs.Nets.{names_of_net}
 use Rattle.cif_script.specs.Views.{autos_named, vars_named}
 use Rattle.cif_script.proofs.Listing.{step_parts}
 use Rattle.cif_script.proofs.writing.put_step.Goals as goal

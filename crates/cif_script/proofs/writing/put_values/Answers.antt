@@ -2,8 +2,8 @@ use Rattle.std.proofs.Common.{◌++◌, map, length, sym, ap, ◌∙◌}
 use Rattle.std.proofs.lemmas.List.{append-nil}
 use Rattle.std.proofs.lemmas.Slice.Zip.{zip_end}
 use Rattle.cif_net.specs.Parts.{var_tree}
-use Rattle.sim_face.specs.Texts.{listed, value_told}
-use Rattle.sim_shown.specs.Nets.{stored_names}
+use Rattle.cif_sim_model.specs.Texts.{listed, value_told}
+use Rattle.cif_sim_names.specs.Nets.{stored_names}
 use Rattle.cif_script.proofs.Listing.{pairs_end}
 use Rattle.cif_script.proofs.writing.put_values.Goals as goal
 

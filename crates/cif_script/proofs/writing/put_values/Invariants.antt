@@ -1,6 +1,6 @@
 use Rattle.std.proofs.Common.{◌≡◌, ◌++◌, map, drop, length}
 use Rattle.std.specs.List.{zip}
-use Rattle.sim_face.specs.Texts.{listed, value_told}
+use Rattle.cif_sim_model.specs.Texts.{listed, value_told}
 use Rattle.cif_script.specs.Views.{vars_named}
 use Rattle.cif_script.proofs.writing.put_values.Given as goal
 

@@ -1,7 +1,7 @@
 use Rattle.std.proofs.Common.{◌∙◌, ap, sym, w64}
 use Rattle.std.proofs.lemmas.Int.{to_z-of_z}
 use Rattle.cif_system.specs.System.{in_range}
-use Rattle.cif_model.specs.Meaning.{type_range}
+use Rattle.cif_net_model.specs.Meaning.{type_range}
 use Rattle.std.specs.Prelude.{option_map, slice_get}
 use Rattle.cif_net.specs.declared.data.Input.{Input}
 use Rattle.cif_sim.proofs.Fitting.{input-takes}

@@ -1,7 +1,7 @@
 use Rattle.std.proofs.Common.{◌≤◌, ◌<◌, ◌∙◌, [], ◌∷◌, ◌++◌, ap, length, arith}
 use Rattle.std.specs.Prelude.{slice_get}
 use Rattle.cif_sim.specs.Starts.{choices_below}
-use Rattle.cif_fire.specs.Choices.{system_of}
+use Rattle.cif_eval.specs.Choices.{system_of}
 use Rattle.cif_sim.proofs.Begun.{begun-more, begun-none}
 use Rattle.cif_sim.proofs.Listed.{below-all, end-is}
 use Rattle.cif_sim.proofs.starts.starts.Goals as goal

@@ -1,4 +1,4 @@
-use Rattle.cif_fire.specs.Choices.{system_of}
+use Rattle.cif_eval.specs.Choices.{system_of}
 use Rattle.cif_sim.proofs.Begun.{Begun}
 use Rattle.cif_sim.proofs.starts.starts.Given as goal
 

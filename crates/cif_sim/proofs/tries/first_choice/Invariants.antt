@@ -1,5 +1,5 @@
 use Rattle.cif_net.specs.View.{state_tree}
-use Rattle.cif_fire.specs.Working.{IsScratchOf}
+use Rattle.cif_eval.specs.Working.{IsScratchOf}
 use Rattle.cif_sim.specs.Tried.{NoneMakes}
 use Rattle.cif_sim.proofs.tries.first_choice.Given as goal
 

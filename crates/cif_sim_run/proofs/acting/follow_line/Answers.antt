@@ -1,7 +1,7 @@
 -- A line names what there is, and meets the cause that prevents its action.
 use Rattle.std.proofs.Common.{sym, subst}
 use Rattle.cif_script.specs.Views.{action_of}
-use Rattle.cif_fire.specs.Choices.{system_of}
+use Rattle.cif_eval.specs.Choices.{system_of}
 use Rattle.cif_sim_run.specs.Halts.{cause}
 use Rattle.cif_sim_run.specs.Left.{IsNamed}
 use Rattle.cif_sim_run.proofs.LineLaws.{prevents-meets}

@@ -3,7 +3,7 @@ use Rattle.std.proofs.Common.{◌<◌, length, sym, ap, subst, ◌∙◌}
 use Rattle.cif_system.specs.Choices.{first_step}
 use Rattle.cif_system.specs.Scan as scan
 use Rattle.cif_system.proofs.Lists.{some-same, none-some}
-use Rattle.cif_fire.specs.Choices.{system_of}
+use Rattle.cif_eval.specs.Choices.{system_of}
 use Rattle.cif_sim_run.proofs.FirstLaws.{first-fires}
 use Rattle.cif_sim_run.proofs.acting.step_by_first.Goals as goal
 

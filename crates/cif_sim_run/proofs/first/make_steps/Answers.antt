@@ -1,13 +1,13 @@
 -- Each step leads from what is left to what is left behind it, and writes what stands between them.
 use Rattle.std.proofs.Common.{◌≡◌, ◌<◌, Some, None, refl, sym, ap, subst, ◌∙◌, arith}
-use Rattle.cif_fire.specs.Choices.{system_of}
+use Rattle.cif_eval.specs.Choices.{system_of}
 use Rattle.cif_io.specs.Written.{grown}
 use Rattle.cif_net.specs.View.{net_tree, state_tree}
 use Rattle.cif_system.specs.Scan as scan
-use Rattle.sim_face.specs.Runs.{first_event}
-use Rattle.sim_face.specs.Script.{fires}
-use Rattle.sim_face.specs.Simulation.{moment_text}
-use Rattle.sim_shown.specs.Nets.{names_of_net}
+use Rattle.cif_sim_model.specs.Runs.{first_event}
+use Rattle.cif_sim_model.specs.Script.{fires}
+use Rattle.cif_sim_model.specs.Simulation.{moment_text}
+use Rattle.cif_sim_names.specs.Nets.{names_of_net}
 use Rattle.cif_sim_run.specs.Halts.{GrewByPart}
 use Rattle.cif_sim_run.specs.Left.{FirstRunning, Shows, names_in}
 use Rattle.cif_sim_run.proofs.FirstRunning.{all-made, at-first-step, dead, next-step, part-of-dead, part-of-step, step-sizes}

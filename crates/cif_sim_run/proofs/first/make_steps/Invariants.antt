@@ -1,6 +1,6 @@
 -- What was written, and the steps that are left, make the whole run.
 use Rattle.std.proofs.Common.{◌≡◌, ◌≤◌, ◌-◌}
-use Rattle.cif_fire.specs.Choices.{system_of}
+use Rattle.cif_eval.specs.Choices.{system_of}
 use Rattle.cif_net.specs.View.{state_tree}
 use Rattle.cif_sim_run.specs.Left.{FirstRunning, names_in}
 use Rattle.cif_sim_run.proofs.first.make_steps.Given as goal

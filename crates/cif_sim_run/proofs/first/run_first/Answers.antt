@@ -1,11 +1,11 @@
 -- The steps stand behind the start line.
 use Rattle.std.proofs.Common.{◌≡◌, sym, ap, subst, ◌∙◌}
-use Rattle.cif_fire.specs.Choices.{system_of}
+use Rattle.cif_eval.specs.Choices.{system_of}
 use Rattle.cif_io.specs.Written.{grown}
 use Rattle.cif_net.specs.View.{net_tree, state_tree}
 use Rattle.cif_system.specs.System.{initial}
-use Rattle.sim_face.specs.Texts.{start_line}
-use Rattle.sim_shown.specs.Nets.{names_of_net}
+use Rattle.cif_sim_model.specs.Texts.{start_line}
+use Rattle.cif_sim_names.specs.Nets.{names_of_net}
 use Rattle.cif_sim_run.specs.Halts.{GrewByPart}
 use Rattle.cif_sim_run.specs.Left.{IsSized, first_left, names_in}
 use Rattle.cif_sim_run.proofs.FirstLaws.{whole-first}

@@ -1,10 +1,10 @@
 -- Each line leads from what is left to what is left behind it.
 use Rattle.std.proofs.Common.{◌≡◌, Some, [], ◌++◌, refl, sym, ap, subst, ◌∙◌, arith}
-use Rattle.cif_fire.specs.Choices.{system_of}
+use Rattle.cif_eval.specs.Choices.{system_of}
 use Rattle.cif_script.specs.Views.{action_of}
-use Rattle.sim_face.specs.Runs.{next_by}
-use Rattle.sim_face.specs.Script.{script_lines}
-use Rattle.sim_face.specs.Simulation.{Meets, moment_text, steps_after}
+use Rattle.cif_sim_model.specs.Runs.{next_by}
+use Rattle.cif_sim_model.specs.Script.{script_lines}
+use Rattle.cif_sim_model.specs.Simulation.{Meets, moment_text, steps_after}
 use Rattle.cif_sim_run.specs.Halts.{cause}
 use Rattle.cif_sim_run.specs.Left.{Followed, names_in}
 use Rattle.cif_sim_run.proofs.LineLaws.{at-end, at-start, at-stop, one-more}

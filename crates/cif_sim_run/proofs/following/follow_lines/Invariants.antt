@@ -1,8 +1,8 @@
 -- The lines that are left stop where all of them stop.
 use Rattle.std.proofs.Common.{◌≡◌, ℕ}
 use Rattle.grammar.specs.Pieces.{Text}
-use Rattle.cif_fire.specs.Choices.{system_of}
-use Rattle.sim_face.specs.Script.{script_lines}
+use Rattle.cif_eval.specs.Choices.{system_of}
+use Rattle.cif_sim_model.specs.Script.{script_lines}
 use Rattle.cif_sim_run.specs.Left.{Followed}
 use Rattle.cif_sim_run.proofs.following.follow_lines.Given as goal
 

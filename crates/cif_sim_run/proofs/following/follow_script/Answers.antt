@@ -1,7 +1,7 @@
 -- The lines lead from the initial state.
 use Rattle.std.proofs.Common.{sym, ap, ◌∙◌}
-use Rattle.cif_fire.specs.Choices.{system_of}
-use Rattle.sim_face.specs.Simulation.{StopsAt}
+use Rattle.cif_eval.specs.Choices.{system_of}
+use Rattle.cif_sim_model.specs.Simulation.{StopsAt}
 use Rattle.cif_sim_run.specs.Left.{names_in}
 use Rattle.cif_sim_run.proofs.Halting.{halts-silently, if-err}
 use Rattle.cif_sim_run.proofs.Running.{whole-runs, whole-state, whole-stops}

@@ -1,13 +1,13 @@
 -- The lines stand behind the start line.
 use Rattle.std.proofs.Common.{◌≡◌, Err, refl, sym, ap, subst, ◌∙◌}
-use Rattle.cif_fire.specs.Choices.{system_of}
+use Rattle.cif_eval.specs.Choices.{system_of}
 use Rattle.cif_io.specs.Written.{grown}
 use Rattle.cif_net.specs.View.{net_tree, state_tree}
 use Rattle.cif_system.specs.System.{initial}
-use Rattle.sim_face.specs.Script.{script_lines}
-use Rattle.sim_face.specs.Simulation.{FirstStop, StopsAt, moments_text, script_moments, script_text}
-use Rattle.sim_face.specs.Texts.{start_line}
-use Rattle.sim_shown.specs.Nets.{names_of_net}
+use Rattle.cif_sim_model.specs.Script.{script_lines}
+use Rattle.cif_sim_model.specs.Simulation.{FirstStop, StopsAt, moments_text, script_moments, script_text}
+use Rattle.cif_sim_model.specs.Texts.{start_line}
+use Rattle.cif_sim_names.specs.Nets.{names_of_net}
 use Rattle.cif_sim_run.specs.Halts.{GrewByPart, HaltsIn, halt_of, writing}
 use Rattle.cif_sim_run.specs.Left.{IsSized, names_in}
 use Rattle.cif_sim_run.proofs.Growing.{part-of-first, whole-behind}

@@ -1,13 +1,13 @@
 -- Each line leads from what is left to what is left behind it, and writes what stands between them.
 use Rattle.std.proofs.Common.{◌≡◌, Err, Some, refl, sym, ap, subst, ◌∙◌, arith}
-use Rattle.cif_fire.specs.Choices.{system_of}
+use Rattle.cif_eval.specs.Choices.{system_of}
 use Rattle.cif_io.specs.Written.{grown}
 use Rattle.cif_net.specs.View.{net_tree, state_tree}
 use Rattle.cif_script.specs.Views.{action_of}
-use Rattle.sim_face.specs.Runs.{next_by}
-use Rattle.sim_face.specs.Script.{script_lines}
-use Rattle.sim_face.specs.Simulation.{FirstStop, Meets, moment_text}
-use Rattle.sim_shown.specs.Nets.{names_of_net}
+use Rattle.cif_sim_model.specs.Runs.{next_by}
+use Rattle.cif_sim_model.specs.Script.{script_lines}
+use Rattle.cif_sim_model.specs.Simulation.{FirstStop, Meets, moment_text}
+use Rattle.cif_sim_names.specs.Nets.{names_of_net}
 use Rattle.cif_sim_run.specs.Halts.{GrewByPart, HaltsIn, cause, halt_of, writing}
 use Rattle.cif_sim_run.specs.Left.{IsUpToDate, Running, names_in, text_left}
 use Rattle.cif_sim_run.proofs.Halting.{halts-of, if-err, rose-later}

@@ -1,8 +1,8 @@
 -- What was written, and the lines that are left, make the whole run.
 use Rattle.std.proofs.Common.{◌≡◌, ◌≤◌}
-use Rattle.cif_fire.specs.Choices.{system_of}
+use Rattle.cif_eval.specs.Choices.{system_of}
 use Rattle.cif_net.specs.View.{state_tree}
-use Rattle.sim_face.specs.Script.{script_lines}
+use Rattle.cif_sim_model.specs.Script.{script_lines}
 use Rattle.cif_sim_run.specs.Left.{Running}
 use Rattle.cif_sim_run.proofs.script.write_lines.Given as goal
 

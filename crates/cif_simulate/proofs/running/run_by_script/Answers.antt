@@ -1,5 +1,5 @@
 use Rattle.std.proofs.Common.{inl, refl}
-use Rattle.cif_fire.specs.Choices.{system_of}
+use Rattle.cif_eval.specs.Choices.{system_of}
 use Rattle.cif_run.specs.Works.{reading, writing}
 use Rattle.cif_sim_run.specs.Left.{names_in}
 use Rattle.cif_simulate.specs.Running.{script_work}

@@ -4,9 +4,9 @@ use Rattle.cif_run.specs.Works.{reading, writing}
 use Rattle.cif_check.specs.Checks.{check_of}
 use Rattle.cif_generate.specs.Generates.{generate_of}
 use Rattle.cif_replay.specs.Replays.{replay_of}
-use Rattle.cif_batches.specs.Batches.{batch_of}
+use Rattle.cif_batch_command.specs.Batches.{batch_of}
 use Rattle.cif_simulate.specs.Requests.{simulate_of}
-use Rattle.cif_why.specs.Requests.{why_of}
+use Rattle.cif_why_command.specs.Requests.{why_of}
 use Rattle.cif_tool.specs.Commands.{check, generate, replay, batch, simulate, why}
 use Rattle.cif_tool.proofs.ToolLaws.{command_comes, not_usage}
 use Rattle.cif_tool.proofs.running.run_words.Goals as goal

@@ -2,11 +2,11 @@
 use Rattle.std.proofs.Common.{List, map, string_bytes}
 use Rattle.grammar.specs.Pieces.{Text}
 use Rattle.cif_system.specs.System.{initial}
-use Rattle.sim_face.proofs.RunLaws.{first-runs, scripts-make}
-use Rattle.why_face.proofs.Holding.{reasons-hold}
-use Rattle.sim_shown.specs.Sources.{names_of, told_of}
-use Rattle.plc_face.specs.Face.{HasInterface}
-use Rattle.plc_face.specs.Scans.{NeverFaults, RunsFirstSteps, ScansLegally, ScansExactly, ShowsOutputs, StaysTyped}
+use Rattle.cif_sim_model.proofs.RunLaws.{first-runs, scripts-make}
+use Rattle.cif_why_model.proofs.Holding.{reasons-hold}
+use Rattle.cif_sim_names.specs.Sources.{names_of, told_of}
+use Rattle.plc_model.specs.Face.{HasInterface}
+use Rattle.plc_model.specs.Scans.{NeverFaults, RunsFirstSteps, ScansLegally, ScansExactly, ShowsOutputs, StaysTyped}
 use Rattle.plc_back.specs.Texts.{IsLayoutOf, TheProgram}
 use Rattle.cif_run.specs.declared.status.Status.TheVariants as status
 use Rattle.cif_run.specs.Works.{Reading, Writing, reading, writing}
@@ -15,11 +15,11 @@ use Rattle.cif_source.specs.Step.{system_of}
 use Rattle.cif_generate.specs.Meaning.{AreClassed, StartsInitial, meant_by, shown_of}
 use Rattle.cif_generate.proofs.GenerateLaws as generates
 use Rattle.cif_replay.proofs.ReplayLaws as replays
-use Rattle.cif_batches.proofs.BatchLaws as batches
+use Rattle.cif_batch_command.proofs.BatchLaws as batches
 use Rattle.cif_simulate.proofs.SimulateLaws as simulates
-use Rattle.cif_why.proofs.ByEvent as event
-use Rattle.cif_why.proofs.SourceLaws.{read_explains}
-use Rattle.cif_why.proofs.WhyLaws as whys
+use Rattle.cif_why_command.proofs.ByEvent as event
+use Rattle.cif_why_command.proofs.SourceLaws.{read_explains}
+use Rattle.cif_why_command.proofs.WhyLaws as whys
 use Rattle.cif_tool.specs.Commands.{replay, batch, simulate, why}
 use Rattle.cif_tool.specs.Asks.{tool_work}
 use Rattle.cif_tool.proofs.ToolLaws as tool

@@ -1,6 +1,6 @@
 use Rattle.cif_source.specs.Source.{source_of}
-use Rattle.cif_kinds.specs.declared.kind.Kind.TheVariants as kind
-use Rattle.cif_kinds.specs.declared.reading.Reading.{Reading}
+use Rattle.cif_types_kinds.specs.declared.kind.Kind.TheVariants as kind
+use Rattle.cif_types_kinds.specs.declared.reading.Reading.{Reading}
 use Rattle.cif_types.proofs.BodyLaws.{reading_there, written_there, one_further, all_fine}
 use Rattle.cif_types.proofs.bodies.check_bodies.Goals as goal
 

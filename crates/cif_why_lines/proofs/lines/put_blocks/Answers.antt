@@ -2,8 +2,8 @@ use Rattle.std.proofs.Common.{◌++◌, ap, ◌∙◌, append_assoc}
 use Rattle.std.specs.Prelude.{codes}
 use Rattle.grammar.specs.Pieces.{Text}
 use Rattle.cif_net.specs.View.{net_tree}
-use Rattle.why_face.specs.Lines.{auto_path}
-use Rattle.sim_shown.specs.Nets.{told_of_net}
+use Rattle.cif_why_model.specs.Lines.{auto_path}
+use Rattle.cif_sim_names.specs.Nets.{told_of_net}
 use Rattle.cif_why_lines.proofs.lines.put_blocks.Goals as goal
 
 pub returns : goal.returns

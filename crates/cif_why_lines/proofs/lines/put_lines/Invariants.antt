@@ -1,7 +1,7 @@
 use Rattle.std.proofs.Common.{◌≡◌, ◌++◌, map, drop}
 use Rattle.cif_net.specs.View.{net_tree}
-use Rattle.sim_shown.specs.Nets.{told_of_net}
-use Rattle.cif_reasons.specs.View.{reason_tree}
+use Rattle.cif_sim_names.specs.Nets.{told_of_net}
+use Rattle.cif_why.specs.View.{reason_tree}
 use Rattle.cif_why_lines.specs.Lines.{lines_of}
 use Rattle.cif_why_lines.proofs.lines.put_lines.Given as goal
 

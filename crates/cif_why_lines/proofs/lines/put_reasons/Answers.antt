@@ -1,7 +1,7 @@
 use Rattle.std.proofs.Common.{◌++◌, sym, ap, ◌∙◌}
 use Rattle.grammar.specs.Pieces.{Text}
 use Rattle.cif_net.specs.View.{net_tree}
-use Rattle.sim_shown.specs.Nets.{told_of_net}
+use Rattle.cif_sim_names.specs.Nets.{told_of_net}
 use Rattle.cif_why_lines.proofs.LineLaws.{no-line, some-lines}
 use Rattle.cif_why_lines.proofs.lines.put_reasons.Goals as goal
 

@@ -1,5 +1,5 @@
 use Rattle.std.proofs.Common.{◌≡◌, drop}
-use Rattle.cif_term.specs.View.{view_updates, view_update_branches}
+use Rattle.cif_net_expr.specs.View.{view_updates, view_update_branches}
 use Rattle.cif_why_lines.specs.Searches.{searched_all, searched_in}
 use Rattle.cif_why_lines.proofs.targets.+searching.Given as goal
 

@@ -1,4 +1,4 @@
-use Rattle.cif_term.specs.View.{view_updates}
+use Rattle.cif_net_expr.specs.View.{view_updates}
 use Rattle.cif_why_lines.specs.declared.targets.Search.TheVariants.{Found, Left}
 use Rattle.cif_why_lines.proofs.SearchLaws.{search_finds}
 use Rattle.cif_why_lines.proofs.targets.assigned_at.Goals as goal

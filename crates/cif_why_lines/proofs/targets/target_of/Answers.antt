@@ -1,7 +1,7 @@
 use Rattle.std.proofs.Common.{◌≡◌, ◌-◌, suc, ap, ◌∙◌, arith}
 use Rattle.std.specs.Prelude.{slice_get}
 use Rattle.cif_net.specs.Parts.{edge_tree}
-use Rattle.cif_term.specs.View.{view, view_updates}
+use Rattle.cif_net_expr.specs.View.{view, view_updates}
 use Rattle.cif_why_lines.specs.Targets.{assigned_targets, targets_of}
 use Rattle.cif_why_lines.proofs.TargetLaws.{nothing_sent, sent_before, sent_first}
 use Rattle.cif_why_lines.proofs.targets.target_of.Goals as goal

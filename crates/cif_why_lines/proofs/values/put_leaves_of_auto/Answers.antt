@@ -1,8 +1,8 @@
 use Rattle.std.proofs.Common.{◌++◌, append-nil, sym, ap, ◌∙◌}
-use Rattle.cif_model.specs.Net.{NetEdge}
+use Rattle.cif_net_model.specs.Net.{NetEdge}
 use Rattle.cif_net.specs.Parts.{edge_tree}
 use Rattle.cif_net.specs.View.{net_tree}
-use Rattle.why_face.specs.Lines.{leaves_told}
+use Rattle.cif_why_model.specs.Lines.{leaves_told}
 use Rattle.cif_why_lines.specs.Targets.{value_of_edge}
 use Rattle.cif_why_lines.proofs.LineLaws.{nothing_there}
 use Rattle.cif_why_lines.proofs.TargetLaws.{nothing-at, there-at}

@@ -1,7 +1,7 @@
 use Rattle.std.proofs.Common.{◌++◌, sym, ap, ◌∙◌}
 use Rattle.cif_net.specs.Parts.{edge_tree}
 use Rattle.cif_net.specs.View.{net_tree}
-use Rattle.why_face.specs.Lines.{leaves_told}
+use Rattle.cif_why_model.specs.Lines.{leaves_told}
 use Rattle.cif_why_lines.specs.Targets.{value_with}
 use Rattle.cif_why_lines.proofs.TargetLaws.{value-at}
 use Rattle.cif_why_lines.proofs.values.put_leaves_of_edge.Goals as goal

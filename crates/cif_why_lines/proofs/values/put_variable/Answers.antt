@@ -1,5 +1,5 @@
 use Rattle.std.proofs.Common.{◌++◌, append-nil, sym, ap, ◌∙◌}
-use Rattle.cif_model.specs.Net.{NetStored}
+use Rattle.cif_net_model.specs.Net.{NetStored}
 use Rattle.cif_net.specs.Parts.{var_tree}
 use Rattle.grammar.specs.Pieces.{Text}
 use Rattle.cif_why_lines.proofs.LineLaws.{no-path, nothing_there, path-at}

@@ -1,7 +1,7 @@
 use Rattle.std.proofs.Common.{arith}
 use Rattle.plc_rows.specs.Told.{cases_of}
-use Rattle.cif_batches.proofs.RowNumbers.{each_within}
-use Rattle.cif_batches.proofs.TableLemmas.{few_cases, rows_in_all}
+use Rattle.cif_batch_command.proofs.RowNumbers.{each_within}
+use Rattle.cif_batch_command.proofs.TableLemmas.{few_cases, rows_in_all}
 use Rattle.gate_cases.proofs.tests.answer.Goals as goal
 
 pub batch-requires-clause-few : goal.batch-requires-clause-few

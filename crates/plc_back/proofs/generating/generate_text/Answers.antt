@@ -1,9 +1,9 @@
 use Rattle.std.proofs.Common.{List, map, sym, ap, subst, ◌∙◌}
 use Rattle.cif_net.specs.View.{event_tree, net_tree}
 use Rattle.cif_net.specs.declared.events.Event.{Event}
-use Rattle.cif_choices.proofs.Steps.{choices-are}
+use Rattle.cif_net_laws.proofs.Steps.{choices-are}
 use Rattle.st_print.specs.Layout.{printed}
-use Rattle.plc_parts.specs.Parts.{HasParts, data_program}
+use Rattle.plc_event_model.specs.ProgramParts.{HasParts, net_program}
 use Rattle.plc_back.specs.Written.{IsFirstUnclassed, first_unclassed}
 use Rattle.plc_back.proofs.ClassLaws.{first-unclassed, none-unclassed, told_event}
 use Rattle.plc_back.proofs.generating.generate_text.Goals as goal
@@ -21,5 +21,5 @@ returns-clause-text c = record {
     shallow = c.requires.shallow;
   };
   classed = none-unclassed (net_tree c.args.guarded.now.plain.net) (ap (λ (xs : List Event). first_unclassed 0 (map event_tree xs)) (sym c.as_slice.ensures) ∙ sym c.in_default.ensures);
-  is = c.in_ok-text.ensures.text ∙ ap (λ cs. printed (data_program (net_tree c.args.guarded.now.plain.net) cs c.args.bounds.unc c.args.bounds.con)) (choices-are c.args.guarded.now);
+  is = c.in_ok-text.ensures.text ∙ ap (λ cs. printed (net_program (net_tree c.args.guarded.now.plain.net) cs c.args.bounds.unc c.args.bounds.con)) (choices-are c.args.guarded.now);
 }

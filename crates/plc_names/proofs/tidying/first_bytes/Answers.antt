@@ -1,5 +1,5 @@
 use Rattle.std.proofs.Common.{◌≡◌, ◌≤◌, true, drop, length, arith}
-use Rattle.plc_face.specs.Names.{runs_joined, most_bytes}
+use Rattle.plc_model.specs.Names.{runs_joined, most_bytes}
 use Rattle.plc_names.proofs.OnePass.{pass-full, pass-ended}
 use Rattle.plc_names.proofs.tidying.first_bytes.Goals as goal
 

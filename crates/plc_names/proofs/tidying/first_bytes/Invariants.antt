@@ -1,5 +1,5 @@
 use Rattle.std.proofs.Common.{◌≡◌, ◌≤◌, ◌++◌, drop, true, length}
-use Rattle.plc_face.specs.Names.{runs_joined, most_bytes}
+use Rattle.plc_model.specs.Names.{runs_joined, most_bytes}
 use Rattle.plc_names.proofs.tidying.first_bytes.Given as goal
 
 abbrev pub invariant-loop-byte : goal.invariant-loop-byte

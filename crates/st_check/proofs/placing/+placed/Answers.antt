@@ -1,9 +1,9 @@
 use Rattle.std.proofs.Common.{◌≡◌, ap, ◌∙◌, arith}
 use Rattle.st_ast.specs.View.{view_exprs}
-use Rattle.st_place.specs.PlacedTree.{of_join}
-use Rattle.st_place.specs.PlacedView.{operands_view, factors_view, terms_view}
-use Rattle.st_place.specs.Placing.{placed_exprs}
-use Rattle.st_place.proofs.Listed.{finished}
+use Rattle.st_check.specs.PlacedTree.{of_join}
+use Rattle.st_check.specs.PlacedView.{operands_view, factors_view, terms_view}
+use Rattle.st_check.specs.Placing.{placed_exprs}
+use Rattle.st_check.proofs.ListedPlaces.{finished}
 use Rattle.st_check.proofs.Listed.{operands-placed, factors-placed, terms-placed}
 use Rattle.st_check.proofs.placing.+placed.Goals as goal
 

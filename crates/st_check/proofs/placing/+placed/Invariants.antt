@@ -1,7 +1,7 @@
 use Rattle.std.proofs.Common.{◌≡◌, ◌++◌, ◌&&◌, map, drop}
 use Rattle.st_ast.specs.Checks as checks
 use Rattle.st_ast.specs.View.{view_exprs, view_factors, view_terms}
-use Rattle.st_place.specs.PlacedView.{expr_view, factor_view, term_view}
+use Rattle.st_check.specs.PlacedView.{expr_view, factor_view, term_view}
 use Rattle.st_check.proofs.Listed.{operand_placed, factor_placed, term_placed}
 use Rattle.st_check.proofs.placing.+placed.Given as goal
 

@@ -1,5 +1,5 @@
 use Rattle.std.proofs.Common.{arith}
-use Rattle.st_place.proofs.Listed.{finished}
+use Rattle.st_check.proofs.ListedPlaces.{finished}
 use Rattle.st_check.proofs.Listed.{stmts-placed, branches-placed}
 use Rattle.st_check.proofs.statements.+body.Goals as goal
 

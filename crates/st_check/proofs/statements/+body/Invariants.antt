@@ -1,7 +1,7 @@
 use Rattle.std.proofs.Common.{◌≡◌, ◌+◌, ◌++◌, ◌&&◌, map, drop}
 use Rattle.st_ast.specs.Checks.{stms_count, branches_count, stms_faults, branches_faults, boolean_conditions}
 use Rattle.st_ast.specs.View.{view_stmts, view_branches}
-use Rattle.st_place.specs.PlacedView.{stmt_view, branch_view}
+use Rattle.st_check.specs.PlacedView.{stmt_view, branch_view}
 use Rattle.st_check.proofs.Listed.{stmt_placed, branch_placed}
 use Rattle.st_check.proofs.statements.+body.Given as goal
 

@@ -1,6 +1,6 @@
 use Rattle.std.proofs.Common.{◌≡◌, drop}
 use Rattle.st_scan.specs.PlacedTruths.{all_at, any_at}
-use Rattle.st_place.specs.PlacedView.{tests_view}
+use Rattle.st_check.specs.PlacedView.{tests_view}
 use Rattle.st_scan.proofs.conditions.+truths.Given as goal
 
 abbrev pub invariant-all_hold-loop-test : goal.invariant-all_hold-loop-test

@@ -1,7 +1,7 @@
 use Rattle.std.proofs.Common.{ap, sym, ◌∙◌}
 use Rattle.std.specs.Prelude.{Ok}
 use Rattle.st_scan.specs.PlacedValues.{value_at, decided}
-use Rattle.st_place.specs.PlacedView.{test_view, cond_view}
+use Rattle.st_check.specs.PlacedView.{test_view, cond_view}
 use Rattle.st_scan.proofs.Truths.{decides}
 use Rattle.st_scan.proofs.conditions.test.Goals as goal
 

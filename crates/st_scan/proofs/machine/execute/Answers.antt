@@ -1,5 +1,5 @@
 use Rattle.std.proofs.Common.{sym, ◌∙◌}
-use Rattle.st_place.specs.PlacedView.{stmts_view}
+use Rattle.st_check.specs.PlacedView.{stmts_view}
 use Rattle.st_scan.proofs.Agreement.{scan-same}
 use Rattle.st_scan.proofs.machine.execute.Goals as goal
 

@@ -4,7 +4,7 @@ use Rattle.st_ast.specs.Exec.{and_then, repeated}
 use Rattle.st_scan.specs.Endings.{outcome_of}
 use Rattle.st_scan.specs.PlacedValues.{value_at, decided}
 use Rattle.st_scan.specs.PlacedExec.{exec_at}
-use Rattle.st_place.specs.PlacedView.{cond_view, stmts_view}
+use Rattle.st_check.specs.PlacedView.{cond_view, stmts_view}
 use Rattle.st_scan.proofs.Loop.{loop-turn, loop-stopped}
 use Rattle.st_scan.proofs.statements.+run.Goals as goal
 

@@ -2,7 +2,7 @@ use Rattle.std.proofs.Common.{◌≡◌, ◌≤◌, suc, drop}
 use Rattle.st_ast.specs.Exec.{Act, repeated}
 use Rattle.st_scan.specs.PlacedValues.{value_at}
 use Rattle.st_scan.specs.PlacedExec.{exec_at, exec_choice_at}
-use Rattle.st_place.specs.PlacedView.{cond_view, stmts_view, branches_view}
+use Rattle.st_check.specs.PlacedView.{cond_view, stmts_view, branches_view}
 use Rattle.st_scan.proofs.statements.+run.Given as goal
 
 abbrev pub invariant-run-loop-stmt : goal.invariant-run-loop-stmt

@@ -1,8 +1,8 @@
 use Rattle.std.proofs.Common.{◌≡◌, drop}
 use Rattle.st_ast.specs.Values.{of_bool}
-use Rattle.st_place.specs.PlacedTree.{joined_none}
+use Rattle.st_check.specs.PlacedTree.{joined_none}
 use Rattle.st_scan.specs.PlacedValues.{steps_at}
-use Rattle.st_place.specs.PlacedView.{terms_view, factors_view, operands_view}
+use Rattle.st_check.specs.PlacedView.{terms_view, factors_view, operands_view}
 use Rattle.st_scan.proofs.values.+values.Given as goal
 
 abbrev pub invariant-sum-loop-term : goal.invariant-sum-loop-term

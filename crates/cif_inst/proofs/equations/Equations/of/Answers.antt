@@ -2,7 +2,7 @@ use Rattle.std.proofs.Common.{◌∙◌, sym, ap}
 use Rattle.std.specs.Option.{option_copied}
 use Rattle.cif_ast.specs.View.{view}
 use Rattle.cif_source.specs.Source.{Text}
-use Rattle.cif_values.specs.Types.{given_tree}
+use Rattle.cif_inst_types.specs.Types.{given_tree}
 use Rattle.cif_inst.specs.Equations.{values_in, value_for}
 use Rattle.cif_inst.proofs.EquationLaws.{found-is}
 use Rattle.cif_inst.proofs.equations.Equations.of.Goals as goal

@@ -1,7 +1,7 @@
 use Rattle.std.proofs.Common.{◌≡◌, ◌-◌, []}
 use Rattle.grammar.specs.Reader.{many_at, many_from}
 use Rattle.grammar.specs.Loops.{flat_after}
-use Rattle.cif_expr.specs.TokenKinds.{sort}
+use Rattle.cif_parse_expr.specs.TokenKinds.{sort}
 use Rattle.cif_parse.specs.Reading.{item_first, item_at}
 use Rattle.cif_parse.proofs.components.Components.all.Given as goal
 

@@ -2,8 +2,8 @@ use Rattle.std.proofs.Common.{◌≡◌, ◌-◌}
 use Rattle.grammar.specs.Reader.{many_at, many_from}
 use Rattle.grammar.specs.Loops.{after}
 use Rattle.cif_lex.specs.declared.token.Mark.TheVariants as m
-use Rattle.cif_expr.specs.TokenKinds.{sort}
-use Rattle.cif_expr.specs.Reading.{first_sign, after_sign_at}
+use Rattle.cif_parse_expr.specs.TokenKinds.{sort}
+use Rattle.cif_parse_expr.specs.Reading.{first_sign, after_sign_at}
 use Rattle.cif_parse.specs.Reading.{one_update_at}
 use Rattle.cif_parse.proofs.updating.Choices.more.Given as goal
 

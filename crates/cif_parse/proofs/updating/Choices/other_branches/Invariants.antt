@@ -2,8 +2,8 @@ use Rattle.std.proofs.Common.{◌≡◌, ◌-◌}
 use Rattle.grammar.specs.Reader.{many_at, many_from}
 use Rattle.grammar.specs.Loops.{after}
 use Rattle.cif_lex.specs.declared.token.Word.TheVariants as w
-use Rattle.cif_expr.specs.TokenKinds.{sort}
-use Rattle.cif_expr.specs.Reading.{first_word}
+use Rattle.cif_parse_expr.specs.TokenKinds.{sort}
+use Rattle.cif_parse_expr.specs.Reading.{first_word}
 use Rattle.cif_parse.specs.Reading.{updates_at, other_branch_at}
 use Rattle.cif_parse.proofs.updating.Choices.other_branches.Given as goal
 

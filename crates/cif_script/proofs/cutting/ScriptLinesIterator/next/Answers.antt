@@ -1,6 +1,6 @@
 use Rattle.std.proofs.Common.{◌≡◌, ◌+◌, ◌-◌, [], ◌∷◌, length, take, drop, rules, arith, sym, ap, ◌∙◌, add-one}
 use Rattle.std.proofs.lemmas.List.{take_rest}
-use Rattle.sim_face.specs.Script.{script_lines}
+use Rattle.cif_sim_model.specs.Script.{script_lines}
 use Rattle.cif_script.specs.Views.{lines_of_rest}
 use Rattle.cif_script.proofs.Splits.{lines_at, lines_whole}
 use Rattle.cif_script.proofs.cutting.ScriptLinesIterator.next.Goals.{After-without_return, After-without_return-in-None}

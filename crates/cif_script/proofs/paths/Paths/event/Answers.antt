@@ -1,7 +1,7 @@
 use Rattle.std.proofs.Common.{◌≡◌, ap, ◌∙◌}
 use Rattle.cif_net.specs.View.{net_tree}
-use Rattle.sim_face.specs.Names.{Names}
-use Rattle.sim_shown.specs.Nets.{names_of_net}
+use Rattle.cif_sim_model.specs.Names.{Names}
+use Rattle.cif_sim_names.specs.Nets.{names_of_net}
 use Rattle.cif_script.specs.Numbers.{first_number}
 use Rattle.cif_script.proofs.paths.Paths.event.Goals as goal
 

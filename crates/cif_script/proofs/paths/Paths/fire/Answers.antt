@@ -1,6 +1,6 @@
 use Rattle.std.proofs.Common.{sym, ap, ◌∙◌}
 use Rattle.std.specs.Prelude.{option_map}
-use Rattle.sim_face.specs.Script.{fires, number_of}
+use Rattle.cif_sim_model.specs.Script.{fires, number_of}
 use Rattle.cif_script.specs.Views.{action_of}
 use Rattle.cif_script.proofs.Naming.{fired}
 use Rattle.cif_script.proofs.paths.Paths.fire.Goals as goal

@@ -1,5 +1,5 @@
 use Rattle.std.proofs.Common.{sym, ap, ◌∙◌}
-use Rattle.sim_face.specs.Script.{said}
+use Rattle.cif_sim_model.specs.Script.{said}
 use Rattle.cif_script.proofs.Saying.{one_part}
 use Rattle.cif_script.proofs.paths.Paths.read.Goals as goal
 

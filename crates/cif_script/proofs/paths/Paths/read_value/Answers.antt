@@ -1,7 +1,7 @@
 use Rattle.std.proofs.Common.{false, List, ◌∷◌, sym, ap, ◌∙◌}
 use Rattle.std.specs.Prelude.{codes}
 use Rattle.grammar.specs.Pieces.{Text}
-use Rattle.sim_face.specs.Script.{said}
+use Rattle.cif_sim_model.specs.Script.{said}
 use Rattle.cif_script.proofs.Saying.{literal_is, three_parts, more_parts}
 use Rattle.cif_script.proofs.paths.Paths.read_value.Goals.{else-is_none-via-then-is_none+else-eq, else-is_none-via-else-is_none}
 use Rattle.cif_script.proofs.paths.Paths.read_value.Goals as goal

@@ -1,7 +1,7 @@
 use Rattle.std.proofs.Common.{false, List, ◌∷◌, sym, ap, ◌∙◌}
 use Rattle.std.specs.Prelude.{codes}
 use Rattle.grammar.specs.Pieces.{Text}
-use Rattle.sim_face.specs.Script.{said}
+use Rattle.cif_sim_model.specs.Script.{said}
 use Rattle.cif_script.proofs.Saying.{literal_is, two_parts}
 use Rattle.cif_script.proofs.paths.Paths.read_word.Goals as goal
 

@@ -4,8 +4,8 @@ use Rattle.std.proofs.lemmas.Int.{to_z-of_z}
 use Rattle.cif_net.specs.View.{net_tree}
 use Rattle.cif_net.specs.declared.data.Input.{Input}
 use Rattle.grammar.specs.Pieces.{Text}
-use Rattle.sim_face.specs.Script.{set_of, sets, value_read}
-use Rattle.sim_shown.specs.Nets.{names_of_net, values_of}
+use Rattle.cif_sim_model.specs.Script.{set_of, sets, value_read}
+use Rattle.cif_sim_names.specs.Nets.{names_of_net, values_of}
 use Rattle.cif_script.specs.Views.{action_of}
 use Rattle.cif_script.proofs.Naming.{input_below, input_found, no_input}
 use Rattle.cif_script.proofs.paths.Paths.set.Goals as goal

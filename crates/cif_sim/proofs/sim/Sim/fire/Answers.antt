@@ -1,7 +1,7 @@
 use Rattle.std.proofs.Common.{◌≡◌, None, Some, subst}
 use Rattle.cif_system.specs.Choices.{first_step}
 use Rattle.cif_net.specs.View.{state_tree}
-use Rattle.cif_fire.specs.Choices.{system_of}
+use Rattle.cif_eval.specs.Choices.{system_of}
 use Rattle.cif_sim.specs.Simulated.{Simulated}
 use Rattle.cif_sim.proofs.sim.Sim.fire.Goals as goal
 

@@ -1,6 +1,6 @@
 use Rattle.std.proofs.Common.{◌≡◌, subst}
-use Rattle.cif_fire.specs.Choices.{system_of}
-use Rattle.sim_face.specs.Runs.{first_event}
+use Rattle.cif_eval.specs.Choices.{system_of}
+use Rattle.cif_sim_model.specs.Runs.{first_event}
 use Rattle.cif_sim.specs.Simulated.{Simulated}
 use Rattle.cif_sim.proofs.sim.Sim.first.Goals as goal
 

@@ -1,7 +1,7 @@
 use Rattle.std.proofs.Common.{◌≡◌, subst}
 use Rattle.cif_net.specs.Parts.{class_of}
-use Rattle.cif_fire.specs.Choices.{system_of}
-use Rattle.sim_face.specs.Runs.{first_event_of}
+use Rattle.cif_eval.specs.Choices.{system_of}
+use Rattle.cif_sim_model.specs.Runs.{first_event_of}
 use Rattle.cif_sim.specs.Simulated.{Simulated}
 use Rattle.cif_sim.proofs.sim.Sim.first_of.Goals as goal
 

@@ -2,9 +2,9 @@ use Rattle.std.proofs.Common.{subst, sym}
 use Rattle.cif_system.specs.System.{IsState}
 use Rattle.cif_net.specs.View.{net_tree, state_tree}
 use Rattle.cif_net.specs.declared.guarded.Guarded.{Guarded}
-use Rattle.cif_safe.proofs.First.{first-state}
-use Rattle.cif_fire.specs.Choices.{system_of}
-use Rattle.cif_fire.proofs.Facts.{net-of-plain}
+use Rattle.cif_net_model.proofs.First.{first-state}
+use Rattle.cif_eval.specs.Choices.{system_of}
+use Rattle.cif_eval.proofs.Facts.{net-of-plain}
 use Rattle.cif_sim.proofs.sim.Sim.new.Goals as goal
 
 pub invariant_of-result : goal.invariant_of-result

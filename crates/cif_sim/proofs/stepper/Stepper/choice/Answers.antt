@@ -3,7 +3,7 @@ use Rattle.std.specs.Prelude.{IfSome, option_map}
 use Rattle.cif_system.specs.Choices.{first_step}
 use Rattle.cif_net.specs.View.{state_tree}
 use Rattle.cif_net.specs.declared.guarded.Guarded.{Guarded}
-use Rattle.cif_fire.specs.Choices.{system_of}
+use Rattle.cif_eval.specs.Choices.{system_of}
 use Rattle.cif_sim.specs.Tried.{Makes, after_at}
 use Rattle.cif_sim.proofs.Stepped.{ends-inside, leads-to, makes-one}
 use Rattle.cif_sim.proofs.stepper.Stepper.choice.Goals as goal

@@ -1,5 +1,0 @@
-use Rattle.cif_algebraic.proofs.GraphLaws.{order-gives}
-use Rattle.cif_algebraic.proofs.laws.an_order_gives_a_rank.Goals as goal
-
-pub returns : goal.returns
-returns c n order ordered = order-gives n order ordered

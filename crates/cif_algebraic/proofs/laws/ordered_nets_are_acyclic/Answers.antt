@@ -1,5 +1,0 @@
-use Rattle.cif_algebraic.proofs.GraphLaws.{order-acyclic}
-use Rattle.cif_algebraic.proofs.laws.ordered_nets_are_acyclic.Goals as goal
-
-pub returns : goal.returns
-returns c n order ordered = order-acyclic n order ordered

@@ -1,6 +1,0 @@
-use Rattle.std.proofs.Common.{◌≡◌, drop}
-use Rattle.cif_cycles.specs.Names.{place_of}
-use Rattle.cif_cycles.proofs.numbers.place_of.Given as goal
-
-abbrev pub invariant-loop-body : goal.invariant-loop-body
-invariant-loop-body l = place_of l.scopes.table.scopes l.name ≡ place_of (drop l.body l.scopes.table.scopes) l.slot

@@ -1,4 +1,0 @@
-use Rattle.cif_expr.proofs.operands.+un.Given as goal
-
-abbrev pub decreases-un : goal.decreases-un
-decreases-un l = l.fuel

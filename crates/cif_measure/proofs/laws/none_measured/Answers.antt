@@ -1,5 +1,0 @@
-use Rattle.cif_measure.proofs.SizeLaws as size
-use Rattle.cif_measure.proofs.laws.none_measured.Goals as goal
-
-pub returns : goal.returns
-returns c n none = size.none-measured n none

@@ -1,8 +1,0 @@
-use Rattle.std.proofs.Common.{◌≡◌, ◌++◌, drop, map}
-use Rattle.why_face.specs.Reasons.{breaks}
-use Rattle.cif_reasons.specs.Lists.{each_from}
-use Rattle.cif_reasons.specs.View.{reason_tree}
-use Rattle.cif_reasons.proofs.breaking.add_broken.Given as goal
-
-abbrev pub invariant-loop-number : goal.invariant-loop-number
-invariant-loop-number l = map reason_tree l.all ++ each_from breaks (λ k b. b) l.number (drop l.number l.marks) ≡ map reason_tree l.initial.all ++ each_from breaks (λ k b. b) 0 l.marks

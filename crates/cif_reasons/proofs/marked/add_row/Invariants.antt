@@ -1,8 +1,0 @@
-use Rattle.std.proofs.Common.{◌≡◌, ◌++◌, drop, map}
-use Rattle.why_face.specs.Reasons.{leaves}
-use Rattle.cif_reasons.specs.Lists.{each_from}
-use Rattle.cif_reasons.specs.View.{reason_tree}
-use Rattle.cif_reasons.proofs.marked.add_row.Given as goal
-
-abbrev pub invariant-loop-number : goal.invariant-loop-number
-invariant-loop-number l = map reason_tree l.all ++ each_from (leaves l.automaton l.edge) (λ k b. b) l.number (drop l.number l.row) ≡ map reason_tree l.initial.all ++ each_from (leaves l.automaton l.edge) (λ k b. b) 0 l.row

@@ -1,7 +1,0 @@
-use Rattle.std.proofs.Common.{◌∙◌, ap}
-use Rattle.cif_reasons.specs.Channels.{is_chan}
-use Rattle.cif_reasons.proofs.Plain.{channel-is}
-use Rattle.cif_reasons.proofs.roles.is_channel.Goals as goal
-
-pub returns : goal.returns
-returns c = c.is_chan.ensures ∙ ap is_chan c.chan_at.ensures ∙ channel-is c.args.events.now c.args.event

@@ -1,3 +1,0 @@
-pub mod DepthLaws
-pub mod BodyLaws
-pub mod NestingLaws

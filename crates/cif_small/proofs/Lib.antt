@@ -1,3 +1,0 @@
-pub mod UpdateLaws
-pub mod BodyLaws
-pub mod SmallLaws

@@ -1,0 +1,13 @@
+use Rattle.std.proofs.Common.{◌∙◌, ap}
+use Rattle.cif_types_kinds.specs.Tables.{kind_for}
+use Rattle.cif_types_kinds.specs.Readings.{lists_in}
+use Rattle.cif_types_kinds.proofs.NameLaws.{body_scope, name_kind}
+use Rattle.cif_types_kinds.proofs.reading.Reading.kind_of_name.Goals as goal
+
+pub find-requires : goal.find-requires
+find-requires c = body_scope c.args.self.now c.requires
+
+pub returns : goal.returns
+returns c =
+    ap (kind_for (lists_in c.args.self.now)) c.kind_found.ensures
+    ∙ name_kind c.args.self.now c.args.name.now c.in_ok-found.found c.requires (λ t d h is. c.in_ok-found.ensures t d h is)

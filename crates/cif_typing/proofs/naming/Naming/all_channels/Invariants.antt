@@ -1,6 +1,0 @@
-use Rattle.std.proofs.Common.{◌≡◌, ◌++◌, drop}
-use Rattle.cif_typing.specs.Types.{all_channels}
-use Rattle.cif_typing.proofs.naming.Naming.all_channels.Given as goal
-
-abbrev pub invariant-loop-body : goal.invariant-loop-body
-invariant-loop-body l = l.all ++ all_channels l.self.scopes.now l.self.slots.now l.kinds l.body (drop l.body l.self.slots.now) ≡ all_channels l.self.scopes.now l.self.slots.now l.kinds 0 l.self.slots.now

@@ -1,6 +1,0 @@
-use Rattle.std.proofs.Common.{◌≡◌, ◌++◌, map, drop}
-use Rattle.cif_typing.specs.Types.{kind_in_slot}
-use Rattle.cif_typing.proofs.naming.Naming.body_kinds.Given as goal
-
-abbrev pub invariant-loop-slot : goal.invariant-loop-slot
-invariant-loop-slot l = l.all ++ map (kind_in_slot l.self.scopes.now l.self.slots.now l.kinds l.body) (drop l.slot-index l.row) ≡ map (kind_in_slot l.self.scopes.now l.self.slots.now l.kinds l.body) l.row

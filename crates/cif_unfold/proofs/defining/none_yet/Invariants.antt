@@ -1,7 +1,0 @@
-use Rattle.std.proofs.Common.{◌≡◌, map, replicate}
-use Rattle.cif_term.specs.View.{view}
-use Rattle.cif_unfold.specs.Tables.{nothing}
-use Rattle.cif_unfold.proofs.defining.none_yet.Given as goal
-
-abbrev pub invariant-loop-number : goal.invariant-loop-number
-invariant-loop-number l = map view l.all ≡ replicate l._number nothing

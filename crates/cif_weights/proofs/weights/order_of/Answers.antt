@@ -1,5 +1,0 @@
-use Rattle.cif_weights.proofs.GrowLaws.{inside}
-use Rattle.cif_weights.proofs.weights.order_of.Goals as goal
-
-pub order-requires-clause-inside : goal.order-requires-clause-inside
-order-requires-clause-inside c = inside c.args.needs.now c.requires

@@ -1,7 +1,0 @@
-use Rattle.std.proofs.Common.{map}
-use Rattle.cif_weights.specs.Definitions.{definition_tree}
-use Rattle.cif_weights.specs.Weights.{IsWeighed}
-use Rattle.cif_weights.proofs.weights.put_all.Given as goal
-
-abbrev pub invariant-loop-number : goal.invariant-loop-number
-invariant-loop-number l = IsWeighed l.looking (map definition_tree l.definitions) l.weights

@@ -1,5 +1,0 @@
-use Rattle.cif_written.proofs.RuleLaws.{parts-same}
-use Rattle.cif_written.proofs.laws.bodies_are_the_same.Goals as goal
-
-pub returns : goal.returns
-returns c = parts-same

@@ -1,5 +1,0 @@
-use Rattle.cif_written.proofs.RuleLaws.{bodies-pass}
-use Rattle.cif_written.proofs.laws.components_pass_what_bodies_pass.Goals as goal
-
-pub returns : goal.returns
-returns c = bodies-pass

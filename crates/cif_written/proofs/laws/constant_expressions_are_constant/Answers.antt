@@ -1,5 +1,0 @@
-use Rattle.cif_written.proofs.Constants.{constants-kept}
-use Rattle.cif_written.proofs.laws.constant_expressions_are_constant.Goals as goal
-
-pub returns : goal.returns
-returns c = constants-kept

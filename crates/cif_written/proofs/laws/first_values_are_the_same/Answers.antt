@@ -1,5 +1,0 @@
-use Rattle.cif_written.proofs.Constants.{first-same}
-use Rattle.cif_written.proofs.laws.first_values_are_the_same.Goals as goal
-
-pub returns : goal.returns
-returns c = first-same

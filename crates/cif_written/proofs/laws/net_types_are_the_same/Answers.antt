@@ -1,5 +1,0 @@
-use Rattle.cif_written.proofs.Constants.{net_type-same}
-use Rattle.cif_written.proofs.laws.net_types_are_the_same.Goals as goal
-
-pub returns : goal.returns
-returns c = net_type-same

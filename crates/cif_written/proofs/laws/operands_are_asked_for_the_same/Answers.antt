@@ -1,5 +1,0 @@
-use Rattle.cif_written.proofs.KindLaws.{operands-same}
-use Rattle.cif_written.proofs.laws.operands_are_asked_for_the_same.Goals as goal
-
-pub returns : goal.returns
-returns c = operands-same

@@ -1,5 +1,0 @@
-use Rattle.cif_written.proofs.DemandLaws.{demands-same}
-use Rattle.cif_written.proofs.laws.positions_ask_for_the_same.Goals as goal
-
-pub returns : goal.returns
-returns c = demands-same

@@ -1,5 +1,0 @@
-use Rattle.cif_written.proofs.Constants.{range-same}
-use Rattle.cif_written.proofs.laws.ranges_are_the_same.Goals as goal
-
-pub returns : goal.returns
-returns c = range-same

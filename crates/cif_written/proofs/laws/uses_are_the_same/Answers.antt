@@ -1,5 +1,0 @@
-use Rattle.cif_written.proofs.UseLaws.{uses-same}
-use Rattle.cif_written.proofs.laws.uses_are_the_same.Goals as goal
-
-pub returns : goal.returns
-returns c = uses-same

@@ -1,5 +1,0 @@
-use Rattle.cif_written.proofs.OwnLaws.{assigned-once}
-use Rattle.cif_written.proofs.laws.variables_are_assigned_once.Goals as goal
-
-pub returns : goal.returns
-returns c = assigned-once

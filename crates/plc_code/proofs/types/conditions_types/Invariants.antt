@@ -1,9 +1,0 @@
-use Rattle.std.proofs.Common.{◌≡◌, ◌++◌, drop}
-use Rattle.cif_term.specs.View.{view_update_branches}
-use Rattle.cif_net.specs.View.{net_tree}
-use Rattle.plc_act.specs.Own as o
-use Rattle.plc_code.proofs.types.conditions_types.Given as goal
-
-abbrev pub invariant-loop-branch : goal.invariant-loop-branch
-invariant-loop-branch l =
-    l.types ++ o.conditions_types (net_tree l.net) l.received (view_update_branches (drop l.branch-index l.branches)) ≡ l.fn.types ++ o.conditions_types (net_tree l.net) l.received (view_update_branches l.branches)

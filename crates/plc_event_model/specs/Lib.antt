@@ -1,0 +1,12 @@
+pub mod Writes
+pub mod Acts
+pub mod Sends
+pub mod Keeps
+pub mod Asked
+pub mod Own
+pub mod Declared
+pub mod Events
+pub mod Ready
+pub mod Parts
+pub mod ProgramParts
+pub mod Definitions

@@ -1,0 +1,17 @@
+pub mod Choosing
+pub mod Writing
+pub mod Moving
+pub mod Making
+pub mod Declaring
+pub mod Checking
+pub mod Showing
+pub mod Facts
+pub mod Agreeing
+pub mod Framing
+pub mod Marked
+pub mod Spelling
+pub mod Building
+pub mod TryLaws
+pub mod ScanLaws
+pub mod GivenLaws
+pub mod LoopLaws

@@ -1,0 +1,9 @@
+pub mod Faces
+pub mod Places
+pub mod Events
+pub mod Variables
+pub mod Makes
+pub mod Given
+pub mod Small
+pub mod Shown
+pub mod Tries

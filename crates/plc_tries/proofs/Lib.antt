@@ -1,8 +1,0 @@
-pub mod Safe
-pub mod Carrying
-pub mod Free
-pub mod Places
-pub mod Own
-pub mod Declared
-pub mod Tried
-pub mod Showing

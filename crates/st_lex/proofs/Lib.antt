@@ -1,2 +1,0 @@
-pub mod CuttingLaws
-pub mod Decimals

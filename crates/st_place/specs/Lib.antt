@@ -1,4 +1,0 @@
-pub mod PlacedTree
-pub mod PlacedTests
-pub mod PlacedView
-pub mod Placing
