@@ -7,11 +7,8 @@ use Rattle.cif_ast.specs.declared.expressions.CmpOp.TheVariants as cmp
 use Rattle.cif_source.specs.Source.{tree_at}
 use Rattle.cif_source.specs.Components.{Component}
 use Rattle.cif_source.specs.Kinds.{Kind, bool_kind, int_kind, same_kind, kind_of, shape_kind, first_kind, Demand, demand, comparison_demands, operands, shape_operands, term_operands, factor_operands, truth_operands, branch_operands, other_demand}
-use Rattle.cif_source.specs.Demands.{demanded}
-use Rattle.cif_types_kinds.specs.declared.error.KindErr.{KindErr}
-use Rattle.cif_types_kinds.specs.Met.{Checks}
-use Rattle.cif_types_kinds.specs.Faults.{unless, or_later, then_asked, right_kind, left_fault, first_of, fault, shape_fault, term_fault, factor_fault, truth_fault, branch_fault, Tells}
-use Rattle.cif_types_kinds.proofs.MetLaws.{Answers, nothing, one, next, asked, moved, two, stopped, regrouped, later-end, later-assoc, checks}
+use Rattle.cif_types_kinds.specs.Faults.{unless, or_later, then_asked, right_kind, left_fault, first_of, fault, shape_fault, term_fault, factor_fault, truth_fault, branch_fault}
+use Rattle.cif_types_kinds.proofs.MetLaws.{Answers, nothing, one, next, asked, moved, two, stopped, regrouped, later-end, later-assoc}
 
 -- ---- the first branch
 
@@ -151,9 +148,3 @@ mutual
   further-answers c r k e x no_branches = last-answers c r k e x
   further-answers c r k e x (branches cs b bs) =
       branch-answers c r k cs b e bs (then_asked c r (unwrap_or (first_of c r (Some k) bs) (kind_of c r e)) e (fault c r e)) (truth-answers c r cs) (tree-answers c r b) (further-answers c r k e x bs)
-
-pub operands_checked : {A : Type 0} (c : Component) (r : Kind) (e : Tree) (x : Result A KindErr) → Tells x (fault c r e) → Checks c (operands c r e) x
-operands_checked c r e x h = checks c (fault c r e) (operands c r e) x (tree-answers c r e) h
-
-pub demanded_checked : {A : Type 0} (c : Component) (r k : Kind) (e : Tree) (x : Result A KindErr) → Tells x (then_asked c r k e (fault c r e)) → Checks c (demanded c r k e) x
-demanded_checked c r k e x h = checks c (then_asked c r k e (fault c r e)) (demanded c r k e) x (operand-one c r k e (tree-answers c r e)) h

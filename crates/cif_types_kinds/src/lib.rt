@@ -4,7 +4,6 @@
 
 mod arguments;
 mod bodies;
-mod checking;
 mod declarations;
 mod edges;
 mod error;

@@ -3,9 +3,11 @@
 
 mod copying;
 mod kinds;
+mod sharing;
 mod tree;
 
 pub use kinds::TokenKind;
+pub use sharing::program_is_shared;
 pub use tree::{
     Address, Program, Size, StBranch, StClass, StExpr, StFactor, StLit, StMul, StOrder, StTerm,
     StTy, StVar, Stmt,
