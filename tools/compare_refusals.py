@@ -462,7 +462,7 @@ WORKED = [
     ("", set(), set()),
 ]
 
-# The same for sources with data; `generate` tells what the last column has.
+# The same for sources with variables; `generate` tells what the last column has.
 NO_CLASS = {"28 Unclassed event a.e"}
 OWN = "automaton a: event e; disc int x; location: initial; edge e do %s; end"
 TWO = "automaton a: event e; disc int x; disc int[%s] y; location: initial; edge e do x := x %s; end"

@@ -1,5 +1,5 @@
 #!/usr/bin/env python3
-"""Compares the scans of generated programs with a simulation of their sources, on random automata that synchronise, with data, inputs,
+"""Compares the scans of generated programs with a simulation of their sources, on random automata that synchronise, with variables, inputs,
 algebraic variables, channels, invariants and definitions, and without.
 
     tools/compare_scans.py PROGRAM [SOURCES [SEED]]
@@ -43,7 +43,7 @@ Trial = namedtuple("Trial", "text options unc con file")
 
 
 def rounds(choose, has_data):
-    """The most rounds of a class as they are asked for, or None; fewer with data, which pass more states."""
+    """The most rounds of a class as they are asked for, or None; fewer with variables, which pass more states."""
     return choose.choice([None, 1, 1, 2, 3, 4, 5, 6, 7, 10, 99, 101, 25 if has_data else choose.choice([1000, 9999, 10000])])
 
 

@@ -4,8 +4,8 @@
     tools/crate_table.py            writes the table into docs/PROVED.md, between its two marker comments
     tools/crate_table.py --check    status 1 where the table there is another
 
-A row has the crate, the first sentence of the `//!` head of its src/lib.rt or src/main.rt, and the crates that it uses without those
-that another one of them uses already.
+The crates come in the order of crates.txt, under the headings of their families. The line of a crate has its name, the first sentence of the
+`//!` head of its src/lib.rt or src/main.rt, and the crates that it uses without those that another one of them uses already.
 """
 import pathlib
 import re
@@ -27,19 +27,14 @@ def listed_crates(text):
     return found
 
 
-def in_order(crates):
-    """Each crate after those that it uses, and else in the order of the list."""
+def families(text):
+    """The headings of crates.txt, each with its crates. The first comment is the head of the file."""
     found = []
-
-    def visit(name):
-        if name in found or name not in crates:
-            return
-        for used in crates[name]:
-            visit(used)
-        found.append(name)
-
-    for name in crates:
-        visit(name)
+    for line in text.splitlines()[1:]:
+        if line.startswith("# "):
+            found.append((line[2:].strip(), []))
+        elif listed_crates(line):
+            found[-1][1].extend(listed_crates(line))
     return found
 
 
@@ -73,12 +68,15 @@ def purpose(name):
 
 
 def table():
-    crates = listed_crates((TOP / "crates.txt").read_text())
-    rows = ["| Crate | What it is for | Uses |", "|---|---|---|"]
-    for name in in_order(crates):
-        uses = ", ".join(f"`{it}`" for it in direct(crates, name))
-        rows.append(f"| `{name}` | {purpose(name)} | {uses} |")
-    return "\n".join(rows) + "\n"
+    text = (TOP / "crates.txt").read_text()
+    crates = listed_crates(text)
+    lines = ["| Crate | What it is for | Uses |", "|---|---|---|"]
+    for family, names in families(text):
+        lines.append(f"| **{family}** | | |")
+        for name in names:
+            uses = ", ".join(f"`{it}`" for it in direct(crates, name))
+            lines.append(f"| `{name}` | {purpose(name)} | {uses} |")
+    return "\n".join(lines) + "\n"
 
 
 def with_table(page):

@@ -1,4 +1,4 @@
-"""Writes a dense source with data of so many KiB (1,024 where none are named): automata with variables, enumerations, constants, guards
+"""Writes a dense source of the given size in KiB (1,024 where none is named): automata with variables, enumerations, constants, guards
 and conditional updates. With `parse` as the second word a word follows with which the text reads as nothing, so that `check` ends
 when it has parsed it."""
 import sys

@@ -2,7 +2,7 @@
 
     python3 tools/large_source.py [cells [COPIES]] > source.cif
 
-Without a word it has automata with data, guards and updates, and invariants, and more objects than a source may have: it is read whole and
+Without a word it has automata with variables, guards and updates, and invariants, and more objects than a source may have: it is read whole and
 then refused (17). With `cells` it has commented copies of examples/cell.cif, in groups of their own, and more comments up to the size:
 1,000 copies, which the limit on choices allows, and without their state invariants, of which each choice of each copy would ask all. With
 fewer copies, from 1 on, it is so much smaller.

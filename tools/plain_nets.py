@@ -1,4 +1,4 @@
-"""Says what sources of automata with data and definitions mean: which rules they break, their choices and scans.
+"""Says what sources of automata with variables and definitions mean: which rules they break, their choices and scans.
 
 Plain and slow on purpose, and shares nothing with the program: the CIF 3 language reference ("Syntax", "Scoping", "Component
 definition and instantiation", "Synchronization", "Channels", "Monitoring", "Updates", "Algebraic variables", "Input variables",
@@ -370,7 +370,7 @@ class Net:
         return "\n".join(lines + [""])
 
     def cells(self, state):
-        """What is shown of a state, as a row of a table: truths are words, all else is numbers."""
+        """What is written of a state, as a line of a table: truths are words, all else is numbers."""
         kinds = ["int"] * len(self.parties) + [it.kind for it in self.variables + self.algebraic]
         values = state[:len(state) - len(self.inputs)] + tuple(it.value_in(state) for it in self.algebraic)
         return [("FALSE", "TRUE")[value] if kind == "bool" else str(value) for kind, value in zip(kinds, values)]

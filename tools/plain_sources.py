@@ -1,4 +1,4 @@
-"""Reads sources of automata with data and definitions: what a text declares, bodies as written (CIF 3 language reference, "Syntax").
+"""Reads sources of automata with variables and definitions: what a text declares, bodies as written (CIF 3 language reference, "Syntax").
 
 What the sources mean, and which rules they break, is told by `plain_nets.py` and what it stands on.
 """

@@ -1,4 +1,4 @@
-"""Makes random sources of automata that synchronise, with data, inputs, algebraic variables, channels, invariants and definitions, and
+"""Makes random sources of automata that synchronise, with variables, inputs, algebraic variables, channels, invariants and definitions, and
 without, sound ones and, where faults are asked for, others.
 
 Names come from a few for each source, so that they shadow one another, and stand as dotted names, through instances too, and as names
@@ -60,7 +60,7 @@ class Maker(DefinitionMaker, DataMaker, AlgebraMaker, ChannelMaker, InvariantMak
     variable, "loop" for one that may need itself; "cycle" of definitions, "count" of arguments, "argument" for any one, and "unfit" for
     one of another kind or class; "role" for a use that fits no channel, "mixed" for several roles, "received" for `?` where it may not
     stand; "kept" for a state invariant that may be false at first, and "reads" for one that may read inputs. `forms` may have "channel"
-    and "invariant", and with data "input" and "alg". Unreached is raised where what is wanted has no name."""
+    and "invariant", and with variables "input" and "alg". Unreached is raised where what is wanted has no name."""
 
     def __init__(self, choose, faults=None, has_data=False, has_definitions=False, forms=()):
         self.choose, self.faults, self.has_data, self.has_definitions, self.forms = choose, faults or {}, has_data, has_definitions, forms

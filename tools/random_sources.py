@@ -65,12 +65,12 @@ def some_forms(choose):
 
 
 def automata_alone(choose):
-    """A source without data, at times with channels, which are without values."""
+    """A source without variables, at times with channels, which are without values."""
     return lively(choose, False, choose.choice([(), ("channel",), ("invariant",), ("channel", "invariant")]))
 
 
 def data_together(choose):
-    """A source with data, mostly such that inputs, algebraic variables and channels matter."""
+    """A source with variables, mostly such that inputs, algebraic variables and channels matter."""
     return lively(choose, True, some_forms(choose))
 
 
@@ -128,7 +128,7 @@ def is_changed(net, file):
 
 
 def instances_together(choose):
-    """Definitions and instances, mostly with data, and mostly such that the first rounds lead on and arguments are read."""
+    """Definitions and instances, mostly with variables, and mostly such that the first rounds lead on and arguments are read."""
     is_moved, is_read, has_data = choose.random() < 0.9, choose.random() < 0.5, choose.random() < 0.85
     forms, tries = some_forms(choose) if has_data else choose.choice([(), ("channel",), ("invariant",)]), choose.choice(TRIES)
     while True:

@@ -1,5 +1,5 @@
 #!/usr/bin/env python3
-"""Measures `batch` over equal cases as ratios, in turns.
+"""Measures `batch` over equal cases as ratios, alternately.
 
     tools/speed_of_batch.py PROGRAM [--source FILE] [--cases N] [--scans N] [--turns N]
 

@@ -1,5 +1,5 @@
 #!/usr/bin/env python3
-"""Measures runs of `simulate` as ratios, in turns.
+"""Measures runs of `simulate` as ratios, alternately.
 
     tools/speed_of_runs.py PROGRAM [--turns N] [--instructions]
 

@@ -367,7 +367,7 @@ class Waves(Bench):
 
 
 class Cases(Bench):
-    """The tables of `batch`, one after the other, and its cases. The tables of VALUES are those of the worked row for `batch`."""
+    """The tables of `batch`, one after the other, and its cases. The tables of VALUES are those of the worked example for `batch`."""
     VALUES = "scan,R0_y\n1,1\n2,2\nscan,R0_y\n1,3\n2,3\nscan,R0_y\n1,0\n"
     GIVEN = "scan,I0_a\n1,1\n2,2\n1,3\n2,3\n1,0\n"
 

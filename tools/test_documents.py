@@ -342,12 +342,15 @@ class Shape(unittest.TestCase):
             found += [f"{name}: {it}" for it in libraries if it not in words]
         self.assertEqual(found, [])
 
-    def test_claims_of_crates(self):
-        """PROVED says of each crate what it proves, but for the programs of cases."""
+    def test_families(self):
+        """ARCHITECTURE has the families with their crates, and PROVED says of each crate what it proves, both in the order of crates.txt."""
+        families = crate_table.families((TOP / "crates.txt").read_text())
+        part = re.search(r"^## The families of crates\n(.*?)^## ", (TOP / "docs/ARCHITECTURE.md").read_text(), re.S | re.M)[1]
+        lines = re.findall(r"^\| (\w[^|]*) \| (`[^|]*) \|", part, re.M)
+        self.assertEqual([(family, re.findall(r"`(\w+)`", crates)) for family, crates in lines], families)
         part = re.search(r"^## Crate by crate\n(.*?)^## ", (TOP / "docs/PROVED.md").read_text(), re.S | re.M)[1]
-        named = set(re.findall(r"`(\w+)`", " ".join(re.findall(r"^\| (`[^|]*) \|", part, re.M))))
-        crates = {it for it in crate_table.listed_crates((TOP / "crates.txt").read_text()) if not it.endswith("_cases")}
-        self.assertEqual(sorted(named ^ crates), [])
+        claims = re.findall(r"^### (.*?)\n(.*?)(?=^### |\Z)", part, re.S | re.M)
+        self.assertEqual([(family, re.findall(r"^\| `(\w+)` \|", lines, re.M)) for family, lines in claims], families)
 
     def test_usage(self):
         """README has each command and option of `cif --help`, and no other."""

@@ -52,7 +52,7 @@ class Sources(unittest.TestCase):
                 self.assertLessEqual(sum(map(net.count, range(len(net.events)))), MOST_TRIED)
 
     def test_data(self):
-        """Those of a maker without data have no variables and no inputs, and all names of the other ones have both at times."""
+        """Those of a maker without variables have none and no inputs, and all names of the other ones have both at times."""
         choose, found = random.Random(1), set()
         for make in MAKERS:
             net = Net(Source(make(choose)))
