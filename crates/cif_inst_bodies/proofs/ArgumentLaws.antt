@@ -22,7 +22,7 @@ use Rattle.cif_source.specs.Kinds.{no_kind, int_kind, same_kind, type_kind, kind
 use Rattle.cif_source.specs.Constants.{bound_values}
 use Rattle.cif_source.specs.Demands.{asked_for, decl_demands, argument_demands, location_demands, Argument, arguments_at, arguments_in, is_unfit_for}
 use Rattle.cif_source.specs.BodyRules.{MismatchDue, BadValue, BadUse, BadArgument}
-use Rattle.cif_inst_model.proofs.DistinctLaws.{below-parent}
+use Rattle.cif_source.proofs.ReachLaws.{below-parent}
 use Rattle.cif_inst_model.proofs.RuleLaws.{member-any}
 use Rattle.cif_inst_bodies.specs.Arguments.{IsNameFor, IsArgumentFor}
 use Rattle.cif_inst_bodies.proofs.Alike.{written, twice, body-written, definition-written}

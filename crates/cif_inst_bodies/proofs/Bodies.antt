@@ -12,7 +12,7 @@ use Rattle.cif_source.specs.Lookup.{ScopeEntry, Reached, reached, missing, block
 use Rattle.cif_source.specs.Objects.{components_below, components_of, children, child_of, items_in, most_objects, bodies, bodies_in, bodies_at, bodies_under}
 use Rattle.cif_source.proofs.ComponentLaws.{append-cases, flat-cases}
 use Rattle.cif_system.proofs.Picks.{append-left, append-right}
-use Rattle.cif_inst_model.proofs.FoundLaws.{reached-same}
+use Rattle.cif_source.proofs.ReachLaws.{reached-same}
 use Rattle.cif_inst_model.proofs.WrittenLaws.{BodyOf, bodies-closed}
 use Rattle.cif_inst_bodies.proofs.Alike.{root-written, body-written}
 use Rattle.cif_inst_bodies.specs.Entries.{IsOf}

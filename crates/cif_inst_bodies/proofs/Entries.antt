@@ -11,7 +11,8 @@ use Rattle.cif_source.specs.Components.{Component, body_of, params_of, scope_of,
 use Rattle.cif_source.specs.Lookup.{ScopeEntry, reached, at_entry, in_scope, in_body}
 use Rattle.cif_source.specs.Objects.{decls_in, item_decls, items_in, locs_in}
 use Rattle.cif_source.proofs.ComponentLaws.{append-cases}
-use Rattle.cif_inst_model.proofs.FoundLaws.{flat-cases, find-entry, reached-same}
+use Rattle.cif_source.proofs.ReachLaws.{find-entry, reached-same}
+use Rattle.cif_inst_model.proofs.FoundLaws.{flat-cases}
 use Rattle.cif_inst_model.proofs.StandingLaws.{enumerated}
 use Rattle.cif_inst_bodies.specs.Entries.{IsIn, IsOf}
 

@@ -14,7 +14,7 @@ use Rattle.cif_source.specs.Components.{Component, whole, part, blank, copy, spe
 use Rattle.cif_source.specs.Lookup.{ScopeEntry, Reached, reached, missing, blocked, in_scope, go_on, or_outward, outward, definition_found, opened, in_opened, passed, inside, found}
 use Rattle.cif_source.specs.Objects.{bodies}
 use Rattle.cif_source.specs.BodyRules.{edges_of, targets_of_all, LeadsElsewhere, NotOwnDue, lists_of, AssignsTwice, AssignedTwiceDue}
-use Rattle.cif_inst_model.proofs.FoundLaws.{reached-same}
+use Rattle.cif_source.proofs.ReachLaws.{reached-same}
 use Rattle.cif_inst_model.proofs.RuleLaws.{member-any}
 use Rattle.cif_inst_bodies.specs.Alike.{AreWrittenAlike, AreAlike}
 use Rattle.cif_inst_bodies.proofs.Alike.{written, twice, root-written, outward-written, passed-same, alike-places, names-alike}

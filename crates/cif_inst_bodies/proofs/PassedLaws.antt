@@ -9,15 +9,14 @@ use Rattle.cif_system.specs.Words.{Member}
 use Rattle.cif_system.proofs.Lists.{none-some}
 use Rattle.cif_source.specs.Source.{Text, ParamTree, InstanceTree, SourceBody, Source}
 use Rattle.cif_source.specs.Components.{Component, whole, part, blank, copy, specification_of, Entry, parameter}
-use Rattle.cif_source.specs.Lookup.{ScopeEntry, Reached, reached, missing, blocked, in_scope, go_on, or_outward, outward, inside, passed, found, Object, thing, given, by_argument, follow}
+use Rattle.cif_source.specs.Lookup.{ScopeEntry, Reached, reached, missing, blocked, in_scope, go_on, or_outward, outward, inside, found, Object, thing, given, by_argument, follow}
 use Rattle.cif_source.specs.Objects.{components_of, most_objects}
 use Rattle.cif_source.specs.Uses.{Asked, is_asked}
 use Rattle.cif_source.specs.Scoping.{UnknownDue, WrongKindDue}
-use Rattle.cif_source.proofs.NameLaws.{is_parameter, in_body-own, passed-own, met, met_at, met_at-own, follow-met}
+use Rattle.cif_source.proofs.NameLaws.{is_parameter, in_body-own, met, met_at, met_at-own, follow-met, inside-own}
 use Rattle.cif_source.proofs.ReachLaws.{frames-listed, found-listed}
 use Rattle.cif_source.proofs.ComponentLaws.{head-below}
 use Rattle.cif_source.specs.BodyRules.{MismatchDue}
-use Rattle.cif_inst_model.proofs.FoundLaws.{reached-same}
 use Rattle.cif_inst_model.proofs.WrittenLaws.{parent-listed, outer-listed}
 use Rattle.cif_inst_bodies.specs.Arguments.{IsNameFor, IsArgumentFor}
 use Rattle.cif_inst_bodies.specs.Entries.{IsOf}
@@ -36,21 +35,6 @@ given_of name g e = Some (given g e)
 -- what a place means
 abbrev pub met_of : Component → Entry → Option Object
 met_of c e = met_at thing_of None given_of c e
-
--- past its first part a name leads to no parameter
-inside-own : (ps : List Ident) (z : ScopeEntry) (q : Ident) (x : ScopeEntry) → inside z (q ∷ ps) ≡ reached x → is_parameter x.1 ≡ false
-inside-own [] z q x h =
-    (elim (passed z q.text) as (λ r. passed z q.text ≡ r → go_on (λ y. inside y []) r ≡ reached x → is_parameter x.1 ≡ false) [
-      | reached y ↦ λ i k. subst (λ w. is_parameter w.1 ≡ false) (reached-same y x k) (passed-own z q.text y i)
-      | missing ↦ λ i k. cc
-      | blocked ↦ λ i k. cc
-    ]) refl h
-inside-own (p ∷ ps) z q x h =
-    (elim (passed z q.text) as (λ r. go_on (λ y. inside y (p ∷ ps)) r ≡ reached x → is_parameter x.1 ≡ false) [
-      | reached y ↦ λ k. inside-own ps y p x k
-      | missing ↦ λ k. cc
-      | blocked ↦ λ k. cc
-    ]) h
 
 -- ---- things of one sort
 
@@ -97,7 +81,7 @@ module _ (t : Source) (few : length (components_of t) ≤ most_objects) (asks : 
   going : (r : Reached) → ((z : ScopeEntry) → r ≡ reached z → is_asked asks z.1 ≡ true → IsThing (met_of z.0 z.1))
       → (ps : List Ident) (x : ScopeEntry) → Listed x.0 → IsOf x.0 x.1 → go_on (λ y. inside y ps) r ≡ reached x → is_asked asks x.1 ≡ true → IsThing (met_of x.0 x.1)
   going (reached z) first [] x l m h a = first x h a
-  going (reached z) first (q ∷ qs) x l m h a = own-place x l m a (inside-own qs z q x h)
+  going (reached z) first (q ∷ qs) x l m h a = own-place x l m a (inside-own z q qs x h)
   going missing first ps x l m h a = cc
   going blocked first ps x l m h a = cc
 

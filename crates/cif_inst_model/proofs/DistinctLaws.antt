@@ -1,5 +1,5 @@
 -- Where no scope of a component declares a name twice, components have different paths, and so have algebraic variables.
-use Rattle.std.proofs.Common.{◌≡◌, ℕ, zero, suc, Bool, true, false, ◌⊎◌, inl, inr, List, [], ◌∷◌, ◌++◌, length, Option, Some, None, refl, sym, ◌∙◌, ap, subst, arith}
+use Rattle.std.proofs.Common.{◌≡◌, ℕ, zero, suc, Bool, true, false, inl, inr, List, [], ◌∷◌, ◌++◌, length, Option, Some, None, refl, sym, ◌∙◌, ap, subst, arith}
 use Rattle.std.specs.Prelude.{◌||◌, flat_map, filter_map}
 use Rattle.std.specs.List.{cons_option, list_all, list_any, enumerate_from}
 use Rattle.std.specs.Option.{option_to_list}
@@ -13,8 +13,9 @@ use Rattle.cif_system.proofs.Picks.{and-left, and-right, or-cases, flat_map-memb
 use Rattle.cif_source.specs.Source.{Text, Source, DeclTree, type_decl, enum_decl, event_decl, const_decl, alg_decl, input_decl, disc_decl, equation_decl, invariant_decl, marked_decl, SourceItem, decl_item, component_item, definition_item, instance_item, SourceBody, group_body, automaton_body, InstanceTree, list_of_items}
 use Rattle.cif_source.specs.Components.{Component, whole, body_of, params_of, path_of, same_text, Entries, inner, definition, instance, parameter, declared, literal, location, item_entries, decl_entries, body_entries, param_entries, scope_of, location_entry}
 use Rattle.cif_source.specs.Lookup.{Reached, reached, missing, blocked, opened_at, definition_found}
-use Rattle.cif_source.specs.Objects.{components_of, components_below, most_objects, children, child_of, items_in, item_decls, decls_in, decls_of, automata, Declared, declarations, algs, is_alg, declares}
-use Rattle.cif_source.proofs.ComponentLaws.{flat-cases, children-parent}
+use Rattle.cif_source.specs.Objects.{components_of, most_objects, children, child_of, items_in, item_decls, decls_in, decls_of, automata, Declared, declarations, algs, is_alg, declares}
+use Rattle.cif_source.proofs.ComponentLaws.{children-parent}
+use Rattle.cif_source.proofs.ReachLaws.{below-parent}
 use Rattle.cif_source.specs.InstanceRules.{TooManyObjectsDue, ConstantRangeDue}
 use Rattle.cif_inst_model.specs.Flat.{net_of_source}
 use Rattle.cif_inst_model.specs.Represents.{Represents}
@@ -105,20 +106,6 @@ children-in p (automaton_body a) h c d k l same = absurd k
 
 body-single : (c : Component) → has_twice (names (scope_of c)) ≡ false → has_twice (names (body_entries (body_of c))) ≡ false
 body-single c h = not-twice-right (names (param_entries (params_of c))) (names (body_entries (body_of c))) (ap has_twice (sym (names-append (param_entries (params_of c)) (body_entries (body_of c)))) ∙ h)
-
--- a component below c is c, or a child of one below c
-pub below-parent : (n : ℕ) (c d : Component) → Member d (components_below n c) → (d ≡ c) ⊎ ((p : Component) × Member p (components_below n c) × Member d (children p))
-below-parent zero c d m = elim m [ inl w ↦ inl w | inr w ↦ absurd w ]
-below-parent (suc n) c d m =
-    elim m [
-      | inl w ↦ inl w
-      | inr w ↦
-          let y = flat-cases n d (children c) w in
-          elim (below-parent n y.0 d y.2) [
-            | inl v ↦ inr (c, inl refl, subst (λ z. Member z (children c)) (sym v) y.1)
-            | inr v ↦ inr (v.0, inr (flat_map-member (components_below n) y.0 (children c) v.0 y.1 v.1), v.2)
-          ]
-    ]
 
 -- no scope of a component declares a name twice
 abbrev pub ScopesAreSingle : Source → Type 0

@@ -1,5 +1,5 @@
 -- What names reach from a listed component: places in listed components, whose declarations are declared there.
-use Rattle.std.proofs.Common.{◌≡◌, ℕ, ◌≤◌, Bool, true, false, cond, inl, inr, List, [], ◌∷◌, length, map, Some, None, find, refl, sym, ◌∙◌, ap, subst}
+use Rattle.std.proofs.Common.{◌≡◌, ℕ, ◌≤◌, inl, inr, List, [], ◌∷◌, length, map, Some, None, refl, sym, ◌∙◌, ap, subst}
 use Rattle.std.specs.Prelude.{option_map, flat_map, filter_map}
 use Rattle.std.specs.List.{cons_option, enumerate_from}
 use Rattle.cif_ast.specs.declared.names.Ident.{Ident}
@@ -9,10 +9,10 @@ use Rattle.cif_system.proofs.Picks.{flat_map-member, map-member}
 use Rattle.cif_source.specs.Source.{Text, ParamTree, DeclTree, type_decl, enum_decl, event_decl, const_decl, alg_decl, input_decl, disc_decl, equation_decl, invariant_decl, marked_decl, LocationTree, SourceBody, InstanceTree, SourceItem, decl_item, component_item, definition_item, instance_item, group_body, automaton_body, Source, list_of_items}
 use Rattle.cif_system.specs.Words.{Before}
 use Rattle.cif_source.specs.Components.{Component, stands_in, whole, part, blank, copy, specification_of, body_of, params_of, Entry, Entries, declared, literal, location, inner, definition, instance, parameter, item_entries, body_entries, decl_entries, location_entry, param_name, param_entries, scope_of, entry_named, same_text}
-use Rattle.cif_source.specs.Lookup.{ScopeEntry, Reached, reached, missing, blocked, at_entry, in_scope, in_body, go_on, or_outward, outward, opened, in_opened, passed, inside}
+use Rattle.cif_source.specs.Lookup.{ScopeEntry, reached, missing, blocked, at_entry, in_scope, in_body, go_on, or_outward, outward, opened, in_opened, passed, inside}
 use Rattle.cif_source.specs.Objects.{components_of, most_objects, declarations, decls_of, decls_in, item_decls}
 use Rattle.cif_source.proofs.ComponentLaws.{append-cases, components-follow, head-below}
-use Rattle.cif_source.proofs.ReachLaws.{Good, in_scope-in, inside-good, frames-listed}
+use Rattle.cif_source.proofs.ReachLaws.{Good, in_scope-in, inside-good, frames-listed, find-entry, reached-same}
 
 -- ---- entries of declarations
 
@@ -83,21 +83,6 @@ params-in ds (p ∷ ps) n e m = elim m [ inl w ↦ subst (IsIn ds) (sym (ap (λ 
 
 abbrev pub IsDeclared : ScopeEntry → Type 0
 IsDeclared x = IsIn (decls_of x.0) x.1
-
-pub find-entry : (p : Ident × Entry → Bool) (xs : Entries) (e : Entry) → option_map (λ x. x.1) (find p xs) ≡ Some e → (n : Ident) × Member (n, e) xs
-find-entry p [] e h = absurd (none-some e h)
-find-entry p (x ∷ xs) e h =
-    (elim (p x) as (λ b. option_map (λ (y : Ident × Entry). y.1) (cond b (Some x) (find p xs)) ≡ Some e → (n : Ident) × Member (n, e) (x ∷ xs)) [
-      | true ↦ λ g. (x.0, inl (ap (λ f. (x.0, f)) (sym (some-same x.1 e g))))
-      | false ↦ λ g. let rest = find-entry p xs e g in (rest.0, inr rest.1)
-    ]) h
-
-pub reached-same : (x y : ScopeEntry) → reached x ≡ reached y → x ≡ y
-reached-same x y h = ap (back x) h
-  where
-    back : ScopeEntry → Reached → ScopeEntry
-    back d (reached z) = z
-    back d _ = d
 
 at-declared : (c : Component) (xs : Entries) → ((n : Ident) (e : Entry) → Member (n, e) xs → IsIn (decls_of c) e) → (s : Text) (x : ScopeEntry) → at_entry c (entry_named s xs) ≡ reached x → IsDeclared x
 at-declared c xs all s x h =

@@ -14,7 +14,7 @@ use Rattle.cif_source.specs.Lookup.{Reached, reached, missing, blocked, opened_a
 use Rattle.cif_source.specs.Objects.{components_of, children, child_of, items_in, most_objects, bodies, automata}
 use Rattle.cif_source.specs.Scoping.{DuplicateDue, DeclaresTwice}
 use Rattle.cif_source.proofs.ComponentLaws.{children-parent}
-use Rattle.cif_source.proofs.ReachLaws.{children-cases}
+use Rattle.cif_source.proofs.ReachLaws.{children-cases, below-parent}
 use Rattle.cif_source.specs.InstanceRules.{TooManyObjectsDue, ConstantRangeDue}
 use Rattle.cif_inst_model.specs.Flat.{net_of_source}
 use Rattle.cif_inst_model.specs.Represents.{Represents}
@@ -23,7 +23,7 @@ use Rattle.cif_inst_model.proofs.FoundLaws.{flat-cases}
 use Rattle.cif_inst_model.proofs.KeptLaws.{has_twice}
 use Rattle.cif_inst_model.proofs.PathLaws.{names}
 use Rattle.cif_inst_model.proofs.RuleLaws.{member-any, few-kept}
-use Rattle.cif_inst_model.proofs.DistinctLaws.{below-parent, flat-from, ScopesAreSingle, listed-represented}
+use Rattle.cif_inst_model.proofs.DistinctLaws.{flat-from, ScopesAreSingle, listed-represented}
 use Rattle.cif_inst_model.proofs.WrittenLaws.{bodies-closed, parent-listed, outer-listed}
 
 -- ---- children

@@ -9,12 +9,11 @@ use Rattle.cif_system.proofs.Lists.{some-same, none-some}
 use Rattle.cif_system.proofs.Picks.{append-left, append-right}
 use Rattle.cif_source.specs.Source.{Text, ParamTree, DeclTree, type_decl, enum_decl, event_decl, const_decl, alg_decl, input_decl, disc_decl, equation_decl, invariant_decl, marked_decl, LocationTree, SourceBody, InstanceTree, SourceItem, decl_item, component_item, definition_item, instance_item, group_body, automaton_body, Source, no_source, source, list_of_items}
 use Rattle.cif_source.specs.Components.{Component, stands_in, whole, part, blank, copy, specification_of, body_of, params_of, Entry, Entries, declared, literal, location, inner, definition, instance, parameter, item_entries, body_entries, decl_entries, location_entry, param_name, param_entries, scope_of, entry_named, same_text}
-use Rattle.cif_source.specs.Lookup.{ScopeEntry, Reached, reached, missing, blocked, at_entry, in_scope, in_body, go_on, or_outward, outward, looked_up, inside_written, definition_found, opened_at}
+use Rattle.cif_source.specs.Lookup.{ScopeEntry, Reached, reached, missing, blocked, at_entry, in_scope, in_body, go_on, or_outward, outward, looked_up, inside_written, definition_found}
 use Rattle.cif_source.specs.Objects.{components_of, children, items_in, most_objects, bodies, bodies_in, bodies_at, bodies_under}
 use Rattle.cif_source.proofs.ComponentLaws.{append-cases, children-parent, components-closed, head-below}
-use Rattle.cif_source.proofs.ReachLaws.{Good, in_body-in, in_scope-in, frames-listed, children-cases}
-use Rattle.cif_inst_model.proofs.FoundLaws.{flat-cases, find-entry, reached-same}
-use Rattle.cif_inst_model.proofs.DistinctLaws.{below-parent}
+use Rattle.cif_source.proofs.ReachLaws.{Good, in_body-in, in_scope-in, frames-listed, children-cases, below-parent, opened-found, find-entry, reached-same}
+use Rattle.cif_inst_model.proofs.FoundLaws.{flat-cases}
 
 -- ---- definitions stand in their bodies
 
@@ -171,21 +170,6 @@ bodies-closed t w i m k =
     ]
 
 -- ---- listed components
-
-opened-found : (c : Component) (i : InstanceTree) (r : Reached) (o g : Component) (n : Ident) (ps : List ParamTree) (b : SourceBody) (j : InstanceTree) → opened_at c i r ≡ Some (copy o n ps b g j) → r ≡ reached (o, definition n ps b)
-opened-found c i missing o g n ps b j h = absurd (none-some _ h)
-opened-found c i blocked o g n ps b j h = absurd (none-some _ h)
-opened-found c i (reached (d, declared x)) o g n ps b j h = absurd (none-some _ h)
-opened-found c i (reached (d, literal k ls)) o g n ps b j h = absurd (none-some _ h)
-opened-found c i (reached (d, location k)) o g n ps b j h = absurd (none-some _ h)
-opened-found c i (reached (d, inner m e)) o g n ps b j h = absurd (none-some _ h)
-opened-found c i (reached (d, instance k)) o g n ps b j h = absurd (none-some _ h)
-opened-found c i (reached (d, parameter k p)) o g n ps b j h = absurd (none-some _ h)
-opened-found c i (reached (d, definition m qs e)) o g n ps b j h = ap (back m qs e) (some-same (copy d m qs e c i) (copy o n ps b g j) h)
-  where
-    back : Ident → List ParamTree → SourceBody → Component → Reached
-    back m qs e (copy o n ps b g i) = reached (o, definition n ps b)
-    back m qs e _ = missing
 
 module _ (t : Source) (few : length (components_of t) ≤ most_objects) where
   abbrev pub Fine : ScopeEntry → Type 0

@@ -13,6 +13,7 @@ use Rattle.cif_system.specs.System.{State}
 use Rattle.cif_system.proofs.Lists.{some-same, none-some, false-true}
 use Rattle.cif_system.proofs.Picks.{and-left, and-right}
 use Rattle.cif_source.proofs.EntryLaws.{entry_passes, all-flat, all-decl, all-automaton}
+use Rattle.cif_source.proofs.ReachLaws.{reached-same}
 
 abbrev pub is_parameter : Entry → Bool
 is_parameter (parameter k p) = true
@@ -71,6 +72,21 @@ passed-own (c, literal k ls) t x h = cc
 passed-own (c, location k) t x h = cc
 passed-own (c, definition n ps b) t x h = cc
 passed-own (c, parameter k p) t x h = cc
+
+-- past its first part a name leads to no parameter
+pub inside-own : (x : ScopeEntry) (p : Ident) (ps : List Ident) (y : ScopeEntry) → inside x (p ∷ ps) ≡ reached y → is_parameter y.1 ≡ false
+inside-own x p [] y h =
+    (elim (passed x p.text) as (λ r. passed x p.text ≡ r → go_on (λ z. inside z []) r ≡ reached y → is_parameter y.1 ≡ false) [
+      | reached z ↦ λ i g. subst (λ (w : ScopeEntry). is_parameter w.1 ≡ false) (reached-same z y g) (passed-own x p.text z i)
+      | missing ↦ λ i g. cc
+      | blocked ↦ λ i g. cc
+    ]) refl h
+inside-own x p (q ∷ ps) y h =
+    (elim (passed x p.text) as (λ r. go_on (λ z. inside z (q ∷ ps)) r ≡ reached y → is_parameter y.1 ≡ false) [
+      | reached z ↦ λ g. inside-own z q ps y g
+      | missing ↦ λ g. cc
+      | blocked ↦ λ g. cc
+    ]) h
 
 -- what a place means: an argument, where a parameter of an instance stands there
 module _ {R : Type 0} (thing : ScopeEntry → R) (nothing : R) (argument : (Name → R) → Component → Tree → R) where

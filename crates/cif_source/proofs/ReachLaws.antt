@@ -15,7 +15,7 @@ use Rattle.cif_source.proofs.EntryLaws.{entry_passes, all-params, all-decl, all-
 use Rattle.cif_source.proofs.ComponentLaws.{append-cases, flat-cases, components-closed, head-below, children-parent}
 
 -- a component below c is c, or a child of one below c
-below-parent : (n : ℕ) (c d : Component) → Member d (components_below n c) → (d ≡ c) ⊎ ((p : Component) × Member p (components_below n c) × Member d (children p))
+pub below-parent : (n : ℕ) (c d : Component) → Member d (components_below n c) → (d ≡ c) ⊎ ((p : Component) × Member p (components_below n c) × Member d (children p))
 below-parent zero c d m = elim m [ inl w ↦ inl w | inr w ↦ absurd w ]
 below-parent (suc n) c d m =
     elim m [
@@ -44,7 +44,7 @@ pub children-cases : (c d : Component) → Member d (children c) → ((n : Ident
 children-cases c d m = child-cases c (items_in (body_of c)) d m
 
 -- an instance that opens was found at its outer component
-opened-found : (c : Component) (i : InstanceTree) (r : Reached) (o g : Component) (n : Ident) (ps : List ParamTree) (b : SourceBody) (j : InstanceTree) → opened_at c i r ≡ Some (copy o n ps b g j) → r ≡ reached (o, definition n ps b)
+pub opened-found : (c : Component) (i : InstanceTree) (r : Reached) (o g : Component) (n : Ident) (ps : List ParamTree) (b : SourceBody) (j : InstanceTree) → opened_at c i r ≡ Some (copy o n ps b g j) → r ≡ reached (o, definition n ps b)
 opened-found c i missing o g n ps b j h = absurd (none-some _ h)
 opened-found c i blocked o g n ps b j h = absurd (none-some _ h)
 opened-found c i (reached (d, declared x)) o g n ps b j h = absurd (none-some _ h)
@@ -61,7 +61,7 @@ opened-found c i (reached (d, definition m qs e)) o g n ps b j h = ap (back m qs
 
 -- entries of components and instances stand for source
 
-find-entry : (p : Ident × Entry → Bool) (xs : Entries) (e : Entry) → option_map (λ x. x.1) (find p xs) ≡ Some e → (n : Ident) × Member (n, e) xs
+pub find-entry : (p : Ident × Entry → Bool) (xs : Entries) (e : Entry) → option_map (λ x. x.1) (find p xs) ≡ Some e → (n : Ident) × Member (n, e) xs
 find-entry p [] e h = absurd (none-some e h)
 find-entry p (x ∷ xs) e h =
     (elim (p x) as (λ b. option_map (λ (y : Ident × Entry). y.1) (cond b (Some x) (find p xs)) ≡ Some e → (n : Ident) × Member (n, e) (x ∷ xs)) [
@@ -135,7 +135,7 @@ body-stands c (automaton_body a) h n e m = member-still c (body_entries (automat
 abbrev pub In : Component → ScopeEntry → Type 0
 In c x = (x.0 ≡ c) × Stands x
 
-reached-same : (x y : ScopeEntry) → reached x ≡ reached y → x ≡ y
+pub reached-same : (x y : ScopeEntry) → reached x ≡ reached y → x ≡ y
 reached-same x y h = ap (back x) h
   where
     back : ScopeEntry → Reached → ScopeEntry
