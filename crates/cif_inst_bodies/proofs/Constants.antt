@@ -26,7 +26,7 @@ use Rattle.cif_inst_bodies.specs.Alike.{AreWrittenAlike, AreAlike}
 use Rattle.cif_inst_bodies.specs.Constancy.{HasConstantNames}
 use Rattle.cif_inst_bodies.proofs.Alike.{written, root-written, found-same, names-alike}
 use Rattle.cif_inst_bodies.proofs.Bodies.{IsWritten, Good, found-good}
-use Rattle.cif_inst_bodies.proofs.Values.{value-agrees}
+use Rattle.cif_source.proofs.Values.{value-agrees}
 
 -- ---- constant expressions of a component
 

@@ -2,7 +2,6 @@ pub mod Alike
 pub mod Entries
 pub mod Bodies
 pub mod KindLaws
-pub mod Values
 pub mod Constants
 pub mod DemandLaws
 pub mod UseLaws
