@@ -1,37 +1,11 @@
--- Elements of lists, and the first that tells something.
-use Rattle.std.proofs.Common.{◌≡◌, ℕ, suc, ◌⊎◌, inl, inr, List, [], ◌∷◌, refl, sym, ap, ◌∙◌, subst, Option, Some, None, arith}
-use Rattle.std.specs.Prelude.{slice_get, filter_map}
+-- The first element of a list that tells something.
+use Rattle.std.proofs.Common.{◌≡◌, ◌⊎◌, inl, inr, List, [], ◌∷◌, refl, sym, ap, ◌∙◌, Option, Some, None}
+use Rattle.std.specs.Prelude.{filter_map}
 use Rattle.std.specs.Option.{option_or}
-use Rattle.std.specs.List.{Any, Contains, cons_option}
+use Rattle.std.specs.List.{cons_option}
 use Rattle.cif_system.specs.Words.{Member}
 use Rattle.cif_system.proofs.Lists.{some-same, none-some}
-use Rattle.cif_system.proofs.Picks.{at-member}
-use Rattle.cif_scope.proofs.IndexLaws.{any-of, of-any}
 use Rattle.cif_types_equations.specs.Counts.{first_some}
-
-member-at : {A : Type 0} (x : A) (xs : List A) → Member x xs → (k : ℕ) × (slice_get xs k ≡ Some x)
-member-at x [] m = absurd m
-member-at x (y ∷ xs) m = elim m [
-  | inl w ↦ (0, ap Some (sym w))
-  | inr w ↦ let rest = member-at x xs w in (suc rest.0, rest.1)
-]
-
-pub from-any : {A : Type 0} (P : A → Type 0) (xs : List A) → Any P xs → (x : A) × Member x xs × P x
-from-any P xs h = let w = of-any P xs h in (w.1, at-member xs w.0 w.1 w.2, w.3)
-
-pub to-any : {A : Type 0} (P : A → Type 0) (x : A) (xs : List A) → Member x xs → P x → Any P xs
-to-any P x xs m p = let w = member-at x xs m in any-of P xs w.0 x w.1 p
-
-pub from-contains : {A : Type 0} (xs : List A) (x : A) → Contains xs x → Member x xs
-from-contains xs x h = let w = of-any (λ y. y ≡ x) xs (h.0, x, h.1, h.2, refl) in subst (λ y. Member y xs) w.3 (at-member xs w.0 w.1 w.2)
-
-pub to-contains : {A : Type 0} (xs : List A) (x : A) → Member x xs → Contains xs x
-to-contains [] x m = absurd m
-to-contains (y ∷ ys) x m =
-    elim m [
-      | inl w ↦ (0, omega arith, sym w)
-      | inr w ↦ let rest = to-contains ys x w in (suc rest.0, omega (arith, rest.1), rest.2)
-    ]
 
 later-told : {F : Type 0} (o p : Option F) (e : F) → option_or o p ≡ Some e → (o ≡ Some e) ⊎ (p ≡ Some e)
 later-told None p e h = inr h

@@ -23,7 +23,8 @@ use Rattle.cif_types_equations.specs.Counts.{value_count, unless_one, first_some
 use Rattle.cif_types_equations.specs.Faults.{body_tallied, told, alg_fault, decl_fault, body_fault, fault_in, due}
 use Rattle.cif_types_equations.proofs.TallyLaws.{decls-tallied, locations-tallied, placed_from}
 use Rattle.cif_types_equations.proofs.CountLaws.{other-is}
-use Rattle.cif_types_equations.proofs.ElementLaws.{from-any, to-any, from-contains, to-contains, later-nothing, first-told, first-none, from-kept, to-kept}
+use Rattle.cif_source.proofs.Elements.{from-any, to-any, from-contains, to-contains}
+use Rattle.cif_types_equations.proofs.ElementLaws.{later-nothing, first-told, first-none, from-kept, to-kept}
 
 -- ---- one variable
 

@@ -19,7 +19,8 @@ use Rattle.cif_scope.specs.declared.scopes.Scopes.{Scopes}
 use Rattle.cif_scope.specs.Tables.{IsBody}
 use Rattle.cif_scope.specs.Scopes.{IsEntry, AreScopesOf}
 use Rattle.cif_scope.proofs.LookLaws.{get-map}
-use Rattle.cif_types_targets.proofs.Elements.{to-any, place-single}
+use Rattle.cif_source.proofs.Elements.{to-any}
+use Rattle.cif_types_targets.proofs.Elements.{place-single}
 use Rattle.cif_types_targets.proofs.UseLaws.{assigned_use, body_targets, target-used}
 use Rattle.cif_types_targets.proofs.PathLaws.{texts}
 use Rattle.cif_types_targets.proofs.NameLaws.{scope-single}

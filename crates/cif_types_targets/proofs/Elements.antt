@@ -1,34 +1,10 @@
--- Elements of lists by their places.
+-- Elements of lists by their places, and the order of the places.
 use Rattle.std.proofs.Common.{◌≡◌, ℕ, zero, suc, ◌<◌, inl, inr, List, [], ◌∷◌, refl, sym, ap, subst, Some, arith}
 use Rattle.std.specs.Prelude.{slice_get}
-use Rattle.std.specs.List.{Any, Contains}
 use Rattle.cif_system.specs.Words.{Member, AreDistinct, Before}
 use Rattle.cif_system.proofs.Lists.{some-same, none-some}
 use Rattle.cif_system.proofs.Picks.{at-member}
-use Rattle.cif_scope.proofs.IndexLaws.{any-of, of-any}
-
-pub member-at : {A : Type 0} (x : A) (xs : List A) → Member x xs → (k : ℕ) × (slice_get xs k ≡ Some x)
-member-at x [] m = absurd m
-member-at x (y ∷ xs) m = elim m [
-  | inl w ↦ (0, ap Some (sym w))
-  | inr w ↦ let rest = member-at x xs w in (suc rest.0, rest.1)
-]
-
-pub from-any : {A : Type 0} (P : A → Type 0) (xs : List A) → Any P xs → (x : A) × Member x xs × P x
-from-any P xs h = let w = of-any P xs h in (w.1, at-member xs w.0 w.1 w.2, w.3)
-
-pub to-any : {A : Type 0} (P : A → Type 0) (x : A) (xs : List A) → Member x xs → P x → Any P xs
-to-any P x xs m p = let w = member-at x xs m in any-of P xs w.0 x w.1 p
-
-pub from-contains : {A : Type 0} (xs : List A) (x : A) → Contains xs x → Member x xs
-from-contains xs x h = let w = of-any (λ y. y ≡ x) xs (h.0, x, h.1, h.2, refl) in subst (λ y. Member y xs) w.3 (at-member xs w.0 w.1 w.2)
-
-pub to-contains : {A : Type 0} (xs : List A) (x : A) → Member x xs → Contains xs x
-to-contains [] x m = absurd m
-to-contains (y ∷ xs) x m = elim m [
-  | inl w ↦ (0, omega arith, sym w)
-  | inr w ↦ let rest = to-contains xs x w in (suc rest.0, omega (arith, rest.1), rest.2)
-]
+use Rattle.cif_source.proofs.Elements.{member-at}
 
 -- what stands at two places, the first before the second
 pub record AtPlaces {A : Type 0} (x y : A) (xs : List A) : Type 0 where

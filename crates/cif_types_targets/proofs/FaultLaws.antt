@@ -24,7 +24,8 @@ use Rattle.cif_types_targets.specs.declared.error.TargetErr.{TargetErr}
 use Rattle.cif_types_targets.specs.declared.error.TargetErr.TheVariants.{NotOwn, AssignedTwice, Memory}
 use Rattle.cif_types_targets.specs.Assigned.{AssignedName, numbered, assigned_by, location_lists, body_lists}
 use Rattle.cif_types_targets.specs.Faults.{own_slot, list_fault, lists_fault, body_fault, faults_from, due}
-use Rattle.cif_types_targets.proofs.Elements.{from-any, to-any, from-contains, to-contains, places-before, before-places}
+use Rattle.cif_source.proofs.Elements.{from-any, to-any, from-contains, to-contains}
+use Rattle.cif_types_targets.proofs.Elements.{places-before, before-places}
 use Rattle.cif_types_targets.proofs.ListLaws.{or-none, or-told, Fits, all-fit, pairs, Twice, Strays, Breaks, told}
 use Rattle.cif_types_targets.proofs.NumberLaws.{assigned-in, in-assigned, assigned-rising, assigned-among, among-assigned}
 use Rattle.cif_types_targets.proofs.UseLaws.{body_targets, list-targets}

@@ -22,7 +22,8 @@ use Rattle.cif_scope.proofs.LookLaws.{Agrees, beside-texts, get-map}
 use Rattle.cif_scope.proofs.WrittenLaws.{written, looked-written}
 use Rattle.cif_scope.proofs.FindLaws.{written-is}
 use Rattle.cif_types_targets.specs.Faults.{own_at, own_slot}
-use Rattle.cif_types_targets.proofs.Elements.{member-at, place-single}
+use Rattle.cif_source.proofs.Elements.{member-at}
+use Rattle.cif_types_targets.proofs.Elements.{place-single}
 use Rattle.cif_types_targets.proofs.MarkLaws.{number-same, number-self}
 use Rattle.cif_types_targets.proofs.PathLaws.{texts, distinct-right, IsSingle, paths-distinct}
 
