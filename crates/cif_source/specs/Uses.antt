@@ -1,5 +1,5 @@
 -- The names that a body writes, each with the sort that its position asks for (CIF 3 language reference, "Scoping").
-use Rattle.std.specs.Prelude.{Bool, true, false, List, [], ◌∷◌, ◌++◌, map, flat_map, filter_map, Option, unwrap_or}
+use Rattle.std.specs.Prelude.{Bool, true, false, List, [], ◌∷◌, ◌++◌, map, flat_map, filter_map, Option, Some, None, unwrap_or}
 use Rattle.std.specs.Option.{option_map, option_to_list}
 use Rattle.cif_ast.specs.Tree.{Tree, node, Shape, truth, number, named, received, paren, negative, positive, negation, absolute, least, greatest, sum, product, comparison, all_of, any_of, implication, equivalence, choice, Trees, no_trees, trees, Terms, no_terms, terms, Factors, no_factors, factors, Branches, no_branches, branches, UpdateTree, assignment, selection, UpdateTrees, no_updates, updates, UpdateBranches, no_update_branches, update_branches}
 use Rattle.cif_ast.specs.declared.names.Ident.{Ident}
@@ -8,6 +8,33 @@ use Rattle.cif_source.specs.Source.{TypeTree, bool_type, int_type, range_type, n
 use Rattle.cif_source.specs.Components.{Component, body_of, params_of, Entry, declared, literal, location, definition, parameter}
 use Rattle.cif_source.specs.Objects.{decls_of, locs_of}
 use Rattle.cif_source.specs.Lookup.{Reached, reached, missing, in_scope, found, looked_up, inside_written, definition_found}
+
+-- ---- a bare name
+
+abbrev pub bare_shape : Shape → Option Name
+bare_shape (truth b) = None
+bare_shape (number z) = None
+bare_shape (named nm) = Some nm
+bare_shape received = None
+bare_shape (paren e) = None
+bare_shape (negative e) = None
+bare_shape (positive e) = None
+bare_shape (negation e) = None
+bare_shape (absolute e) = None
+bare_shape (least a b) = None
+bare_shape (greatest a b) = None
+bare_shape (sum e es) = None
+bare_shape (product e es) = None
+bare_shape (comparison a op b) = None
+bare_shape (all_of es) = None
+bare_shape (any_of es) = None
+bare_shape (implication a b) = None
+bare_shape (equivalence a b) = None
+bare_shape (choice bs e) = None
+
+-- the name that an expression is, where it is nothing else
+abbrev pub bare_name : Tree → Option Name
+bare_name (node form at) = bare_shape form
 
 -- ---- in expressions
 
