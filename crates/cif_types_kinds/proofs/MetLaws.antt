@@ -1,13 +1,14 @@
 -- An answer to a list of demands, put together from answers to its parts.
-use Rattle.std.proofs.Common.{◌≡◌, ℕ, suc, Bool, true, false, ◌&&◌, ◌⊎◌, inl, inr, List, [], ◌∷◌, ◌++◌, Option, Some, None, refl, sym, ap, subst, ◌∙◌, arith}
+use Rattle.std.proofs.Common.{◌≡◌, ℕ, Bool, true, false, ◌&&◌, ◌⊎◌, inl, inr, List, [], ◌∷◌, ◌++◌, Option, Some, None, refl, sym, ap, subst, ◌∙◌}
 use Rattle.std.specs.Prelude.{Result, Ok, Err}
-use Rattle.std.specs.List.{Any, list_all}
+use Rattle.std.specs.List.{list_all}
 use Rattle.cif_system.specs.Words.{Member}
 use Rattle.cif_system.proofs.Lists.{some-same, none-some}
 use Rattle.cif_system.proofs.Picks.{and-left, and-right, append-left, append-right}
 use Rattle.cif_source.specs.Source.{tree_at}
 use Rattle.cif_source.specs.Components.{Component}
 use Rattle.cif_source.proofs.ComponentLaws.{append-cases}
+use Rattle.cif_source.proofs.Elements.{to-any}
 use Rattle.cif_source.specs.Kinds.{Demand}
 use Rattle.cif_types_kinds.specs.Met.{is_met, AreMet, Checks}
 use Rattle.cif_types_kinds.specs.Faults.{unless, or_later, Tells}
@@ -15,14 +16,6 @@ use Rattle.cif_types_kinds.specs.declared.error.KindErr.{KindErr}
 use Rattle.cif_types_kinds.specs.declared.error.KindErr.TheVariants.{Mismatch, Memory}
 
 -- ---- elements
-
-pub to-any : {A : Type 0} (P : A → Type 0) (x : A) (xs : List A) → Member x xs → P x → Any P xs
-to-any P x [] m p = absurd m
-to-any P x (y ∷ ys) m p =
-    elim m [
-      | inl w ↦ (0, x, omega arith, sym w, p)
-      | inr w ↦ let rest = to-any P x ys w p in (suc rest.0, rest.1, omega (arith, rest.2), rest.3, rest.4)
-    ]
 
 both-true : (a b : Bool) → a ≡ true → b ≡ true → (a && b) ≡ true
 both-true a b h g = ap (λ x. x && b) h ∙ g

@@ -1,7 +1,6 @@
 -- What is told of the uses of events tells of one that does not fit.
-use Rattle.std.proofs.Common.{◌≡◌, ℕ, zero, suc, ◌<◌, Bool, true, false, inl, inr, List, [], ◌∷◌, length, Option, Some, None, refl, sym, ap, subst, ◌∙◌, arith}
-use Rattle.std.specs.Prelude.{flat_map, not, IsTrue, slice_index_or, Result, Ok, Err}
-use Rattle.std.specs.List.{Any}
+use Rattle.std.proofs.Common.{◌≡◌, ℕ, Bool, true, false, inl, inr, List, [], ◌∷◌, Option, Some, None, refl, sym, ap, subst, ◌∙◌}
+use Rattle.std.specs.Prelude.{flat_map, not, IsTrue, Result, Ok, Err}
 use Rattle.cif_system.specs.Words.{Member}
 use Rattle.cif_system.proofs.Lists.{some-same, none-some, false-true}
 use Rattle.cif_source.specs.Source.{UseTree, EdgeTree, LocationTree, SourceBody, group_body, automaton_body}
@@ -17,18 +16,10 @@ use Rattle.cif_types_kinds.specs.Readings.{IsWrittenIn, component_in}
 use Rattle.cif_types_kinds.specs.Faults.{unless, or_later, Tells}
 use Rattle.cif_types_kinds.specs.Values.{first_told}
 use Rattle.cif_types_kinds.specs.Uses.{unfit_told, edge_unfit_told, location_unfit_told, inside_unfit_told, ChecksUses}
-use Rattle.cif_types_kinds.proofs.MetLaws.{to-any}
+use Rattle.cif_source.proofs.Elements.{from-any, to-any}
 use Rattle.cif_types_kinds.proofs.ValueLaws.{first-flat}
 
 -- ---- the first that is told
-
-from-any : {A : Type 0} (P : A → Type 0) (xs : List A) → Any P xs → (x : A) × Member x xs × P x
-from-any P xs a = (a.1, at xs a.0 a.1 a.2 a.3, a.4)
-  where
-    at : {A : Type 0} (xs : List A) (k : ℕ) (x : A) → k < length xs → slice_index_or xs k x ≡ x → Member x xs
-    at [] k x lt is = absurd (omega (arith, lt))
-    at (y ∷ ys) zero x lt is = inl (sym is)
-    at (y ∷ ys) (suc k) x lt is = inr (at ys k x (omega (arith, lt)) is)
 
 abbrev Told : {A : Type 0} → (A → Option ℕ) → List A → ℕ → Type 0
 Told {A = A} f xs at = (x : A) × Member x xs × (f x ≡ Some at)
