@@ -35,7 +35,8 @@ use Rattle.cif_types_kinds.specs.Values.{first_told}
 use Rattle.cif_types_kinds.proofs.NameLaws.{body-is}
 use Rattle.cif_types_kinds.proofs.ValueLaws.{first-append}
 use Rattle.cif_types_arguments.specs.Classes.{params_at}
-use Rattle.cif_types_arguments.specs.Arguments.{AreWrittenIn, bare_name, fits, fault_told, argument_told, arguments_told, instance_told, items_told, inside_told, ChecksArguments}
+use Rattle.cif_source.specs.Uses.{bare_name}
+use Rattle.cif_types_arguments.specs.Arguments.{AreWrittenIn, fits, fault_told, argument_told, arguments_told, instance_told, items_told, inside_told, ChecksArguments}
 use Rattle.cif_types_arguments.proofs.ClassLaws.{params-are}
 use Rattle.cif_types_arguments.proofs.FitLaws.{unfit-is}
 

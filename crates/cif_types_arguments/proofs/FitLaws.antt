@@ -10,7 +10,8 @@ use Rattle.cif_source.specs.Components.{Component, parameter}
 use Rattle.cif_source.specs.Lookup.{reached, found}
 use Rattle.cif_source.specs.Demands.{ChannelKind, same_channel, channel_kind, channel_at, event_channel, has_asked_class, is_unfit_for}
 use Rattle.cif_types_kinds.specs.Faults.{unless}
-use Rattle.cif_types_arguments.specs.Arguments.{bare_shape, bare_name, fits, fits_event, fault_told}
+use Rattle.cif_source.specs.Uses.{bare_shape, bare_name}
+use Rattle.cif_types_arguments.specs.Arguments.{fits, fits_event, fault_told}
 
 not-both : (a b : Bool) → (not a || not b) ≡ not (a && b)
 not-both true b = refl

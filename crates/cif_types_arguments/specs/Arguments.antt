@@ -1,11 +1,12 @@
 -- The first argument of an instance that does not fit its parameter.
 use Rattle.std.specs.Prelude.{◌≡◌, ℕ, ◌+◌, Bool, true, false, ◌&&◌, List, [], ◌∷◌, map, Option, Some, None, option_map, slice_get, Result, Ok, Err}
-use Rattle.cif_ast.specs.Tree.{Tree, node, Shape, truth, number, named, received, paren, negative, positive, negation, absolute, least, greatest, sum, product, comparison, all_of, any_of, implication, equivalence, choice}
+use Rattle.cif_ast.specs.Tree.{Tree}
 use Rattle.cif_ast.specs.declared.names.Name.{Name}
 use Rattle.cif_ast.specs.declared.declarations.Class.{Class}
 use Rattle.cif_source.specs.Source.{tree_at, ParamTree, event_param, alg_param, location_param, param_tree, InstanceTree, SourceItem, decl_item, component_item, definition_item, instance_item, SourceBody, group_body, automaton_body, Source, no_source, source}
 use Rattle.cif_source.specs.Components.{Component}
 use Rattle.cif_source.specs.Lookup.{found}
+use Rattle.cif_source.specs.Uses.{bare_name}
 use Rattle.cif_source.specs.Demands.{ChannelKind, same_channel, event_channel, has_asked_class}
 use Rattle.cif_source.specs.BodyRules.{BadArgument}
 use Rattle.cif_scope.specs.declared.scopes.Scopes.{Scopes}
@@ -27,31 +28,6 @@ abbrev pub AreWrittenIn : Reading → List Written → Type 0
 AreWrittenIn r all = map body_of_written all ≡ written_bodies (source_for r)
 
 -- ---- one argument
-
-abbrev pub bare_shape : Shape → Option Name
-bare_shape (truth b) = None
-bare_shape (number z) = None
-bare_shape (named nm) = Some nm
-bare_shape received = None
-bare_shape (paren e) = None
-bare_shape (negative e) = None
-bare_shape (positive e) = None
-bare_shape (negation e) = None
-bare_shape (absolute e) = None
-bare_shape (least a b) = None
-bare_shape (greatest a b) = None
-bare_shape (sum e es) = None
-bare_shape (product e es) = None
-bare_shape (comparison a op b) = None
-bare_shape (all_of es) = None
-bare_shape (any_of es) = None
-bare_shape (implication a b) = None
-bare_shape (equivalence a b) = None
-bare_shape (choice bs e) = None
-
--- the name that an expression is, where it is nothing else
-abbrev pub bare_name : Tree → Option Name
-bare_name (node form at) = bare_shape form
 
 -- the name finds an event with the channel h and the class k, where one is asked
 abbrev pub fits_event : Component → ChannelKind → Class → Name → Bool

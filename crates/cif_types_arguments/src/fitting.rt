@@ -5,6 +5,7 @@ ghost use Rattle.std.specs.Option.{option_copied};
 ghost use Rattle.cif_ast.specs.View.{view};
 ghost use Rattle.cif_source.specs.Source.{param_tree};
 ghost use Rattle.cif_source.specs.Demands.{same_channel};
+ghost use Rattle.cif_source.specs.Uses as uses;
 ghost use Rattle.cif_system.specs.Words.{AreDistinct};
 ghost use Rattle.cif_types_kinds.specs.Tables.{channel_for};
 ghost use Rattle.cif_types_kinds.specs.Readings.{IsReading, component_in, lists_in};
@@ -19,7 +20,7 @@ use std::alloc::Global;
 
 /// The name that an expression is, where it is nothing else.
 fn bare_name(value: &Expr) -> Option<&Name>
-    ensures { option_copied result ≡ arguments.bare_name (view value.now) }
+    ensures { option_copied result ≡ uses.bare_name (view value.now) }
 {
     match &value.form {
         Form::Named(name) => Some(name),
@@ -72,7 +73,7 @@ pub fn fits(
 ) -> Result<bool, Memory>
     requires reading { IsReading reading.now }
     requires all { arguments.AreWrittenIn reading.now all.now }
-    ensures { IfOk result (λ b. b ≡ arguments.fits (component_in reading.now) (channel_for (lists_in reading.now) channel) (param_tree param.now) (arguments.bare_name (view value.now))) }
+    ensures { IfOk result (λ b. b ≡ arguments.fits (component_in reading.now) (channel_for (lists_in reading.now) channel) (param_tree param.now) (uses.bare_name (view value.now))) }
 {
     match param {
         Param::Event { class, .. } => match bare_name(value) {
