@@ -1,5 +1,5 @@
 -- Components stand after those in which they stand, and are found by their places.
-use Rattle.std.proofs.Common.{◌≡◌, ℕ, zero, suc, ◌<◌, ◌≤◌, true, false, cond, ◌⊎◌, inl, inr, List, [], ◌∷◌, length, refl, sym, ◌∙◌, ap, subst, arith, nat_eq, Option, Some, None}
+use Rattle.std.proofs.Common.{◌≡◌, ℕ, zero, suc, ◌<◌, ◌≤◌, true, false, cond, inl, inr, List, [], ◌∷◌, length, refl, sym, ◌∙◌, ap, subst, arith, nat_eq, Option, Some, None}
 use Rattle.std.specs.Prelude.{slice_get, filter_map, option_map, ◌&&◌, nat_le}
 use Rattle.std.specs.List.{cons_option}
 use Rattle.cif_ast.specs.declared.names.Ident.{Ident}
@@ -10,8 +10,9 @@ use Rattle.cif_source.specs.Source.{InstanceTree, SourceBody, Source}
 use Rattle.cif_source.specs.Components.{Component, whole, part, blank, copy, stands_in, scope_of, Entry, declared, literal, location, inner, definition, instance, parameter}
 use Rattle.cif_source.specs.Lookup.{Reached, reached, missing, blocked, opened_at, opened, definition_found}
 use Rattle.cif_source.specs.Objects.{components_below, components_of, children, most_objects}
-use Rattle.cif_source.proofs.ComponentLaws.{components-follow, components-closed, children-parent, flat-cases}
-use Rattle.cif_source.proofs.ReachLaws.{children-cases}
+use Rattle.cif_source.proofs.ComponentLaws.{components-follow, components-closed, children-parent}
+use Rattle.cif_source.proofs.ReachLaws.{children-cases, below-parent}
+use Rattle.cif_source.proofs.Elements.{member-at}
 use Rattle.cif_scope.specs.declared.scopes.Scopes.{Scopes}
 use Rattle.cif_scope.specs.Tables.{Beside}
 use Rattle.cif_scope.specs.Scopes.{AreScopesOf, IsEntry}
@@ -26,10 +27,6 @@ use Rattle.cif_inst_components.proofs.FindSingle.{texts, scope-distinct, number-
 use Rattle.cif_inst_components.proofs.FindEntries.{is_standing, slot-single, entry-same, entry-stands}
 
 -- ---- lists
-
-pub member-at : {A : Type 0} (x : A) (xs : List A) → Member x xs → (k : ℕ) × (slice_get xs k ≡ Some x)
-member-at x [] m = absurd m
-member-at x (y ∷ xs) m = elim m [ inl w ↦ (0, ap Some (sym w)) | inr w ↦ let rest = member-at x xs w in (suc rest.0, rest.1) ]
 
 before-at : {A : Type 0} (x y : A) (xs : List A) → Before x y xs → (j : ℕ) × (k : ℕ) × (j < k) × (slice_get xs j ≡ Some x) × (slice_get xs k ≡ Some y)
 before-at x y [] b = absurd b
@@ -98,17 +95,6 @@ inner-standing (part p m e) c n b h =
 inner-standing (blank p m ps e) c n b h = absurd (none-some (c, inner n b) h)
 inner-standing (copy o m ps e g i) c n b h = let same : instance i ≡ inner n b = ap (λ (x : Component × Entry). x.1) (some-same (g, instance i) (c, inner n b) h) in cc
 
--- a component of the list is the specification, or stands in one of the list
-below-parent : (n : ℕ) (c d : Component) → Member d (components_below n c) → (d ≡ c) ⊎ ((p : Component) × Member d (children p))
-below-parent zero c d m = elim m [ inl w ↦ inl w | inr w ↦ absurd w ]
-below-parent (suc n) c d m =
-    elim m [
-      | inl w ↦ inl w
-      | inr w ↦
-          let y = flat-cases n d (children c) w in
-          elim (below-parent n y.0 d y.2) [ inl v ↦ inr (c, subst (λ z. Member z (children c)) (sym v) y.1) | inr v ↦ inr v ]
-    ]
-
 child-opened : (p d c : Component) (i : InstanceTree) → Member d (children p) → standing_of d ≡ Some (c, instance i) → opened c i ≡ Some d
 child-opened p d c i m h =
     let same : p ≡ c = some-same p c (sym (children-parent p d m) ∙ standing-parent d c (instance i) h) in
@@ -124,7 +110,7 @@ pub listed-opened : (t : Source) (d c : Component) (i : InstanceTree) → Member
 listed-opened t d c i m h =
     elim (below-parent most_objects (whole t) d m) [
       | inl w ↦ absurd (none-some (c, instance i) (ap standing_of (sym w) ∙ h))
-      | inr w ↦ child-opened w.0 d c i w.1 h
+      | inr w ↦ child-opened w.0 d c i w.2 h
     ]
 
 -- ---- places in a list of rows that all stand somewhere

@@ -5,10 +5,11 @@ use Rattle.cif_ast.specs.declared.names.Ident.{Ident}
 use Rattle.cif_ast.specs.declared.names.Name.{Name}
 use Rattle.cif_system.proofs.Lists.{some-same, none-some, slice_get-below}
 use Rattle.cif_source.specs.Source.{ParamTree, InstanceTree, SourceBody, SourceItem, decl_item, component_item, definition_item, instance_item, Source}
-use Rattle.cif_source.specs.Components.{Component, whole, part, blank, copy, as_written, body_of, Entry, declared, literal, location, inner, definition, instance, parameter}
-use Rattle.cif_source.specs.Lookup.{Reached, reached, missing, blocked, opened_at, definition_found}
+use Rattle.cif_source.specs.Components.{Component, whole, part, blank, copy, as_written, body_of, Entry, inner, definition, instance}
+use Rattle.cif_source.specs.Lookup.{reached, definition_found}
 use Rattle.cif_source.specs.Objects.{components_of, bodies, items_in, most_objects}
 use Rattle.cif_source.specs.Scoping.{as_instance, instances_of}
+use Rattle.cif_source.proofs.ReachLaws.{opened-found}
 use Rattle.cif_scope.specs.declared.scope.What.{What}
 use Rattle.cif_scope.specs.declared.scopes.Scopes.{Scopes}
 use Rattle.cif_scope.specs.Looks as looks
@@ -63,22 +64,6 @@ definition-name t k r c i own h =
     ap (λ o. and_then o (λ (of_body : List Name). slice_get of_body r)) (get-map definition_names (written_bodies t) k w.0 w.1)
     ∙ subst (λ b. slice_get (names_inside b) r ≡ Some i.def) w.2.1 (names-at (items_in (body_of c)) r i h)
 
--- an instance that opens was found at its outer component
-opened-outer : (c : Component) (i : InstanceTree) (r : Reached) (o g : Component) (n : Ident) (ps : List ParamTree) (b : SourceBody) (j : InstanceTree) → opened_at c i r ≡ Some (copy o n ps b g j) → r ≡ reached (o, definition n ps b)
-opened-outer c i missing o g n ps b j h = absurd (none-some _ h)
-opened-outer c i blocked o g n ps b j h = absurd (none-some _ h)
-opened-outer c i (reached (d, declared x)) o g n ps b j h = absurd (none-some _ h)
-opened-outer c i (reached (d, literal k ls)) o g n ps b j h = absurd (none-some _ h)
-opened-outer c i (reached (d, location k)) o g n ps b j h = absurd (none-some _ h)
-opened-outer c i (reached (d, inner m e)) o g n ps b j h = absurd (none-some _ h)
-opened-outer c i (reached (d, instance k)) o g n ps b j h = absurd (none-some _ h)
-opened-outer c i (reached (d, parameter k p)) o g n ps b j h = absurd (none-some _ h)
-opened-outer c i (reached (d, definition m qs e)) o g n ps b j h = ap (back m qs e) (some-same (copy d m qs e c i) (copy o n ps b g j) h)
-  where
-    back : Ident → List ParamTree → SourceBody → Component → Reached
-    back m qs e (copy o n ps b g i) = reached (o, definition n ps b)
-    back m qs e _ = missing
-
 module _ (t : Source) (s : Scopes) (are : AreScopesOf t s) (few : length (components_of t) ≤ most_objects) (all : List Row) (rows : Beside (IsComponent t) (components_of t) all) where
   abbrev names : List (List Name)
   names = map definition_names (written_bodies t)
@@ -112,7 +97,7 @@ module _ (t : Source) (s : Scopes) (are : AreScopesOf t s) (few : length (compon
         → Leads t m (reached (o, definition n ps b)) (look (finder_of t s are few all rows done) false j i.def)
     giver-leads j o g n ps b i own less num =
         let found : definition_found g i ≡ reached (o, definition n ps b) =
-        opened-outer g i (definition_found g i) o g n ps b i (listed-opened t (copy o n ps b g i) g i (listed t s are few all rows m (copy o n ps b g i) own) refl) in
+        opened-found g i (definition_found g i) o g n ps b i (listed-opened t (copy o n ps b g i) g i (listed t s are few all rows m (copy o n ps b g i) own) refl) in
         subst (λ r. Leads t m r (look (finder_of t s are few all rows done) false j i.def)) found
         (written-is t s are few all rows done m before.right (λ k l. let e : length done ≡ m = before.size in past-end done k (omega arith)) g j i.def num (before.early j g less num))
 
