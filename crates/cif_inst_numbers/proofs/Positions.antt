@@ -9,6 +9,7 @@ use Rattle.cif_system.proofs.Lists.{some-same, none-some}
 use Rattle.cif_source.specs.Source.{Text, DeclTree}
 use Rattle.cif_source.specs.Components.{Component, Path, path_of, same_path}
 use Rattle.cif_source.specs.Objects.{decls_of, declares, is_declared, Declared}
+use Rattle.cif_inst_model.proofs.NumberLaws.{kept-own, sort-kept}
 use Rattle.cif_inst_model.proofs.PathLaws.{path-told}
 use Rattle.cif_inst_numbers.proofs.Ranks.{false-otherwise}
 
@@ -37,23 +38,8 @@ module _ (sort : DeclTree → Bool) where
   abbrev tagged : Component → List DeclTree → List Declared
   tagged c ds = map (λ d. (c, d)) ds
 
-  kept-own : (c : Component) (ds : List DeclTree) → filter (λ (d : Declared). sort d.1) (map (λ d. (c, d)) ds) ≡ map (λ d. (c, d)) (filter sort ds)
-  kept-own c [] = refl
-  kept-own c (d ∷ ds) =
-      elim (sort d) as (λ b. cond b ((c, d) ∷ filter (λ (x : Declared). sort x.1) (map (λ x. (c, x)) ds)) (filter (λ (x : Declared). sort x.1) (map (λ x. (c, x)) ds)) ≡ map (λ x. (c, x)) (cond b (d ∷ filter sort ds) (filter sort ds))) [
-        | true ↦ ap (λ xs. (c, d) ∷ xs) (kept-own c ds)
-        | false ↦ kept-own c ds
-      ]
-
   abbrev all_declared : List Component → List Declared
   all_declared cs = flat_map (λ c. map (λ d. (c, d)) (decls_of c)) cs
-
-  kept-all : (cs : List Component) → filter (λ (d : Declared). sort d.1) (all_declared cs) ≡ flat_map own cs
-  kept-all [] = refl
-  kept-all (c ∷ cs) =
-      filter-append (λ (d : Declared). sort d.1) (map (λ d. (c, d)) (decls_of c)) (all_declared cs)
-      ∙ ap (λ xs. xs ++ filter (λ (d : Declared). sort d.1) (all_declared cs)) (kept-own c (decls_of c))
-      ∙ ap (λ xs. own c ++ xs) (kept-all cs)
 
   -- how many these components declare
   abbrev pub declared_count : List Component → ℕ
@@ -71,7 +57,7 @@ module _ (sort : DeclTree → Bool) where
   count-kept (c ∷ cs) =
       ap length (filter-append (λ (d : Declared). sort d.1) (tagged c (decls_of c)) (all_declared cs))
       ∙ length-append (filter (λ (d : Declared). sort d.1) (tagged c (decls_of c))) (filter (λ (d : Declared). sort d.1) (all_declared cs))
-      ∙ omega (arith, ap length (kept-own c (decls_of c)), long (filter sort (decls_of c)), count-kept cs, count-cons c cs)
+      ∙ omega (arith, ap length (kept-own sort c (decls_of c)), long (filter sort (decls_of c)), count-kept cs, count-cons c cs)
     where
       long : (ds : List DeclTree) → length (tagged c ds) ≡ length ds
       long [] = refl
@@ -119,7 +105,7 @@ module _ (sort : DeclTree → Bool) where
 
   pub stands-at : (cs : List Component) (k : ℕ) (d : Component) (x : Text) (r : ℕ) → StandsAlone cs k d → slice_get cs k ≡ Some d → position_or_len (declares x) (filter sort (decls_of d)) ≡ r
       → r < length (filter sort (decls_of d)) → position_or_len (is_declared d x) (filter (λ (y : Declared). sort y.1) (all_declared cs)) ≡ declared_count (take k cs) + r
-  stands-at cs k d x r alone at here within = ap (position_or_len (is_declared d x)) (kept-all cs) ∙ across cs k d x r alone at here within
+  stands-at cs k d x r alone at here within = ap (position_or_len (is_declared d x)) (sort-kept sort cs) ∙ across cs k d x r alone at here within
 
 -- ---- components that pass a test, such as automata
 
