@@ -1,13 +1,13 @@
 -- A parameter that a name finds belongs to an instance that stands no later than the component in which the name is.
-use Rattle.std.proofs.Common.{◌≡◌, ℕ, zero, suc, ◌<◌, ◌≤◌, Bool, true, false, List, [], ◌∷◌, refl, sym, ◌∙◌, ap, subst, arith}
+use Rattle.std.proofs.Common.{◌≡◌, ℕ, zero, suc, ◌<◌, ◌≤◌, Bool, true, false, List, [], ◌∷◌, refl, sym, ◌∙◌, subst, arith}
 use Rattle.cif_ast.specs.declared.names.Ident.{Ident}
 use Rattle.cif_ast.specs.declared.names.Name.{Name}
 use Rattle.cif_system.proofs.Lists.{false-true}
 use Rattle.cif_source.specs.Source.{Text, ParamTree, InstanceTree, SourceBody, Source}
 use Rattle.cif_source.specs.Components.{Component, whole, part, blank, copy, specification_of, declared, literal, location, inner, definition, instance, parameter}
-use Rattle.cif_source.specs.Lookup.{ScopeEntry, Reached, reached, missing, blocked, in_scope, in_body, go_on, or_outward, outward, looked_up, inside_written, passed, inside, found}
-use Rattle.cif_source.proofs.ReachLaws.{in_scope-in, in_body-in}
-use Rattle.cif_source.proofs.NameLaws.{is_parameter, passed-own}
+use Rattle.cif_source.specs.Lookup.{ScopeEntry, Reached, reached, missing, blocked, in_scope, in_body, go_on, or_outward, outward, looked_up, inside_written, inside, found}
+use Rattle.cif_source.proofs.ReachLaws.{in_scope-in, in_body-in, reached-same}
+use Rattle.cif_source.proofs.NameLaws.{is_parameter, inside-own}
 use Rattle.cif_scope.specs.declared.scopes.Scopes.{Scopes}
 use Rattle.cif_scope.specs.Scopes.{AreScopesOf}
 use Rattle.cif_inst_components.specs.declared.components.Components.{Components}
@@ -15,28 +15,6 @@ use Rattle.cif_inst_components.specs.Numbers.{IsNumber, AreComponentsOf}
 use Rattle.cif_inst_components.proofs.FindChildren.{row-for, single, listed, stands-before}
 use Rattle.cif_inst_components.proofs.FindLaws.{Early, early-more}
 use Rattle.cif_inst_bodies.proofs.ArgumentLaws.{given-by}
-
-reached-same : (x y : ScopeEntry) → reached x ≡ reached y → x ≡ y
-reached-same x y h = ap (back x) h
-  where
-    back : ScopeEntry → Reached → ScopeEntry
-    back d (reached z) = z
-    back d _ = d
-
--- past its first part a name leads to no parameter
-inside-own : (x : ScopeEntry) (p : Ident) (ps : List Ident) (y : ScopeEntry) → inside x (p ∷ ps) ≡ reached y → is_parameter y.1 ≡ false
-inside-own x p [] y h =
-    (elim (passed x p.text) as (λ r. passed x p.text ≡ r → go_on (λ z. inside z []) r ≡ reached y → is_parameter y.1 ≡ false) [
-      | reached z ↦ λ i g. subst (λ (w : ScopeEntry). is_parameter w.1 ≡ false) (reached-same z y g) (passed-own x p.text z i)
-      | missing ↦ λ i g. cc
-      | blocked ↦ λ i g. cc
-    ]) refl h
-inside-own x p (q ∷ ps) y h =
-    (elim (passed x p.text) as (λ r. go_on (λ z. inside z (q ∷ ps)) r ≡ reached y → is_parameter y.1 ≡ false) [
-      | reached z ↦ λ g. inside-own z q ps y g
-      | missing ↦ λ g. cc
-      | blocked ↦ λ g. cc
-    ]) h
 
 module _ (t : Source) (m : ℕ) where
   in-early : (c : Component) (x : ScopeEntry) → Early t m c → x.0 ≡ c → Early t m x.0

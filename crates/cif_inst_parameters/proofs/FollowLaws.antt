@@ -16,7 +16,7 @@ use Rattle.cif_net_expr.specs.Tree.{NetExpr, net_expr, n_number}
 use Rattle.cif_source.specs.Source.{ChannelTree, TypeTree, event_decl, ParamTree, event_param, alg_param, location_param, InstanceTree, SourceBody, Source}
 use Rattle.cif_source.specs.Components.{Component, whole, part, blank, copy, body_of, params_of, body_entries, param_name, Entry, Entries, declared, literal, location, inner, definition, instance, parameter}
 use Rattle.cif_source.specs.Lookup.{ScopeEntry, Reached, reached, missing, blocked, found, by_argument, follow, Object, thing, given, denotes}
-use Rattle.cif_source.specs.Uses.{Asked, event_asked, location_asked, is_asked}
+use Rattle.cif_source.specs.Uses.{Asked, event_asked, location_asked, is_asked, bare_name}
 use Rattle.cif_source.proofs.NameLaws.{is_parameter, is_own, own-body, met, met_at-own, follow-met}
 use Rattle.cif_scope.specs.declared.scopes.Scopes.{Scopes}
 use Rattle.cif_scope.specs.Scopes.{AreScopesOf, IsEntry}
@@ -31,7 +31,7 @@ use Rattle.cif_inst_parameters.specs.declared.following.Follower.{Follower}
 use Rattle.cif_inst_parameters.specs.declared.given.Given.{Given}
 use Rattle.cif_inst_parameters.specs.declared.given.Given.TheVariants.{Named, Value}
 use Rattle.cif_inst_parameters.specs.Given.{given_items, is_event, is_location, IsNamed, placed_at, has_argument, IsValue, IsGiven}
-use Rattle.cif_inst_parameters.specs.Stripping.{stripped, parentheses_at, bare_name}
+use Rattle.cif_inst_parameters.specs.Stripping.{stripped, parentheses_at}
 use Rattle.cif_inst_parameters.specs.Passing.{and_then}
 use Rattle.cif_inst_parameters.specs.Following.{leads_to_parameter, FindsTarget, FindsBare, given_at, named_at, named_by, outermost, with_parentheses, valued_at, valued_by, followed_by, AreKnown, FollowsFrom}
 use Rattle.cif_inst_parameters.proofs.StripLaws.{placed-outermost, strip-net, strip-plain, bare-is}

@@ -8,7 +8,8 @@ use Rattle.cif_source.specs.Components.{Component}
 use Rattle.cif_source.specs.Lookup.{found}
 use Rattle.cif_system.proofs.Lists.{none-some}
 use Rattle.cif_inst_model.specs.Translation.{net_of}
-use Rattle.cif_inst_parameters.specs.Stripping.{stripped, parentheses_at, bare_name}
+use Rattle.cif_source.specs.Uses.{bare_name}
+use Rattle.cif_inst_parameters.specs.Stripping.{stripped, parentheses_at}
 use Rattle.cif_inst_parameters.specs.Following.{outermost}
 use Rattle.cif_inst_parameters.specs.Given.{placed_at, has_argument, IsPlain}
 

@@ -1,7 +1,6 @@
--- Helper of the code: parentheses round an expression, and bare names.
+-- Helper of the code: parentheses round an expression.
 use Rattle.std.specs.Prelude.{ℕ, Option, Some, None}
 use Rattle.cif_ast.specs.Tree.{Tree, node, Shape, truth, number, named, received, paren, negative, positive, negation, absolute, least, greatest, sum, product, comparison, all_of, any_of, implication, equivalence, choice}
-use Rattle.cif_ast.specs.declared.names.Name.{Name}
 
 -- without the parentheses round it, where the whole has the form and begins there
 abbrev mutual
@@ -53,28 +52,3 @@ parentheses_of at (choice bs e) = None
 
 abbrev pub parentheses_at : Tree → Option ℕ
 parentheses_at (node form at) = parentheses_of at form
-
-abbrev pub bare_shape : Shape → Option Name
-bare_shape (named nm) = Some nm
-bare_shape (paren e) = None
-bare_shape (truth b) = None
-bare_shape (number z) = None
-bare_shape received = None
-bare_shape (negative e) = None
-bare_shape (positive e) = None
-bare_shape (negation e) = None
-bare_shape (absolute e) = None
-bare_shape (least a b) = None
-bare_shape (greatest a b) = None
-bare_shape (sum e es) = None
-bare_shape (product e es) = None
-bare_shape (comparison a op b) = None
-bare_shape (all_of es) = None
-bare_shape (any_of es) = None
-bare_shape (implication a b) = None
-bare_shape (equivalence a b) = None
-bare_shape (choice bs e) = None
-
--- the name that an expression is, where it is nothing else
-abbrev pub bare_name : Tree → Option Name
-bare_name (node form at) = bare_shape form

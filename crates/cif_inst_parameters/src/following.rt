@@ -5,10 +5,10 @@ ghost use Rattle.cif_ast.specs.View.{view};
 ghost use Rattle.cif_source.specs.Source.{Source, ParamTree, param_tree};
 ghost use Rattle.cif_source.specs.Components.{Component};
 ghost use Rattle.cif_source.specs.Lookup.{found};
+ghost use Rattle.cif_source.specs.Uses as uses;
 ghost use Rattle.cif_inst_bodies.specs.Arguments.{IsArgumentFor};
 ghost use Rattle.cif_inst_parameters.specs.Following as following;
 ghost use Rattle.cif_inst_parameters.specs.Given.{IsGiven, given_items};
-ghost use Rattle.cif_inst_parameters.specs.Stripping as stripping;
 
 use crate::given::Given;
 use crate::stripping::{bare_name, parentheses_at, without_parentheses};
@@ -57,7 +57,7 @@ impl<'a, 'b> Follower<'a, 'b> {
     /// What an expression finds from a component where it is a bare name.
     fn target(&self, component: u32, value: &Expr) -> Option<Target>
         ensures { (t : Source) (c : Component) → following.LooksIn t self.now → following.IsNumber t component c →
-            following.FindsBare t c (stripping.bare_name (view value.now)) result }
+            following.FindsBare t c (uses.bare_name (view value.now)) result }
     {
         let name = bare_name(value)?;
         self.found(component, name)

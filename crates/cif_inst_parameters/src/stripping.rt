@@ -3,6 +3,7 @@
 ghost use Rattle.std.specs.Prelude.{◌≡◌};
 ghost use Rattle.std.specs.Option.{option_copied};
 ghost use Rattle.cif_ast.specs.View.{view};
+ghost use Rattle.cif_source.specs.Uses as uses;
 ghost use Rattle.cif_inst_parameters.specs.Stripping as stripping;
 
 use cif_ast::{Expr, Form, Name};
@@ -29,7 +30,7 @@ pub fn parentheses_at(value: &Expr) -> Option<u32>
 
 /// The name that an expression is, where it is nothing else.
 pub fn bare_name(value: &Expr) -> Option<&Name>
-    ensures { option_copied result ≡ stripping.bare_name (view value.now) }
+    ensures { option_copied result ≡ uses.bare_name (view value.now) }
 {
     match &value.form {
         Form::Named(name) => Some(name),
