@@ -1,6 +1,6 @@
--- The value of an expression rests on the values of the names in it alone.
+-- The value of an expression, as it is computed, rests on the values of the names in it alone.
 use Rattle.std.proofs.Common.{◌≡◌, ℤ, pos, neg_ℤ, Bool, true, false, not, ◌&&◌, ◌||◌, List, ◌++◌, Option, Some, None, inl, refl}
-use Rattle.std.specs.Prelude.{nat_abs, unwrap_or, if◌then◌else◌}
+use Rattle.std.specs.Prelude.{nat_abs, unwrap_or}
 use Rattle.std.specs.Int.{int_min, int_max}
 use Rattle.std.specs.Ordering.{int_eq}
 use Rattle.cif_system.specs.Words.{Member}
@@ -8,7 +8,7 @@ use Rattle.cif_system.proofs.Picks.{append-left, append-right}
 use Rattle.cif_ast.specs.Tree.{Tree, node, Shape, truth, number, named, received, paren, negative, positive, negation, absolute, least, greatest, sum, product, comparison, all_of, any_of, implication, equivalence, choice, Trees, no_trees, trees, Terms, no_terms, terms, Factors, no_factors, factors, Branches, no_branches, branches}
 use Rattle.cif_ast.specs.declared.names.Name.{Name}
 use Rattle.cif_source.specs.Uses.{names_in, shape_names, term_names, factor_names, names_in_all, branch_names}
-use Rattle.cif_source.specs.Value.{of_bool, is_true, compared, multiplied, added, value_with, shape_value, sum_value, product_value, all_true, any_true, branch_value}
+use Rattle.cif_source.specs.Value.{of_bool, is_true, compared, added}
 use Rattle.cif_inst_constants.specs.Checked.{checked, multiplied_checked}
 use Rattle.cif_inst_constants.specs.Computed.{with_value, or_first, computed, shape_computed, terms_computed, factors_computed, all_computed, any_computed, branches_computed}
 
@@ -22,54 +22,6 @@ module _ (f g : Name → ℤ) where
 
   right : (xs ys : List Name) → Agree (xs ++ ys) → Agree ys
   right xs ys h nm m = h nm (append-right nm xs ys m)
-
-  mutual
-    pub same-value : (e : Tree) → Agree (names_in e) → value_with f (pos 0) e ≡ value_with g (pos 0) e
-    same-value (node form at) h = same-shape form h
-
-    same-shape : (s : Shape) → Agree (shape_names s) → shape_value f (pos 0) s ≡ shape_value g (pos 0) s
-    same-shape (truth b) h = refl
-    same-shape (number z) h = refl
-    same-shape (named nm) h = h nm (inl refl)
-    same-shape received h = refl
-    same-shape (paren e) h = same-value e h
-    same-shape (negative e) h = λ i. neg_ℤ (same-value e h i)
-    same-shape (positive e) h = same-value e h
-    same-shape (negation e) h = λ i. of_bool (not (is_true (same-value e h i)))
-    same-shape (absolute e) h = λ i. pos (nat_abs (same-value e h i))
-    same-shape (least a b) h = λ i. int_min (same-value a (left (names_in a) (names_in b) h) i) (same-value b (right (names_in a) (names_in b) h) i)
-    same-shape (greatest a b) h = λ i. int_max (same-value a (left (names_in a) (names_in b) h) i) (same-value b (right (names_in a) (names_in b) h) i)
-    same-shape (sum e es) h = λ i. same-sum (same-value e (left (names_in e) (term_names es) h) i) es (right (names_in e) (term_names es) h) i
-    same-shape (product e es) h = λ i. same-product (same-value e (left (names_in e) (factor_names es) h) i) es (right (names_in e) (factor_names es) h) i
-    same-shape (comparison a op b) h = λ i. of_bool (compared op (same-value a (left (names_in a) (names_in b) h) i) (same-value b (right (names_in a) (names_in b) h) i))
-    same-shape (all_of es) h = λ i. of_bool (same-all es h i)
-    same-shape (any_of es) h = λ i. of_bool (same-any es h i)
-    same-shape (implication a b) h = λ i. of_bool (not (is_true (same-value a (left (names_in a) (names_in b) h) i)) || is_true (same-value b (right (names_in a) (names_in b) h) i))
-    same-shape (equivalence a b) h = λ i. of_bool (int_eq (same-value a (left (names_in a) (names_in b) h) i) (same-value b (right (names_in a) (names_in b) h) i))
-    same-shape (choice bs e) h = λ i. same-branch (same-value e (right (branch_names bs) (names_in e) h) i) bs (left (branch_names bs) (names_in e) h) i
-
-    same-sum : (z : ℤ) (es : Terms) → Agree (term_names es) → sum_value f (pos 0) z es ≡ sum_value g (pos 0) z es
-    same-sum z no_terms h = refl
-    same-sum z (terms minus e es) h = λ i. same-sum (added minus z (same-value e (left (names_in e) (term_names es) h) i)) es (right (names_in e) (term_names es) h) i
-
-    same-product : (z : ℤ) (es : Factors) → Agree (factor_names es) → product_value f (pos 0) z es ≡ product_value g (pos 0) z es
-    same-product z no_factors h = refl
-    same-product z (factors op e es) h = λ i. same-product (multiplied op z (same-value e (left (names_in e) (factor_names es) h) i)) es (right (names_in e) (factor_names es) h) i
-
-    same-all : (es : Trees) → Agree (names_in_all es) → all_true f (pos 0) es ≡ all_true g (pos 0) es
-    same-all no_trees h = refl
-    same-all (trees e es) h = λ i. is_true (same-value e (left (names_in e) (names_in_all es) h) i) && same-all es (right (names_in e) (names_in_all es) h) i
-
-    same-any : (es : Trees) → Agree (names_in_all es) → any_true f (pos 0) es ≡ any_true g (pos 0) es
-    same-any no_trees h = refl
-    same-any (trees e es) h = λ i. is_true (same-value e (left (names_in e) (names_in_all es) h) i) || same-any es (right (names_in e) (names_in_all es) h) i
-
-    same-branch : (z : ℤ) (bs : Branches) → Agree (branch_names bs) → branch_value f (pos 0) z bs ≡ branch_value g (pos 0) z bs
-    same-branch z no_branches h = refl
-    same-branch z (branches cs e bs) h =
-        λ i. if (same-all cs (left (names_in_all cs) (names_in e) (left (names_in_all cs ++ names_in e) (branch_names bs) h)) i)
-        then (same-value e (right (names_in_all cs) (names_in e) (left (names_in_all cs ++ names_in e) (branch_names bs) h)) i)
-        else (same-branch z bs (right (names_in_all cs ++ names_in e) (branch_names bs) h) i)
 
   mutual
     pub same-computed : (e : Tree) → Agree (names_in e) → computed f e ≡ computed g e

@@ -26,7 +26,7 @@ use Rattle.cif_inst_bodies.proofs.Constants.{constants-kept}
 use Rattle.cif_inst_constants.specs.Numbers.{number_at, number_found}
 use Rattle.cif_inst_constants.specs.Nodes.{Node, use_need, node_needs}
 use Rattle.cif_inst_constants.proofs.Meanings.{defined_within, name_within}
-use Rattle.cif_inst_constants.proofs.Congruence.{same-value}
+use Rattle.cif_source.proofs.Values.{value-agrees}
 use Rattle.cif_inst_constants.proofs.ValueLaws.{within-value}
 use Rattle.cif_inst_constants.proofs.UsedLaws.{IsMarked}
 use Rattle.cif_inst_constants.proofs.FoundLaws.{Stands, found-stands, agrees, looks}
@@ -80,7 +80,7 @@ module _ (t : Source) (s : Scopes) (used : List Bool) (are : IsMarked t s used) 
 
     step : (n p m k : ℕ) (d : Component) (ty : TypeTree) (x : Ident) (e : Tree) → IsNode t s used are m k d ty x e → SameBelow m (defined_within n) (defined_within p) → constant_within n d e ≡ constant_within p d e
     step n p m k d ty x e h same =
-        within-value n d e ∙ same-value (name_within n d) (name_within p d) e (names-same m k d ty x e (defined_within n) (defined_within p) h same) ∙ sym (within-value p d e)
+        within-value n d e ∙ value-agrees (name_within n d) (name_within p d) (pos 0) e (names-same m k d ty x e (defined_within n) (defined_within p) h same) ∙ sym (within-value p d e)
 
     pub stable : (n p m k : ℕ) (d : Component) (ty : TypeTree) (x : Ident) (e : Tree) → IsNode t s used are m k d ty x e → rank m ≤ n → rank m ≤ p → constant_within n d e ≡ constant_within p d e
     stable zero p m k d ty x e h a b = step zero p m k d ty x e h (λ l i c y z w g lower. absurd (omega (arith, lower, a)))
