@@ -1,22 +1,28 @@
 #!/usr/bin/env python3
 """Runs the commands of the program on hostile files and words: mutated, spliced, nested, extreme and random ones.
 
-    tools/attack.py PROGRAM [--count N] [--seed S] [--first K] [--minutes M] [check|generate|replay|batch|simulate|why|words ..]
+    tools/attack.py PROGRAM [--count N] [--seed S] [--first K] [--minutes M] [-j N] [--keep FOLDER] [check|generate|replay|batch|simulate|why|words ..]
 
-For each of the commands there are N attacks (1,000), from number K (1) on, or as many as M minutes allow; `words` are command lines. An
-attack is made of the seed and its number alone. Each run has 10 seconds of the processor (60 where the program checks its memory) and 512
-MB of memory, and is judged:
+For each of the commands there are N attacks (1,000), from number K (1) on, or as many as M minutes allow; `words` are command lines. They
+are made and run by as many processes as -j has (1). An attack is made of the seed and its number alone. Each run has 10 seconds of the
+processor (60 where the program checks its memory) and 512 MB of memory, and is judged:
 
 - it ends, and by no signal; a status of the table in docs/REFUSALS.md, and one line on standard error of the form that is shown there for
   it; no line and an output with status 0, and no output with the others but 4, 5 and 13 of `simulate`
 - `check`, `generate`, `simulate` and `why` refuse the same sources with the same line; what `generate` writes is replayed; an event is
   enabled for `why` exactly where `simulate` fires it after the same script; a file that is one case is for `batch` what it is for `replay`
-- a second run writes the same bytes; a full or closed output gives status 4, and a closed standard error changes no status
+- a second run writes the same bytes; a full or closed output gives status 4, and a closed standard error changes no status; with less memory
+  it is the same run, or has status 5 with a beginning of the output
 
-A finding is kept in out/attack/, with the words that run it again. The last line is the number of findings, and the status 1 where there
-is one. What is found is of the program that is run; the one compiled without proofs checks each access to memory too.
+A finding is kept in out/attack/, or in another folder, with the words that run it again. At the end stands how many attacks of each command
+ended with which status, refusal or fault, by their first run, and how many runs of each command with which status. The last line is the
+number of findings, and the status 1 where there is one. What is found is of the program that is run; the one compiled without proofs checks
+each access to memory too, and takes some thirty times as long to start. Where there is a C compiler, `limited_runs.c` starts the processes;
+without one Python does, and no run has less memory.
 """
 import argparse
+import concurrent.futures
+import itertools
 import os
 import pathlib
 import random
@@ -28,16 +34,18 @@ import tempfile
 import time
 from collections import Counter
 
+import building
 import words as command_lines
 from attack_texts import Texts, cases, plain_rows, rows, script
 from building import TOP
-from limited_runs import Ended, Program
+from limited_runs import Ended, compiled, program_of
+from refuse_memory import fault_of
 
 KEPT = TOP / "out/attack"
 FILES = {"check": ["a.cif"], "generate": ["a.cif"], "replay": ["a.st", "rows.csv"],
          "batch": ["a.st", "cases.csv"], "simulate": ["a.cif", "script.txt"], "why": ["a.cif", "script.txt"]}
 ATTACKS = [*FILES, "words"]
-MOST_PROGRAM = 16777216
+MOST_PROGRAM, MOST_LOOKED_AT = 16777216, 2000000
 
 # ---- what the documents say
 
@@ -65,8 +73,12 @@ MAY = {"check": (0, 2, 3, 4, 5, 6, 7, 8), "generate": (0, 2, 3, 4, 5, 6, 7, 8), 
        "batch": (0, 2, 3, 4, 5, 6, 9, 10, 11, 12),
        "simulate": (0, 2, 3, 4, 5, 6, 7, 8, 13), "why": (0, 2, 3, 4, 5, 6, 7, 8, 13, 16)}
 ABOUT = {7: 0, 8: 0, 9: 0, 10: 1, 11: 0, 12: 0, 13: 1}
+# How often a file is as long as it may be.
+OFTEN = {"a.cif": 0.002, "a.st": 0.001, "rows.csv": 0.0003, "cases.csv": 0.0003, "script.txt": 0.002}
 LIMITS = {"a.cif": 4194304, "a.st": 16777216, "rows.csv": 67108864, "cases.csv": 67108864, "script.txt": 4194304}
 MEMORY = b"cif: out of memory\n"
+# The megabytes of a run that has less memory.
+LESS = [8, 8, 9, 10, 12, 16, 24, 32, 64, 150, 300]
 
 
 def refused(status, files, line):
@@ -143,7 +155,7 @@ class Attack:
     def __init__(self, program, texts, seed, command, number):
         self.program, self.texts, self.command, self.number = program, texts, command, number
         self.choose = random.Random(f"{seed} {command} {number}")
-        self.files, self.runs, self.fault, self.last = {}, 0, None, None
+        self.files, self.runs, self.fault, self.last = {}, Counter(), None, None
 
     def begin(self):
         getattr(self, self.command)()
@@ -156,9 +168,16 @@ class Attack:
     def blame(self, fault, words):
         self.fault = self.fault or (fault, words)
 
-    def run(self, *words, broken=None, how="full"):
-        self.runs += 1
-        return self.program.run(words, broken, how)
+    def write_long(self, name, text):
+        """Writes a file, now and then as long as one that is read may be, or longer by one byte."""
+        if self.choose.random() < OFTEN[name]:
+            text = text.ljust(LIMITS[name] + self.choose.choice([0, 1]), self.choose.choice([b" ", b"\n", b"\n", b"x"]))
+        self.write(name, text)
+
+    def run(self, *words, **how):
+        ended = self.program.run(words, **how)
+        self.runs[words[0] if words and words[0] in MAY else "", ended.status] += 1
+        return ended
 
     def asked(self, *words):
         """The end of a run of a command with its files, and what is wrong with it."""
@@ -172,7 +191,7 @@ class Attack:
         return ended
 
     def again(self, words, first):
-        """Some of the runs are made once more, and some with outlets that take nothing."""
+        """Some of the runs are made once more, some with outlets that take nothing, and some with less memory."""
         if self.choose.random() < 0.2 and first.status != 5 and self.run(*words) != first:
             self.blame("another answer in a second run", words)
         if self.choose.random() < 0.05:
@@ -185,6 +204,11 @@ class Attack:
             ended = self.run(*words, broken=2, how=how)
             if ended.status != 5 and first.status != 5 and (ended.status, ended.out) != (first.status, first.out):
                 self.blame(f"status {ended.status} with standard error {how}, else {first.status}", words)
+        megabytes = self.choose.choice(LESS) if self.choose.random() < 0.05 else None
+        if megabytes and self.program.has_less and first.status not in (5, None):
+            fault = fault_of(self.run(*words, megabytes=megabytes), first)
+            if fault:
+                self.blame(f"{fault} with {megabytes} MB", words)
 
     def agree(self, check, generate):
         """`check` and `generate` refuse the same sources with the same line, but for 28."""
@@ -198,14 +222,14 @@ class Attack:
     # ---- by command
 
     def check(self):
-        self.write("a.cif", self.texts.source(self.choose, self.number))
+        self.write_long("a.cif", self.texts.source(self.choose, self.number))
         self.last = self.asked("check", "a.cif")
         self.again(("check", "a.cif"), self.last)
         if self.choose.random() < 0.3:
             self.agree(self.last, self.asked("generate", "a.cif"))
 
     def generate(self):
-        self.write("a.cif", self.texts.source(self.choose, self.number))
+        self.write_long("a.cif", self.texts.source(self.choose, self.number))
         words = ("generate", "a.cif", *self.options())
         self.last = self.asked(*words)
         self.again(words, self.last)
@@ -225,15 +249,15 @@ class Attack:
         return [word for pair in found[:self.choose.choice([0, 1, 2, 2])] for word in pair]
 
     def replay(self):
-        self.write("a.st", self.texts.program(self.choose))
-        self.write("rows.csv", rows(self.choose, self.files["a.st"]))
+        self.write_long("a.st", self.texts.program(self.choose, self.number))
+        self.write_long("rows.csv", rows(self.choose, self.files["a.st"][:MOST_LOOKED_AT]))
         self.last = self.asked("replay", "a.st", "rows.csv")
         self.again(("replay", "a.st", "rows.csv"), self.last)
 
     def batch(self):
         """Cases, which `replay` takes where they are one case; without a row `batch` writes nothing."""
-        self.write("a.st", self.texts.program(self.choose))
-        self.write("cases.csv", cases(self.choose, self.files["a.st"]))
+        self.write_long("a.st", self.texts.program(self.choose, self.number))
+        self.write_long("cases.csv", cases(self.choose, self.files["a.st"][:MOST_LOOKED_AT]))
         self.last = self.asked("batch", "a.st", "cases.csv")
         self.again(("batch", "a.st", "cases.csv"), self.last)
         self.write("rows.csv", self.files["cases.csv"])
@@ -246,8 +270,8 @@ class Attack:
     def write_script(self):
         """Writes a source and a script for it; the paths of what it may declare."""
         text, paths = self.texts.source_to_run(self.choose, self.number)
-        self.write("a.cif", text)
-        self.write("script.txt", script(self.choose, paths))
+        self.write_long("a.cif", text)
+        self.write_long("script.txt", script(self.choose, paths))
         return paths
 
     def refuses_as_check(self, ended):
@@ -316,10 +340,9 @@ def some_words(choose):
 
 # ---- running
 
-def keep(attack, program, seed):
+def keep(attack, program, seed, place):
     """Keeps the files of a finding; the lines that say how to run it again."""
-    name = f"{attack.command}-{seed}-{attack.number}"
-    folder = KEPT / name
+    folder = pathlib.Path(place, f"{attack.command}-{seed}-{attack.number}")
     folder.mkdir(parents=True, exist_ok=True)
     for file, text in attack.files.items():
         (folder / file).write_bytes(text)
@@ -330,20 +353,108 @@ def keep(attack, program, seed):
     yield f"       tools/attack.py {program.file} --seed {seed} --first {attack.number} --count 1 {attack.command}"
 
 
-def attack_all(program, texts, asked, told):
-    """Attacks one after the other, of the commands in turn."""
-    end = time.monotonic() + asked.minutes * 60
-    for number in range(asked.first, asked.first + asked.count):
-        if asked.minutes and time.monotonic() > end:
-            break
-        for command in asked.commands:
-            attack = Attack(program, texts, asked.seed, command, number)
+class Attacks:
+    """Makes and runs attacks in a folder of its own."""
+
+    def __init__(self, asked, runner, room):
+        self.asked, self.program, self.folder = asked, program_of(asked.program, runner), tempfile.mkdtemp(dir=room)
+        self.texts = Texts(asked.seed, self.generated)
+        os.chdir(self.folder)
+
+    def generated(self, text):
+        """The program of a source, or nothing."""
+        pathlib.Path("a.cif").write_bytes(text)
+        return self.program.run(["generate", "a.cif", "--unc", "2", "--con", "2"]).out
+
+    def all_of(self, command, numbers):
+        """The attacks of a command with these numbers: their ends, the runs, and the lines of what was found."""
+        ends, runs, lines = Counter(), Counter(), []
+        for number in numbers:
+            attack = Attack(self.program, self.texts, self.asked.seed, command, number)
             attack.begin()
-            told[command].update([reason(attack.last)])
-            told["runs"].update([command] * attack.runs)
+            ends[reason(attack.last)] += 1
+            runs.update(attack.runs)
             if attack.fault:
-                told["found"].update([command])
-                print("\n".join(keep(attack, program, asked.seed)), flush=True)
+                lines.append("\n".join(keep(attack, self.program, self.asked.seed, self.asked.keep)))
+        return command, ends, runs, lines
+
+
+# What makes attacks in this process.
+OWN = []
+
+
+def begin_process(*given):
+    """Begins a process that makes attacks; a signal to end ends it at once."""
+    signal.signal(signal.SIGINT, signal.SIG_IGN)
+    signal.signal(signal.SIGTERM, signal.SIG_DFL)
+    OWN[:] = [Attacks(*given)]
+
+
+def all_of(command, numbers):
+    return OWN[0].all_of(command, numbers)
+
+
+# (as many as share a random source)
+TOGETHER = 250
+
+
+def parts_of(asked):
+    """The attacks in parts: the commands in turn, each with some numbers, which share what they are made of."""
+    size, first, end = min(TOGETHER, 1 + asked.count // (4 * asked.jobs)), asked.first, asked.first + asked.count
+    while first < end:
+        last = min(end, (first // size + 1) * size)
+        yield from ((command, range(first, last)) for command in asked.commands)
+        first = last
+
+
+def in_one_process(asked, runner, room):
+    attacks = Attacks(asked, runner, room)
+    try:
+        yield from (attacks.all_of(*part) for part in parts_of(asked))
+    finally:
+        attacks.program.close()
+
+
+def in_processes(asked, runner, room):
+    """The parts by several processes, as they end; a few are given out ahead."""
+    processes = concurrent.futures.ProcessPoolExecutor(asked.jobs, initializer=begin_process, initargs=(asked, runner, room))
+    try:
+        parts, given = parts_of(asked), set()
+        while True:
+            given |= {processes.submit(all_of, *part) for part in itertools.islice(parts, 2 * asked.jobs - len(given))}
+            if not given:
+                break
+            ended, given = concurrent.futures.wait(given, return_when=concurrent.futures.FIRST_COMPLETED)
+            yield from (it.result() for it in ended)
+    finally:
+        building.end_descendants()
+        processes.shutdown(wait=False, cancel_futures=True)
+
+
+def attack_all(asked, runner, room, told):
+    """All attacks, or as many as the time allows."""
+    end = time.monotonic() + asked.minutes * 60
+    results = in_processes(asked, runner, room) if asked.jobs > 1 else in_one_process(asked, runner, room)
+    try:
+        for command, ends, runs, lines in results:
+            told[command].update(ends)
+            told["runs"][command] += runs.total()
+            told["statuses"].update(runs)
+            told["found"][command] += len(lines)
+            if lines:
+                print(*lines, sep="\n", flush=True)
+            if asked.minutes and time.monotonic() > end:
+                break
+    finally:
+        results.close()
+
+
+def statuses_of(command, counted):
+    """How many runs of a command ended with each status, in all attacks, and which of the table none had."""
+    found = {status: count for (name, status), count in counted.items() if name == command}
+    shown = ", ".join(f"{status}: {found[status]}" for status in sorted(found, key=lambda it: (it is None, it)))
+    lacking = ", ".join(str(it) for it in MAY[command] if it not in found)
+    return f"runs of {command} by status: {shown}" + (f"; none with {lacking}" if lacking else "")
 
 
 def report(asked, told, seconds):
@@ -351,6 +462,9 @@ def report(asked, told, seconds):
         parts = sorted(told[command].items(), key=lambda it: (it[0][:6] != "status", int(re.search(r"-?\d+|$", it[0])[0] or 0)))
         shown = ", ".join(f"{name}: {count}" for name, count in parts)
         print(f"{command}: {told[command].total()} attacks in {told['runs'][command]} runs; {shown}")
+    for command in MAY:
+        if any(name == command for name, _ in told["statuses"]):
+            print(statuses_of(command, told["statuses"]))
     total = told["runs"].total()
     print(f"seed {asked.seed}, from number {asked.first} on; {total} runs in {seconds:.0f} s, {total / max(seconds, 0.001):.0f} a second")
     print(f"{told['found'].total()} findings")
@@ -362,11 +476,16 @@ def parsed(given):
     for name, first in (("count", 1000), ("seed", 1), ("first", 1)):
         parser.add_argument(f"--{name}", type=int, default=first)
     parser.add_argument("--minutes", type=float, default=0)
+    parser.add_argument("-j", "--jobs", type=int, default=1)
+    parser.add_argument("--keep", default=KEPT, type=os.path.abspath)
     parser.add_argument("commands", nargs="*")
     asked = parser.parse_intermixed_args(given)
     asked.commands = asked.commands or ATTACKS
     if not set(asked.commands) <= set(ATTACKS):
         parser.error("no command of these: " + " ".join(asked.commands))
+    if asked.jobs < 1:
+        parser.error("-j takes a number from 1 on")
+    asked.program = os.path.abspath(asked.program)
     return asked
 
 
@@ -374,27 +493,25 @@ def ask_for_interrupt(*_):
     raise KeyboardInterrupt
 
 
+def room():
+    """A folder in memory, where there is one."""
+    memory = "/dev/shm"
+    return tempfile.TemporaryDirectory(prefix="cif-", dir=memory if os.access(memory, os.W_OK | os.X_OK) else None)
+
+
 def main(*given):
     asked, began = parsed(given), time.monotonic()
-    program = Program(asked.program)
-    told = {name: Counter() for name in [*ATTACKS, "runs", "found"]}
+    told = {name: Counter() for name in [*ATTACKS, "runs", "statuses", "found"]}
     signal.signal(signal.SIGTERM, ask_for_interrupt)
-    with tempfile.TemporaryDirectory(prefix="cif-") as folder:
-        os.chdir(folder)
+    with room() as folder:
         try:
-            attack_all(program, Texts(asked.seed, lambda text: generated(program, text)), asked, told)
+            attack_all(asked, compiled(folder), folder, told)
         except KeyboardInterrupt:
             print("ended early", flush=True)
         signal.signal(signal.SIGTERM, signal.SIG_IGN)
         os.chdir("/")
     report(asked, told, time.monotonic() - began)
-    return 1 if told["found"] else 0
-
-
-def generated(program, text):
-    """The program of a source, or nothing."""
-    pathlib.Path("a.cif").write_bytes(text)
-    return program.run(["generate", "a.cif", "--unc", "2", "--con", "2"]).out
+    return 1 if told["found"].total() else 0
 
 
 if __name__ == "__main__":

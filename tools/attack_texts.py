@@ -2,6 +2,7 @@
 
 All is bytes, and each text depends on nothing but the choices of one random.Random and the corpus.
 """
+import functools
 import random
 import re
 
@@ -89,12 +90,16 @@ def line_ends(choose, text, other):
     return text.replace(b"\n", choose.choice([b"\r\n", b"\r", b"\n\n", b"", b" ", b"\0"]))
 
 
+@functools.lru_cache(maxsize=200)
+def kept_tokens(text):
+    return tuple(TOKEN.findall(text))
+
+
 def tokens_of(text):
-    return TOKEN.findall(text)
+    return list(kept_tokens(text))
 
 
 def sort_of(token):
-    """Whether a token is a blank, a number, a reserved word, a name or a sign."""
     if token.isspace():
         return "blank"
     if token[:1].isdigit():
@@ -104,21 +109,32 @@ def sort_of(token):
     return "sign"
 
 
-def places_of(tokens, sort):
-    return [at for at, token in enumerate(tokens) if sort_of(token) == sort]
+@functools.lru_cache(maxsize=200)
+def kept_places(text):
+    found, known = {sort: [] for sort in ("blank", "number", "word", "name", "sign")}, {}
+    for at, token in enumerate(kept_tokens(text)):
+        if token not in known:
+            known[token] = found[sort_of(token)].append
+        known[token](at)
+    return found
+
+
+def places_of(text, sort):
+    """The places of the tokens of a sort in a text."""
+    return kept_places(text)[sort]
 
 
 def exchange(choose, text, other):
     """A token in the place of another one of its sort, of the same text or of another one."""
     tokens = tokens_of(text)
-    sort = choose.choice(["name", "name", "name", "name", "name", "number", "number", "word", "sign"])
-    places = places_of(tokens, sort)
+    sort = choose.choice(["name", "name", "name", "name", "name", "name", "number", "number", "number", "word", "sign"])
+    places = places_of(text, sort)
     if not places:
         return text
-    others = tokens if choose.random() < 0.8 else tokens_of(other)
-    found = [others[at] for at in places_of(others, sort)] or [b"x"]
+    giver = text if choose.random() < 0.8 else other
+    others, found = kept_tokens(giver), places_of(giver, sort)
     for _ in range(choose.choice([1, 1, 1, 2, 4])):
-        tokens[choose.choice(places)] = choose.choice(found)
+        tokens[choose.choice(places)] = others[choose.choice(found)] if found else b"x"
     return b"".join(tokens)
 
 
@@ -140,7 +156,7 @@ def move_tokens(choose, text, other):
 
 def extreme_numbers(choose, text, other):
     tokens = tokens_of(text)
-    places = places_of(tokens, "number")
+    places = places_of(text, "number")
     for at in choose.sample(places, min(len(places), choose.choice([1, 1, 2, 3]))):
         tokens[at] = choose.choice(NUMBERS if choose.random() < 0.5 else NUMBERS[:5])
     return b"".join(tokens)
@@ -149,7 +165,7 @@ def extreme_numbers(choose, text, other):
 def long_names(choose, text, other):
     """A name in place of one, at one place or at all."""
     tokens = tokens_of(text)
-    places = places_of(tokens, "name")
+    places = places_of(text, "name")
     if not places:
         return text
     at = choose.choice(places)
@@ -196,14 +212,19 @@ def nest(choose, text, other):
     return b"".join(tokens)
 
 
-GENTLE = [exchange, exchange, exchange, extreme_numbers, move_pieces, move_pieces]
+GENTLE = [exchange, exchange, exchange, exchange, extreme_numbers, move_pieces]
 ROUGH = [flip, overwrite, cut, cut_end, repeat, insert_odd, splice, insert_piece, line_ends, move_tokens, long_names, nest]
+
+
+def gently_mutated(choose, text, pick):
+    """A text with a change after which it is often still one that breaks no rule."""
+    return choose.choice([extreme_numbers, exchange, exchange, move_pieces])(choose, text, pick(choose))
 
 
 def mutated(choose, text, pick):
     """A text with some changes; `pick` gives another text."""
     for _ in range(choose.choice([0, 0, 1, 1, 1, 1, 2, 3])):
-        text = choose.choice(GENTLE if choose.random() < 0.75 else ROUGH)(choose, text, pick(choose))
+        text = choose.choice(GENTLE if choose.random() < 0.8 else ROUGH)(choose, text, pick(choose))
     return text[:16 * MOST]
 
 
@@ -267,6 +288,11 @@ def nested_source(choose, count):
 GROWING = [doubling, doubling, many, many, listed, listed, crowd, nested_source]
 
 
+def block_of(number, first, behind):
+    """The block of attacks with a base text of its own in which an attack stands: smaller ones for the first thousand than behind."""
+    return number // first if number < 1000 else f"{number // behind} behind"
+
+
 class Texts:
     """The texts from which others are made: those of examples and documents, random ones, and programs, which `generate` writes."""
 
@@ -280,13 +306,16 @@ class Texts:
 
     def random_source(self, number):
         """A random source, which may break rules; one for each number."""
-        if number not in self.made:
+        return self.kept("source", number, lambda choose: (compare_refusals.made(choose) if choose.random() < 0.6 else random_sources.automata_together(
+            choose, True, choose.random() < 0.6, ("input", "alg", "channel", "invariant"))).encode("utf-8", "replace"))
+
+    def kept(self, kind, number, make):
+        """What is made of its kind and number alone; some are kept."""
+        if (kind, number) not in self.made:
             if len(self.made) > 100:
                 self.made.clear()
-            choose = random.Random(f"{self.seed} source {number}")
-            self.made[number] = (compare_refusals.made(choose) if choose.random() < 0.6 else random_sources.automata_together(
-                choose, True, choose.random() < 0.6, ("input", "alg", "channel", "invariant"))).encode("utf-8", "replace")
-        return self.made[number]
+            self.made[kind, number] = make(random.Random(f"{self.seed} {kind} {number}"))
+        return self.made[kind, number]
 
     def source(self, choose, number):
         """A hostile source."""
@@ -296,7 +325,7 @@ class Texts:
         if way < 0.15:
             text = choose.choice(GROWING)(choose, extreme(choose, True)).encode()
             return text if way < 0.11 else mutated(choose, text, self.other_source)
-        text = self.random_source(number // 25) if way < 0.55 else choose.choice(self.sources)
+        text = self.random_source(block_of(number, 25, 100)) if way < 0.55 else choose.choice(self.sources)
         return mutated(choose, text, self.other_source)
 
     def other_source(self, choose):
@@ -307,10 +336,15 @@ class Texts:
         way = choose.random()
         if way < 0.25:
             text = self.source(choose, number)
-            return text, [name for names in DECLARED.findall(text) for name in re.findall(rb"[A-Za-z_]\w*", names)] or [b"e"]
-        text = choose.choice(self.examples).decode() if way < 0.5 else choose.choice(random_sources.MAKERS)(choose)
-        net = random_sources.judged(text)[1]
-        return text.encode(), [it.path.encode() for it in (*net.events, *net.inputs)] or [b"e"]
+            return text, [name for names in DECLARED.findall(text) for name in re.findall(rb"[A-Za-z_]\w*", names[:2000])] or [b"e"]
+        text, paths = self.example_to_run(choose.randrange(len(self.examples))) if way < 0.5 else self.random_to_run(block_of(number, 10, 250))
+        return text if choose.random() < 0.6 else gently_mutated(choose, text, self.other_source), paths
+
+    def example_to_run(self, number):
+        return self.kept("example", number, lambda _: with_paths(self.examples[number].decode()))
+
+    def random_to_run(self, block):
+        return self.kept("source to run", block, lambda choose: with_paths(choose.choice(random_sources.MAKERS)(choose)))
 
     def other_program(self, choose):
         """A program that is in examples/, or that is generated for a source there or a random one."""
@@ -320,7 +354,10 @@ class Texts:
             self.programs[number] = made and self.generate(made) or (TOP / "examples/tank.st").read_bytes()
         return self.programs[number]
 
-    def program(self, choose):
+    def random_program(self, block):
+        return self.kept("program", block, lambda choose: compare_programs.Maker(choose).program()[0].encode())
+
+    def program(self, choose, number):
         """A hostile program."""
         way = choose.random()
         if way < 0.03:
@@ -328,8 +365,14 @@ class Texts:
         if way < 0.15:
             text = grown_program(choose, extreme(choose, True)).encode()
             return text if way < 0.11 else mutated(choose, text, self.other_program)
-        text = compare_programs.Maker(choose).program()[0].encode() if way < 0.6 else self.other_program(choose)
+        text = self.random_program(block_of(number, 2, 20)) if way < 0.6 else self.other_program(choose)
         return mutated(choose, text, self.other_program)
+
+
+def with_paths(text):
+    """A source that breaks no rule, and the paths of its events and inputs."""
+    net = random_sources.judged(text)[1]
+    return text.encode(), [it.path.encode() for it in (*net.events, *net.inputs)] or [b"e"]
 
 
 # ---- programs
@@ -363,11 +406,16 @@ def grown_program(choose, count):
     return f"PROGRAM p VAR_INPUT {' '.join(f'i{k}: BOOL;' for k in range(count))} END_VAR END_PROGRAM"
 
 
+# (a name from its first letter on alone, so that a long one is looked at once)
+DECLARES = re.compile(rb"(?<!\w)(\w+)\s*:\s*(BOOL|LINT)\s*(?:\(\s*(-?\s*\d+))?", re.I)
+
+
 def inputs_of(text):
     """The names of the inputs of a program, and the least value of each, or FALSE."""
     found = []
-    for block in re.findall(rb"\bVAR_INPUT\b(.*?)\bEND_VAR\b", text, re.S | re.I):
-        for name, kind, low in re.findall(rb"(\w+)\s*:\s*(BOOL|LINT)\s*(?:\(\s*(-?\s*\d+))?", block, re.I):
+    for part in re.split(rb"\bVAR_INPUT\b", text, flags=re.I)[1:]:
+        block, *more = re.split(rb"\bEND_VAR\b", part, maxsplit=1, flags=re.I)
+        for name, kind, low in DECLARES.findall(block) if more else ():
             found.append((name, b"FALSE" if kind.upper() == b"BOOL" else low.replace(b" ", b"") or b"0"))
     return found
 
@@ -447,7 +495,7 @@ def cases(choose, text):
 
 # ---- scripts
 
-DECLARED = re.compile(rb"(?:event|controllable|uncontrollable|input)\s+([^;:(]{1,2000});")
+DECLARED = re.compile(rb"\b(?:event|controllable|uncontrollable|input)\b([^;:(]*)")
 VALUES = [b"true", b"false", b"0", b"1", b"2", b"3", b"-1", b"TRUE", b"-0", b"+1", b"", b"x", *NUMBERS]
 LINES = [b"", b"\r", b"\r\r", b" ", b"set", b"fire", b"set ", b"fire ", b"set a 1 2", b"Fire a", b"set a=1", b"# a", b"\0", b"\xff", b"fire  a", b"x" * 20000, b"fire " * 2000]
 

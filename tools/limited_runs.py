@@ -3,8 +3,13 @@ import os
 import pathlib
 import resource
 import select
+import shutil
 import signal
+import struct
+import subprocess
 from collections import namedtuple
+
+from building import TOP
 
 # Of the processor. (A program with checks of its memory makes the 1,000,000 turns of a scan in more than ten.)
 SECONDS, SECONDS_WITH_CHECKS = 10, 60
@@ -14,8 +19,17 @@ MEGABYTES, STACK = 512, 64 << 20
 Ended = namedtuple("Ended", "status out err")
 
 
+# A request of `limited_runs.c`, before the words, and its answer.
+REQUEST, ANSWER = struct.Struct("=5I"), struct.Struct("=3q")
+# Where it says why a program cannot be started; standard error, unless it is a file.
+TOLD = None
+
+
 class Program:
     """Runs a program with limits, its outputs in memory."""
+
+    # Whether a run can have less memory than this process.
+    has_less = False
 
     def __init__(self, file):
         self.file = os.path.abspath(file)
@@ -47,6 +61,10 @@ class Program:
         resource.setrlimit(resource.RLIMIT_AS, (resource.RLIM_INFINITY, resource.getrlimit(resource.RLIMIT_AS)[1]))
         return Ended(self.end(process), *map(whole, self.outlets))
 
+    def close(self):
+        for outlet in self.outlets:
+            os.close(outlet)
+
     def end(self, process):
         """The status of a process; it is ended where it does not end, be it that it runs or that it waits."""
         try:
@@ -74,6 +92,62 @@ class Program:
                 os.kill(process, signal.SIGKILL)
             before = state
         os.close(handle)
+
+
+class Quick(Program):
+    """Runs a program by `limited_runs.c`, which starts processes in less time."""
+
+    def __init__(self, file, runner):
+        super().__init__(file)
+        self.runner, self.started, self.has_less = runner, None, not self.checks_memory
+
+    def start(self):
+        words = [self.runner, self.file, self.seconds, *self.outlets]
+        pipes = {"stdin": subprocess.PIPE, "stdout": subprocess.PIPE, "stderr": TOLD}
+        return subprocess.Popen([str(it) for it in words], env=self.environment, pass_fds=self.outlets, **pipes)
+
+    def run(self, words, broken=None, how="full", megabytes=MEGABYTES):
+        self.started = self.started or self.start()
+        given = b"".join(os.fsencode(it) + b"\0" for it in words)
+        most = 0 if self.checks_memory else megabytes
+        self.started.stdin.write(REQUEST.pack(len(words), broken or 0, how == "closed", most, len(given)) + given)
+        self.started.stdin.flush()
+        answer = self.started.stdout.read(ANSWER.size)
+        if len(answer) < ANSWER.size:
+            raise OSError(f"{self.file} cannot be run")
+        status, *sizes = ANSWER.unpack(answer)
+        out, err = (os.pread(outlet, size, 0) if size else b"" for outlet, size in zip(self.outlets, sizes))
+        return Ended(None if status < 0 else os.waitstatus_to_exitcode(status), out, err)
+
+    def close(self):
+        """Ends what starts processes, and with it what it started."""
+        if self.started:
+            self.started.kill()
+            self.started.wait()
+            for pipe in (self.started.stdin, self.started.stdout):
+                try:
+                    pipe.close()
+                except BrokenPipeError:
+                    pass
+        super().close()
+
+
+def compiler():
+    return shutil.which("cc") or shutil.which("gcc")
+
+
+def compiled(room):
+    """Compiles `limited_runs.c` into a folder; none where there is no compiler."""
+    if not compiler():
+        return None
+    runner = os.path.join(room, "limited_runs")
+    subprocess.run([compiler(), "-O2", "-o", runner, TOP / "tools/limited_runs.c"], check=True)
+    return runner
+
+
+def program_of(file, runner):
+    """Runs a program by the compiled runner, or without one."""
+    return Quick(file, runner) if runner else Program(file)
 
 
 def state_of(process):

@@ -7,15 +7,19 @@ import shutil
 import subprocess
 import sys
 import tempfile
+import time
 import unittest
+from unittest import mock
 
 sys.path[:0] = [str(pathlib.Path(__file__).resolve().parent)]
 import attack  # noqa: E402
+import building  # noqa: E402
+import limited_runs  # noqa: E402
 import refuse_memory  # noqa: E402
 from attack import Attack, Ended, judged, placed  # noqa: E402
 from attack_texts import Texts, cases, inputs_of, plain_rows, script  # noqa: E402
 from building import TOP  # noqa: E402
-from limited_runs import Program  # noqa: E402
+from limited_runs import Program, Quick  # noqa: E402
 from refuse_memory import chosen, fault_of  # noqa: E402
 
 OK = Ended(0, b"ok\n", b"")
@@ -94,9 +98,11 @@ class Playing(unittest.TestCase):
         file = pathlib.Path("program")
         file.write_text(f"#!/bin/sh\n{body}\n")
         file.chmod(0o755)
-        found = Program(file)
-        self.addCleanup(lambda: [os.close(it) for it in found.outlets])
+        found = self.runs_by(file)
+        self.addCleanup(found.close)
         return found
+
+    runs_by = Program
 
     def test_runs(self):
         for body, wanted in (("echo ok", OK), ('echo "$1" >&2; exit 3', Ended(3, b"", b"check\n")), ("kill -11 $$", Ended(-11, b"", b""))):
@@ -105,17 +111,40 @@ class Playing(unittest.TestCase):
             program = self.program(body)
             program.seconds = 1
             self.assertEqual(program.run(["check", "a.cif"]), Ended(None, b"", b""))
+            pathlib.Path("program").write_text("#!/bin/sh\necho ok\n")
+            self.assertEqual(program.run(["check", "a.cif"]), OK)
         program = self.program("echo ok && exit 0; exit 4")
         self.assertEqual([program.run(["check"], 1, how).status for how in ("full", "closed")], [4, 4])
         self.assertEqual([program.run(["check"], 2, how)[:2] for how in ("full", "closed")], [OK[:2]] * 2)
 
+    def test_words(self):
+        """The words come as they are, whatever bytes they have."""
+        words = ["check", "", "a\nb", "\udcff", "x" * 100000]
+        program = self.program("printf '%s|' \"$@\"")
+        self.assertEqual(program.run(words).out, b"".join(os.fsencode(it) + b"|" for it in words))
+        self.assertEqual(program.run([]).out, b"|")
+        with open(os.devnull, "w") as nothing, mock.patch.object(limited_runs, "TOLD", nothing), self.assertRaises(OSError):
+            self.program("echo ok").run(["x" * 200000])
+
     def faults(self, body, command, count):
-        texts, program, found = Texts(1, lambda text: b"PROGRAM p END_PROGRAM"), self.program(body), set()
+        return self.faults_of(self.program(body), command, count)
+
+    def faults_of(self, program, command, count):
+        texts, found = Texts(1, lambda text: b"PROGRAM p END_PROGRAM"), set()
         for number in range(1, count + 1):
             tried = Attack(program, texts, 1, command, number)
             tried.begin()
             found |= {tried.fault and tried.fault[0]}
         return found
+
+    def test_what_is_found(self):
+        """A crash, a hang, a status that is not in the table, an output with a refusal and a line of another form are each found."""
+        for body, fault in (("kill -11 $$", "signal 11"), ("kill -6 $$", "signal 6"), ("exit 1", "status 1"), ("exit 9", "status 9"), ('echo ok; echo "cif: $2: 4 NotRead at 0" >&2; exit 7',
+                            "an output with status 7"), ('echo "cif: $2: 4 NotRead" >&2; exit 7', "no line of status 7"), ("exit 0", "status 0 without its output")):
+            self.assertEqual(self.faults(body, "check", 2), {fault}, body)
+        program = self.program("sleep 60")
+        program.seconds = 1
+        self.assertEqual(self.faults_of(program, "check", 1), {"no end"})
 
     def test_attacks(self):
         refuses = 'echo "cif: $2: 4 NotRead at 0" >&2; exit 7'
@@ -131,8 +160,8 @@ class Playing(unittest.TestCase):
         self.assertEqual(self.faults('echo start', "simulate", 8), {None})
         self.assertEqual(self.faults('echo "cif: a.cif: 4 NotRead at 0" >&2; exit 7', "why", 4), {None})
         self.assertIn("check refuses the source in another way", self.faults('[ "$1" = check ] && echo ok && exit 0; echo "cif: a.cif: 4 NotRead at 0" >&2; exit 7', "why", 2))
-        self.assertEqual(self.faults('[ "$1" = why ] && echo enabled || echo start', "why", 4), {None})
-        found = self.faults('[ "$1" = why ] && echo "blocks a" || echo start', "why", 2)
+        self.assertEqual(self.faults('[ "$1" = why ] && echo enabled || echo start || exit 4', "why", 4), {None})
+        found = self.faults('[ "$1" = why ] && echo "blocks a" || echo start || exit 4', "why", 2)
         self.assertIn("why has b'blocks a\\n' and status 0, and simulate b''", found)
 
     def test_attacks_of_cases(self):
@@ -159,10 +188,11 @@ class Playing(unittest.TestCase):
         """An attack is made of its number alone, whatever was made before."""
         one, other = Texts(1, lambda text: b"PROGRAM p END_PROGRAM"), Texts(1, lambda text: b"PROGRAM p END_PROGRAM")
         for number in range(30):
-            one.source(random.Random(number), number), one.program(random.Random(number))
-        for number in (3, 77):
-            self.assertEqual(one.source(random.Random(number), number), other.source(random.Random(number), number))
-            self.assertEqual(one.program(random.Random(number)), other.program(random.Random(number)))
+            one.source(random.Random(number), number), one.program(random.Random(number), number)
+        for number in (3, 77, 5000):
+            for make in ("source", "program", "source_to_run"):
+                made = [getattr(it, make)(random.Random(number), number) for it in (one, other)]
+                self.assertEqual(made[0], made[1])
 
     def test_rows(self):
         text = (TOP / "examples/tank.st").read_bytes()
@@ -170,6 +200,7 @@ class Playing(unittest.TestCase):
         named = b"PROGRAM p VAR_INPUT I0_a: BOOL; I1_END_VAR: LINT (2 .. 3); END_VAR END_PROGRAM"
         self.assertEqual(inputs_of(named), [(b"I0_a", b"FALSE"), (b"I1_END_VAR", b"2")])
         self.assertEqual(plain_rows(text, 1), b"scan,start,alarm,drained\n1,FALSE,FALSE,0\n")
+        self.assertEqual(inputs_of(b"PROGRAM p VAR_INPUT a: BOOL; VAR_INPUT b: BOOL; END_VAR var_input c: LINT(-4..1);"), [(b"b", b"FALSE")])
 
     @unittest.skipUnless(shutil.which("gcc"), "there is no gcc, which compiles what refuses memory")
     def test_refused_requests(self):
@@ -186,6 +217,88 @@ class Playing(unittest.TestCase):
         ends, count, found = refuse_memory.tried(refusing, ["check"], 0, 0)
         self.assertEqual((count, ends.total()), (3, 6))
         self.assertEqual(found, [f"FOUND  check, request 3{it} refused: signal 11" for it in ("", " and all behind it")])
+
+
+@unittest.skipUnless(limited_runs.compiler(), "there is no C compiler, which compiles what starts processes")
+class PlayingQuickly(Playing):
+    """The same by what starts processes quickly."""
+
+    @classmethod
+    def setUpClass(cls):
+        room = tempfile.TemporaryDirectory()
+        cls.addClassCleanup(room.cleanup)
+        runner = limited_runs.compiled(room.name)
+        cls.runs_by = lambda self, file: Quick(file, runner)
+
+    def test_rows(self):
+        """(What needs no program is tested once.)"""
+
+    test_cases = test_scripts = test_texts = test_refused_requests = test_rows
+
+    def test_less_memory(self):
+        """With less memory a run is the same, or has status 5; else that is found."""
+        for told, fault in (("exit 5", None), ("exit 7", "status 7"), ("echo wrong; exit 5", "another output"), ("kill -11 $$", "signal 11")):
+            found = self.faults(f"[ $(ulimit -v) -gt 400000 ] || {{ {told}; }}; echo ok || exit 4", "check", 60)
+            self.assertEqual({it and it.partition(" with ")[0] for it in found}, {None, fault}, told)
+
+    def test_limits(self):
+        program = self.program("ulimit -v; ulimit -t; ulimit -c; cat")
+        told = program.run(["check"])
+        self.assertEqual((told.status, told.out), (0, b"524288\n10\n0\n"))
+        self.assertEqual(program.run(["check"], megabytes=64).out, b"65536\n10\n0\n")
+
+    def test_its_end(self):
+        """What it started ends with it."""
+        program, number = self.program("echo $$ >new && mv new number; exec sleep 60"), pathlib.Path("number")
+        program.started = program.start()
+        program.started.stdin.write(limited_runs.REQUEST.pack(0, 0, 0, 0, 0))
+        program.started.stdin.flush()
+        self.assertTrue(comes(number.is_file))
+        process = int(number.read_text())
+        program.close()
+        program.outlets.clear()
+        self.assertTrue(comes(lambda: all(it != process or has_ended for it, has_ended, _ in building.processes())))
+
+
+def comes(is_so):
+    """Whether it is so within some seconds."""
+    end = time.monotonic() + 20
+    while not is_so() and time.monotonic() < end:
+        time.sleep(0.01)
+    return is_so()
+
+
+class Whole(unittest.TestCase):
+    """All of `attack.py` over a program that plays a part."""
+
+    def setUp(self):
+        room = tempfile.TemporaryDirectory()
+        self.addCleanup(room.cleanup)
+        self.room = pathlib.Path(room.name)
+
+    def attacked(self, body, *words):
+        file = self.room / "program"
+        file.write_text(f"#!/bin/sh\n{body}\n")
+        file.chmod(0o755)
+        command = [sys.executable, TOP / "tools/attack.py", file, "--keep", self.room, *words]
+        ran = subprocess.run(command, capture_output=True, text=True, timeout=300)
+        self.assertEqual(ran.stderr, "")
+        return ran.returncode, ran.stdout.splitlines()
+
+    def test_in_processes(self):
+        """Several processes make and find the same as one, and keep what they found."""
+        body = 'case $(wc -c <"$2") in *7) kill -11 $$ ;; *) echo "cif: $2: 4 NotRead at 0" >&2; exit 7 ;; esac'
+        ends = [self.attacked(body, "--count", "60", "--seed", "7", "check", *jobs) for jobs in ((), ("-j", "3"))]
+        for status, lines in ends:
+            self.assertEqual(status, 1)
+            self.assertRegex(lines[-5], "^check: 60 attacks in [0-9]+ runs; status -11: [1-9][0-9]*, 4 NotRead: [1-9][0-9]*$")
+            self.assertRegex(lines[-4], "^runs of check by status: -11: [1-9][0-9]*, 7: [1-9][0-9]*; none with 0, 2, 3, 4, 5, 6, 8$")
+            self.assertRegex(lines[-1], "^[1-9][0-9]* findings$")
+        self.assertEqual(*(sorted(lines[:-2]) for _, lines in ends))
+        self.assertEqual(f"{len(list(self.room.glob('check-7-*/a.cif')))} findings", ends[0][1][-1])
+
+    def test_without_findings(self):
+        self.assertEqual(self.attacked("echo ok", "--count", "3", "check")[1][-1], "0 findings")
 
 
 if __name__ == "__main__":

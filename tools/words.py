@@ -39,7 +39,7 @@ def command_fault(word):
     if word.split("=")[0] in OPTIONS:
         return "options stand after FILE"
     names, given = [*TAKES, "explain"], word.lower()
-    near = [it for it in names if len(given) > 2 and it.startswith(given) or distance(given, it) <= 2]
+    near = [it for it in names if len(given) > 2 and it.startswith(given) or abs(len(given) - len(it)) <= 2 and distance(given, it) <= 2]
     return f"did you mean {near[0]}?" if near else f"{word} is no command: {SEE}"
 
 
@@ -87,9 +87,18 @@ def more_fault(command, words):
     return script_word(words[0]) or f"{command} takes {TAKES[command][1]}, and nothing more"
 
 
+def is_text(word):
+    """Whether a word is UTF-8: Python has a surrogate for each byte that is not."""
+    try:
+        word.encode()
+    except UnicodeEncodeError:
+        return False
+    return True
+
+
 def wrong_words(words):
     """Why the words are no command line; `None` where they are one. Without words the reason is empty."""
-    if any("\udc80" <= letter <= "\udcff" for word in words for letter in word):
+    if not all(map(is_text, words)):
         return "a word is not UTF-8"
     if not words:
         return ""
