@@ -1,2 +1,4 @@
 pub mod PartLaws
 pub mod CaseLaws
+pub mod RecordParts
+pub mod CutLaws

@@ -1,2 +1,3 @@
 pub mod CaseTexts
 pub mod Parts
+pub mod Cutting

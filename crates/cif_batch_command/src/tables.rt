@@ -13,12 +13,12 @@ use cif_base::{Memory, Text};
 use cif_batch::{CaseErr, Gate};
 use cif_replay::{row_status, scan_ended};
 use cif_run::{Ended, Status};
-use plc_rows::{Cases, Rows, read_cases};
+use plc_rows::{Cases, Rows};
 use st_check::Checked;
 use std::alloc::Global;
 use std::thread::Threads;
 
-/// The number of threads that replay cases.
+/// The number of threads that read cases and replay them.
 const WORKERS: u32 = 4;
 
 /// The row of the file, counted from 1 over all cases, of a row of a case.
@@ -86,7 +86,7 @@ pub fn cases_text<R: Threads + Sync, G: Gate + Sync>(
     ensures ends { IfErr result (λ e. JudgeEnds cases_judge (view program.now) text.now e.status) }
     ensures named { IfErr result (λ e. IsNamed (view program.now) e.status e.variable) }
 {
-    match read_cases(alloc, text, program) {
+    match cif_batch::read_cases(rt, alloc, text, program, WORKERS) {
         Ok(cases) => tables(rt, alloc, program, &cases, gate),
         Err(error) => Err(Ended::plain(alloc, row_status(error))),
     }
