@@ -29,7 +29,7 @@ use Rattle.cif_sim.specs.Named.{SameAt, choice_names, invariant_names}
 abbrev setting : State → ℤ → Setting
 setting s r = record { algs = λ k. pos 0; state = s; received = r }
 
-joined : {A : Type 0} (P : A → Type 0) (xs ys : List A) → AllByRecursion P xs → AllByRecursion P ys → AllByRecursion P (xs ++ ys)
+pub joined : {A : Type 0} (P : A → Type 0) (xs ys : List A) → AllByRecursion P xs → AllByRecursion P ys → AllByRecursion P (xs ++ ys)
 joined P [] ys f g = g
 joined P (x ∷ xs) ys f g = (f.0, joined P xs ys f.1 g)
 

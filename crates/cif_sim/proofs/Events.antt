@@ -1,5 +1,5 @@
 -- The first event of a list of numbers that passes a test.
-use Rattle.std.proofs.Common.{◌≡◌, ℕ, suc, ◌+◌, ◌-◌, ◌<◌, ◌≤◌, Bool, true, false, ◌&&◌, List, [], ◌∷◌, length, Option, Some, None, cond, find, filter, refl, sym, ap, ◌∙◌, arith}
+use Rattle.std.proofs.Common.{◌≡◌, ℕ, zero, suc, ◌+◌, ◌-◌, ◌<◌, ◌≤◌, Bool, true, false, ◌&&◌, List, [], ◌∷◌, length, Option, Some, None, cond, find, filter, refl, sym, ap, ◌∙◌, arith}
 use Rattle.std.specs.List.{range_with_len}
 use Rattle.cif_system.specs.System.{Class, State}
 use Rattle.cif_system.specs.Step.{is_of}
@@ -18,6 +18,20 @@ find-here p e n h is = ap (find p) (front e n h) ∙ ap (λ b. cond b (Some e) (
 
 pub find-later : (p : ℕ → Bool) (e n : ℕ) → e < n → p e ≡ false → find p (range_with_len (e + 1) (n - (e + 1))) ≡ find p (range_with_len e (n - e))
 find-later p e n h is = sym (ap (find p) (front e n h) ∙ ap (λ b. cond b (Some e) (find p (range_with_len (e + 1) (n - (e + 1))))) is)
+
+-- those from `from` on that fail are passed over
+past-by : (p : ℕ → Bool) (d from n : ℕ) → from + d ≤ n → ((k : ℕ) → from ≤ k → k < from + d → p k ≡ false) → find p (range_with_len (from + d) (n - (from + d))) ≡ find p (range_with_len from (n - from))
+past-by p zero from n h none = ap (λ k. find p (range_with_len k (n - k))) (let q : from + 0 ≡ from = omega arith in q)
+past-by p (suc d) from n h none =
+    ap (λ k. find p (range_with_len k (n - k))) (let q : from + suc d ≡ (from + 1) + d = omega arith in q)
+    ∙ past-by p d (from + 1) n (omega (arith, h)) (λ k low high. none k (omega (arith, low)) (omega (arith, high)))
+    ∙ find-later p from n (omega (arith, h)) (none from (omega arith) (omega arith))
+
+pub find-past : (p : ℕ → Bool) (from to n : ℕ) → from ≤ to → to ≤ n → ((k : ℕ) → from ≤ k → k < to → p k ≡ false) → find p (range_with_len to (n - to)) ≡ find p (range_with_len from (n - from))
+find-past p from to n up within none =
+    let at : to ≡ from + (to - from) = omega (arith, up) in
+    ap (λ k. find p (range_with_len k (n - k))) at
+    ∙ past-by p (to - from) from n (omega (arith, at, within)) (λ k low high. none k low (omega (arith, high, at)))
 
 -- the first number below n that passes
 module _ (p : ℕ → Bool) (n : ℕ) (o : Option ℕ) (whole : find p (range_with_len 0 n) ≡ o) (e : ℕ) (rest : find p (range_with_len e (n - e)) ≡ find p (range_with_len 0 n)) where

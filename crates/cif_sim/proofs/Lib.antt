@@ -7,3 +7,9 @@ pub mod Begun
 pub mod Stepped
 pub mod Alike
 pub mod Idle
+pub mod Listing
+pub mod Marked
+pub mod Untouched
+pub mod Watching
+pub mod Passing
+pub mod Few

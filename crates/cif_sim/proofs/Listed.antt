@@ -1,8 +1,8 @@
 -- The choices of a guarded net by the numbers of their events.
-use Rattle.std.proofs.Common.{◌≡◌, ℕ, suc, ◌+◌, ◌-◌, ◌<◌, ◌≤◌, inl, inr, List, length, map, Some, refl, sym, ap, ◌∙◌, arith}
+use Rattle.std.proofs.Common.{◌≡◌, ℕ, suc, ◌+◌, ◌-◌, ◌<◌, ◌≤◌, inl, inr, List, [], length, map, Some, refl, sym, ap, ◌∙◌, arith}
 use Rattle.std.specs.Prelude.{option_map, slice_get}
 use Rattle.std.proofs.lemmas.Bool.{cases_lt}
-use Rattle.std.proofs.lemmas.Option.{slice_get-map}
+use Rattle.std.proofs.lemmas.Option.{get_or_from_slice_get, slice_get-map}
 use Rattle.cif_system.specs.System.{System}
 use Rattle.cif_system.specs.Step.{Choice}
 use Rattle.cif_system.specs.Choices.{choices}
@@ -12,6 +12,7 @@ use Rattle.cif_net_model.specs.Meaning.{event_in, system_of_net}
 use Rattle.cif_net.specs.View.{choice_tree, event_tree, net_tree}
 use Rattle.cif_net.specs.declared.guarded.Guarded.{Guarded}
 use Rattle.cif_net.specs.declared.listing.Choice as listing
+use Rattle.cif_eval.specs.Choices.{choice_at}
 use Rattle.cif_net.proofs.Kept.{choices-listed}
 use Rattle.cif_sim.specs.Starts.{choices_below, items_below}
 use Rattle.cif_sim.proofs.Firsts.{get-some}
@@ -72,6 +73,12 @@ module _ (g : Guarded) where
     unfolding choices_below items_below
     event-in k c from to at =
         number-in (choices meant) e rest k (full_choice (net_tree g.plain.net) (choice_tree c)) from to (ap (λ xs. slice_get xs k) (sym (all-segments (e + suc rest) rest-is)) ∙ event-at k c at)
+
+    pub event-of : (k : ℕ) → choices_below meant e ≤ k → k < choices_below meant (suc e) → (choice_at g k).0 ≡ e
+    event-of k from to =
+        let c = get-some g.choices k (omega (arith, to, below-all (suc e) inside)) in
+        ap (λ (x : ℕ × Choice). x.0) (get_or_from_slice_get all_of k (full_choice (net_tree g.plain.net) (choice_tree c.0)) (0, []) (event-at k c.0 c.1))
+        ∙ event-in k c.0 from to c.1
 
     pub event-behind : (k : ℕ) (c : listing.Choice) → choices_below meant (suc e) ≤ k → slice_get g.choices k ≡ Some c → e < c.event
     unfolding choices_below

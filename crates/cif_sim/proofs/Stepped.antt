@@ -5,13 +5,13 @@ use Rattle.std.proofs.lemmas.Option.{get_or_from_slice_get}
 use Rattle.cif_system.specs.System.{State}
 use Rattle.cif_system.specs.Choices.{first_step}
 use Rattle.cif_net.specs.declared.guarded.Guarded.{Guarded}
-use Rattle.cif_eval.specs.Choices.{system_of}
+use Rattle.cif_eval.specs.Choices.{choice_at, system_of}
 use Rattle.cif_eval.specs.declared.scratch.Scratch.{Scratch}
 use Rattle.cif_sim.specs.Ready.{IsReady}
 use Rattle.cif_sim.specs.Starts.{choices_below}
 use Rattle.cif_sim.specs.Tried.{IsFirst, Makes, after_at, makes_at}
 use Rattle.cif_sim.proofs.Firsts.{first-makes, none-makes}
-use Rattle.cif_sim.proofs.Listed.{all-segments, all_of, below-all, events-count, rest, rest-is}
+use Rattle.cif_sim.proofs.Listed.{all-segments, all_of, below-all, event-of, events-count, rest, rest-is}
 
 module _ (g : Guarded) (s : State) (e : ℕ) (inside : e < length g.plain.net.events) where
   pub first-found : (o : Option ℕ) → IsFirst g s (choices_below (system_of g) e) (choices_below (system_of g) (suc e)) o → option_map (after_at g s) o ≡ first_step (system_of g) s e
@@ -50,3 +50,10 @@ module _ (g : Guarded) (events : ℕ) (starts : List ℕ) (scratch : Scratch) (r
         made : (o : Option ℕ) → IsFirst g s (choices_below (system_of g) e) (choices_below (system_of g) (suc e)) o → IfSome o (Makes g s)
         made None h = tt
         made (Some k) h = found-makes g s e inside k h
+
+    pub of-one-event : IfSome o (λ k. (choice_at g k).0 ≡ e)
+    of-one-event = found o is-first
+      where
+        found : (o : Option ℕ) → IsFirst g s (choices_below (system_of g) e) (choices_below (system_of g) (suc e)) o → IfSome o (λ k. (choice_at g k).0 ≡ e)
+        found None h = tt
+        found (Some k) h = event-of g e inside k h.0 h.1

@@ -1,5 +1,10 @@
+pub mod Marks
 pub mod Named
+pub mod Names
+pub mod Readers
 pub mod Ready
 pub mod Simulated
 pub mod Starts
 pub mod Tried
+pub mod Waking
+pub mod Watched

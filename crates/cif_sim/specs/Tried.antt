@@ -1,6 +1,6 @@
 -- Choices that are tried one after the other.
 use Rattle.std.specs.Prelude.{◌≡◌, ◌&&◌, ◌<◌, ◌≤◌, ℕ, Bool, true, false, Option, Some, None, is_some, length}
-use Rattle.cif_system.specs.System.{Class, State}
+use Rattle.cif_system.specs.System.{Class, IsState, State}
 use Rattle.cif_system.specs.Step.{after, is_of, makes_step}
 use Rattle.cif_system.specs.Choices.{first_step}
 use Rattle.cif_net.specs.declared.guarded.Guarded.{Guarded}
@@ -18,6 +18,13 @@ after_at g s k = after (system_of g) s (choice_at g k).1
 pub record Makes (g : Guarded) (s : State) (k : ℕ) : Type 0 where
   pub listed : k < length g.choices
   pub step : makes_at g s k ≡ true
+
+-- choice k is one of event e, and its step leads from the valid state s to t
+pub record Fires (g : Guarded) (s : State) (e k : ℕ) (t : State) : Type 0 where
+  pub valid : IsState (system_of g) s
+  pub makes : Makes g s k
+  pub of_event : (choice_at g k).0 ≡ e
+  pub after : t ≡ after_at g s k
 
 -- no choice with a number from `from` on and below `to` makes a step
 abbrev pub NoneMakes : Guarded → State → (from to : ℕ) → Type 0

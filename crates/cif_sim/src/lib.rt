@@ -4,10 +4,14 @@
 mod classes;
 mod inputs;
 mod laws;
+mod marks;
+mod names;
+mod readers;
 mod sim;
 mod starts;
 mod stepper;
 mod tries;
+mod waking;
 
 pub use laws::idle_events_stay_idle;
 pub use sim::{NotEnabled, SetErr, Sim};

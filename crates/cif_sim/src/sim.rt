@@ -9,7 +9,10 @@ ghost use Rattle.cif_eval.specs.Choices.{system_of};
 ghost use Rattle.cif_sim_model.specs.Runs.{first_event, first_event_of, input_fits, with_input};
 
 use crate::inputs::{put, takes};
+use crate::marks::Marks;
+use crate::readers::Readers;
 use crate::stepper::Stepper;
+use crate::waking::{wake_after, wake_at};
 use cif_base::Memory;
 use cif_net::{Class, Guarded, State};
 use std::alloc::Global;
@@ -31,16 +34,17 @@ pub struct NotEnabled;
 pub struct Sim<'a> {
     stepper: Stepper<'a>,
     state: State,
+    readers: Readers,
+    marks: Marks,
 }
 
 impl<'a> Model for Sim<'a> {
     ghost use Rattle.std.specs.Coded.{codes};
-    ghost use Rattle.cif_system.specs.System.{IsState};
     ghost use Rattle.cif_net_expr.specs.contracts.expressions.NetForm as expressions;
     ghost use Rattle.cif_net_expr.specs.contracts.updates.NetUpdate as updates;
     ghost use Rattle.cif_net.specs.View.{state_tree};
-    ghost use Rattle.cif_eval.specs.Choices.{system_of};
     ghost use Rattle.cif_sim.specs.Simulated.{Simulated};
+    ghost use Rattle.cif_sim.specs.Watched.{IsWatched};
 
     ghost Value = { Simulated };
 
@@ -48,7 +52,7 @@ impl<'a> Model for Sim<'a> {
 
     ghost view = { λ x. record { guarded = x.stepper; state = state_tree x.state } };
 
-    ghost invariant = { λ x. IsState (system_of x.stepper) (state_tree x.state) };
+    ghost invariant = { λ x. IsWatched x.stepper (state_tree x.state) x.readers x.marks };
 }
 
 impl<'a> Sim<'a> {
@@ -58,8 +62,16 @@ impl<'a> Sim<'a> {
         ensures start { IfOk result (λ sim. sim.state ≡ initial (system_of guarded.now)) }
     {
         let stepper = Stepper::new(alloc, guarded)?;
+        let events = stepper.events();
         let state = State::initial(alloc, &guarded.plain.net)?;
-        Ok(Sim { stepper, state })
+        let readers = Readers::new(alloc, guarded, events)?;
+        let marks = Marks::new(alloc, events)?;
+        Ok(Sim {
+            stepper,
+            state,
+            readers,
+            marks,
+        })
     }
 
     /// The state.
@@ -84,6 +96,7 @@ impl<'a> Sim<'a> {
             return Err(SetErr::OutOfRange { value });
         }
         put(guarded, input, value, &mut self.state);
+        wake_at(&self.readers.inputs, input, &mut self.marks);
         Ok(())
     }
 
@@ -95,9 +108,11 @@ impl<'a> Sim<'a> {
         ensures none { OnErr result (first_step (system_of self.old.guarded) self.old.state event ≡ None) }
         ensures kept { OnErr result (self.new ≡ self.old) }
     {
-        if !self.stepper.fire(event, &mut self.state) {
+        let Some(choice) = self.stepper.fire(event, &mut self.state) else {
             return Err(NotEnabled);
-        }
+        };
+        let guarded = self.stepper.guarded();
+        wake_after(guarded, choice, &self.readers, &mut self.marks);
         Ok(())
     }
 
@@ -106,7 +121,7 @@ impl<'a> Sim<'a> {
         ensures first { result ≡ first_event (system_of self.old.guarded) self.old.state }
         ensures kept { self.new ≡ self.old }
     {
-        self.stepper.first(&self.state)
+        self.stepper.first(&self.state, &mut self.marks)
     }
 
     /// The lowest-numbered event of a class that has a step.
@@ -114,6 +129,6 @@ impl<'a> Sim<'a> {
         ensures first { result ≡ first_event_of (system_of self.old.guarded) (class_of class) self.old.state }
         ensures kept { self.new ≡ self.old }
     {
-        self.stepper.first_of(class, &self.state)
+        self.stepper.first_of(class, &self.state, &mut self.marks)
     }
 }

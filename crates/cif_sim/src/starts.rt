@@ -6,13 +6,21 @@ ghost use Rattle.cif_eval.specs.Choices.{system_of};
 ghost use Rattle.cif_sim.specs.Starts.{AreStarts};
 
 use cif_base::{Items, Memory};
-use cif_net::{Choice, Guarded};
+use cif_net::{Choice, Guarded, Net};
 use std::alloc::Global;
 
-/// A count as a number of 32 bits, or `Memory` beyond these.
-pub(crate) fn number(count: usize) -> Result<u32, Memory>
-    ensures { IfOk result (λ n. n ≡ count) }
+/// The number of events. A net has at most 100,000 objects.
+pub(crate) fn count_events(net: &Net) -> u32
+    ensures { result ≡ length net.now.events }
 {
+    net.events.len() as u32
+}
+
+/// The number of choices, or `Memory` beyond 32 bits, since only their memory bounds them.
+fn count_choices(choices: &[Choice]) -> Result<u32, Memory>
+    ensures { IfOk result (λ count. count ≡ length choices.now) }
+{
+    let count = choices.len();
     match u32::try_from(count) {
         Ok(number) => Ok(number),
         Err(_) => Err(Memory),
@@ -42,7 +50,7 @@ pub(crate) fn starts(alloc: Global, guarded: &Guarded, events: u32) -> Result<It
     ensures { IfOk result (AreStarts (system_of guarded.now)) }
 {
     let choices = guarded.choices.as_slice();
-    let count = number(choices.len())?;
+    let count = count_choices(choices)?;
     let mut starts = Items::new(alloc);
     let mut next = 0;
     starts.push(next)?;

@@ -1,17 +1,18 @@
 //! The first steps of a guarded net's events.
 
-ghost use Rattle.std.specs.Prelude.{◌≡◌, ◌<◌, IfOk, IfSome, None, Some, length, option_map};
-ghost use Rattle.std.specs.Bool.{OnFalse, OnTrue};
+ghost use Rattle.std.specs.Prelude.{◌≡◌, ◌<◌, IfNone, IfOk, IfSome, None, OnSome, Some, length, option_map};
 ghost use Rattle.cif_system.specs.System.{IsState};
 ghost use Rattle.cif_system.specs.Choices.{first_step};
 ghost use Rattle.cif_net.specs.Parts.{class_of};
 ghost use Rattle.cif_net.specs.View.{state_tree};
-ghost use Rattle.cif_eval.specs.Choices.{system_of};
+ghost use Rattle.cif_eval.specs.Choices.{choice_at, system_of};
 ghost use Rattle.cif_sim_model.specs.Runs.{first_event, first_event_of};
-ghost use Rattle.cif_sim.specs.Tried.{Makes, after_at, has_step, has_step_in};
+ghost use Rattle.cif_sim.specs.Tried.{Fires, Makes, after_at, has_step, has_step_in};
+ghost use Rattle.cif_sim.specs.Waking.{AreIdle};
 
 use crate::classes::is_of;
-use crate::starts::{number, starts};
+use crate::marks::Marks;
+use crate::starts::{count_events, starts};
 use crate::tries::{first_choice, step_by};
 use cif_base::{Items, Memory};
 use cif_eval::Scratch;
@@ -49,7 +50,7 @@ impl<'a> Stepper<'a> {
     pub(crate) fn new(alloc: Global, guarded: &'a Guarded) -> Result<Stepper<'a>, Memory>
         ensures { IfOk result (λ x. x ≡ guarded.now) }
     {
-        let events = number(guarded.plain.net.events.len())?;
+        let events = count_events(&guarded.plain.net);
         let starts = starts(alloc, guarded, events)?;
         let scratch = Scratch::new(alloc, guarded)?;
         Ok(Stepper {
@@ -67,7 +68,7 @@ impl<'a> Stepper<'a> {
     }
 
     /// The number of events.
-    fn events(&self) -> u32
+    pub(crate) fn events(&self) -> u32
         ensures { result ≡ length self.now.plain.net.events }
     {
         self.events
@@ -81,6 +82,7 @@ impl<'a> Stepper<'a> {
         ensures first { option_map (after_at self.old (state_tree state.now)) result
             ≡ first_step (system_of self.old) (state_tree state.now) event }
         ensures makes { IfSome result (Makes self.old (state_tree state.now)) }
+        ensures of_event { IfSome result (λ k. (choice_at self.old k).0 ≡ event) }
     {
         let at = event as usize;
         let starts = self.starts.as_slice();
@@ -88,23 +90,21 @@ impl<'a> Stepper<'a> {
         let to = starts[at + 1];
         first_choice(self.guarded, from, to, state, &mut self.scratch)
     }
-    /// Makes the first step of an event, if it has one.
-    pub(crate) fn fire(&mut self, event: u32, state: &mut State) -> bool
+
+    /// Makes the first step of an event, if it has one, and returns the choice that makes it.
+    pub(crate) fn fire(&mut self, event: u32, state: &mut State) -> Option<u32>
         requires event { event < length self.old.plain.net.events }
         requires state { IsState (system_of self.old) (state_tree state.old) }
         ensures net { self.new ≡ self.old }
         ensures state { IsState (system_of self.old) (state_tree state.new) }
-        ensures fired { OnTrue result (first_step (system_of self.old) (state_tree state.old) event ≡ Some (state_tree state.new)) }
-        ensures none { OnFalse result (first_step (system_of self.old) (state_tree state.old) event ≡ None) }
-        ensures stays { OnFalse result (state_tree state.new ≡ state_tree state.old) }
+        ensures fired { OnSome result (first_step (system_of self.old) (state_tree state.old) event ≡ Some (state_tree state.new)) }
+        ensures choice { IfSome result (λ k. Fires self.old (state_tree state.old) event k (state_tree state.new)) }
+        ensures none { IfNone result (first_step (system_of self.old) (state_tree state.old) event ≡ None) }
+        ensures stays { IfNone result (state_tree state.new ≡ state_tree state.old) }
     {
-        match self.choice(event, state) {
-            Some(choice) => {
-                step_by(self.guarded, choice, state, &mut self.scratch);
-                true
-            }
-            None => false,
-        }
+        let choice = self.choice(event, state)?;
+        step_by(self.guarded, choice, state, &mut self.scratch);
+        Some(choice)
     }
 
     /// Whether an event has a step.
@@ -118,43 +118,69 @@ impl<'a> Stepper<'a> {
         self.choice(event, state).is_some()
     }
 
-    /// Whether an event is of a class and has a step.
-    #[tactic(auto, unfolding(crate::specs::Tried::has_step_in))]
-    fn has_step_in(&mut self, class: Class, event: u32, state: &State) -> bool
+    /// Whether an event has a step. The mark of one without is turned off.
+    fn tries(&mut self, event: u32, state: &State, marks: &mut Marks) -> bool
         requires event { event < length self.old.plain.net.events }
         requires state { IsState (system_of self.old) (state_tree state.now) }
+        requires idle { AreIdle self.old (state_tree state.now) marks.old }
         ensures net { self.new ≡ self.old }
-        ensures step { result ≡ has_step_in self.old (class_of class) (state_tree state.now) event }
+        ensures step { result ≡ has_step self.old (state_tree state.now) event }
+        ensures idle { AreIdle self.old (state_tree state.now) marks.new }
     {
-        is_of(self.guarded, class, event) && self.has_step(event, state)
+        let has_step = self.has_step(event, state);
+        if !has_step {
+            marks.sleep(event);
+        }
+        has_step
     }
 
-    /// The lowest-numbered event that has a step.
-    pub(crate) fn first(&mut self, state: &State) -> Option<u32>
-        requires { IsState (system_of self.old) (state_tree state.now) }
+    /// Whether an event is of a class and has a step.
+    #[tactic(auto, unfolding(crate::specs::Tried::has_step_in))]
+    fn tries_in(&mut self, class: Class, event: u32, state: &State, marks: &mut Marks) -> bool
+        requires event { event < length self.old.plain.net.events }
+        requires state { IsState (system_of self.old) (state_tree state.now) }
+        requires idle { AreIdle self.old (state_tree state.now) marks.old }
+        ensures net { self.new ≡ self.old }
+        ensures step { result ≡ has_step_in self.old (class_of class) (state_tree state.now) event }
+        ensures idle { AreIdle self.old (state_tree state.now) marks.new }
+    {
+        is_of(self.guarded, class, event) && self.tries(event, state, marks)
+    }
+
+    /// The lowest-numbered event that has a step. Events whose mark is off are passed over.
+    pub(crate) fn first(&mut self, state: &State, marks: &mut Marks) -> Option<u32>
+        requires state { IsState (system_of self.old) (state_tree state.now) }
+        requires idle { AreIdle self.old (state_tree state.now) marks.old }
         ensures net { self.new ≡ self.old }
         ensures first { result ≡ first_event (system_of self.old) (state_tree state.now) }
+        ensures idle { AreIdle self.old (state_tree state.now) marks.new }
     {
         let events = self.events();
-        for event in 0..events {
-            if self.has_step(event, state) {
+        let mut event = marks.next(0);
+        while event < events {
+            if self.tries(event, state, marks) {
                 return Some(event);
             }
+            event = marks.next(event + 1);
         }
         None
     }
 
-    /// The lowest-numbered event of a class that has a step.
-    pub(crate) fn first_of(&mut self, class: Class, state: &State) -> Option<u32>
-        requires { IsState (system_of self.old) (state_tree state.now) }
+    /// The lowest-numbered event of a class that has a step. Events whose mark is off are passed over.
+    pub(crate) fn first_of(&mut self, class: Class, state: &State, marks: &mut Marks) -> Option<u32>
+        requires state { IsState (system_of self.old) (state_tree state.now) }
+        requires idle { AreIdle self.old (state_tree state.now) marks.old }
         ensures net { self.new ≡ self.old }
         ensures first { result ≡ first_event_of (system_of self.old) (class_of class) (state_tree state.now) }
+        ensures idle { AreIdle self.old (state_tree state.now) marks.new }
     {
         let events = self.events();
-        for event in 0..events {
-            if self.has_step_in(class, event, state) {
+        let mut event = marks.next(0);
+        while event < events {
+            if self.tries_in(class, event, state, marks) {
                 return Some(event);
             }
+            event = marks.next(event + 1);
         }
         None
     }
