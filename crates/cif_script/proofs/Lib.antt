@@ -4,3 +4,4 @@ pub mod Finding
 pub mod Naming
 pub mod Saying
 pub mod Listing
+pub mod Within

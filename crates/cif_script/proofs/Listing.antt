@@ -9,7 +9,7 @@ use Rattle.std.proofs.lemmas.Option.{slice_get_past, slice_get_read}
 use native.Mathlib.Decide.{dec_lt}
 use Rattle.grammar.specs.Pieces.{Text}
 use Rattle.cif_sim_model.specs.Texts.{changed, listed}
-use Rattle.cif_script.specs.Changes.{change_of}
+use Rattle.cif_script.specs.Changes.{change_at, change_of}
 use Rattle.cif_script.proofs.Finding.{drop-item}
 
 pub listed-append : (ts us : List Text) → listed (ts ++ us) ≡ listed ts ++ listed us
@@ -52,33 +52,27 @@ module _ {N A : Type 0} (same : A → A → Bool) (tell : N × A → Text) where
       by true = refl
       by false = refl
 
-  module _ {L M : Type 0} (f : L → M) (g : M → N) (xs : List L) (olds news : List A) where
+  module _ (ns : List N) (olds news : List A) where
     -- what is left from a number on
     abbrev pub changes_from : ℕ → Text
-    changes_from k = changes (map g (map f (drop k xs))) (drop k olds) (drop k news)
+    changes_from k = changes (drop k ns) (drop k olds) (drop k news)
 
-    by_places : (k : ℕ) (n : N) (ns : List N) → At olds k → At news k
-        → changes (n ∷ ns) (drop k olds) (drop k news) ≡ change_of same tell n (slice_get olds k) (slice_get news k) ++ changes ns (drop (suc k) olds) (drop (suc k) news)
-    by_places k n ns (inl o) w = rw (o.0, o.1, o.2) (sym (no_old ns (drop (suc k) news)))
-    by_places k n ns (inr o) (inl w) = rw (o.1, o.2, w.0, w.1, w.2) (no_new (n ∷ ns) (o.0 ∷ drop (suc k) olds) ∙ sym (no_new ns (drop (suc k) olds)))
-    by_places k n ns (inr o) (inr w) = rw (o.1, o.2, w.1, w.2) (both n ns o.0 w.0 (drop (suc k) olds) (drop (suc k) news))
+    by_places : (k : ℕ) (n : N) (left : List N) → At olds k → At news k
+        → changes (n ∷ left) (drop k olds) (drop k news) ≡ change_of same tell n (slice_get olds k) (slice_get news k) ++ changes left (drop (suc k) olds) (drop (suc k) news)
+    by_places k n left (inl o) w = rw (o.0, o.1, o.2) (sym (no_old left (drop (suc k) news)))
+    by_places k n left (inr o) (inl w) = rw (o.1, o.2, w.0, w.1, w.2) (no_new (n ∷ left) (o.0 ∷ drop (suc k) olds) ∙ sym (no_new left (drop (suc k) olds)))
+    by_places k n left (inr o) (inr w) = rw (o.1, o.2, w.1, w.2) (both n left o.0 w.0 (drop (suc k) olds) (drop (suc k) news))
+
+    by_names : (k : ℕ) → At ns k → changes_from k ≡ change_at same tell ns olds news k ++ changes_from (suc k)
+    by_names k (inl e) = rw (e.0, e.1, e.2) refl
+    by_names k (inr e) = rw (e.1, e.2) (by_places k e.0 (drop (suc k) ns) (at olds k) (at news k))
 
     -- the first of it
-    changes_next : (k : ℕ) (x : L) → k < length xs → x ≡ get_or xs k x → changes_from k ≡ change_of same tell (g (f x)) (slice_get olds k) (slice_get news k) ++ changes_from (k + 1)
-    changes_next k x l e =
-        ap (λ ys. changes (map g (map f ys)) (drop k olds) (drop k news)) (drop-item xs k x l e) ∙ by_places k (g (f x)) (map g (map f (drop (k + 1) xs))) (at olds k) (at news k)
-        ∙ ap (λ m. change_of same tell (g (f x)) (slice_get olds k) (slice_get news k) ++ changes (map g (map f (drop (k + 1) xs))) (drop m olds) (drop m news)) (sym (add-one k))
+    pub changes_next : (k : ℕ) → changes_from k ≡ change_at same tell ns olds news k ++ changes_from (suc k)
+    changes_next k = by_names k (at ns k)
 
-    pub change_told : (k : ℕ) (x : L) (into new whole : Text) (a b : Option A) → k < length xs → x ≡ get_or xs k x → a ≡ slice_get olds k → b ≡ slice_get news k
-        → new ≡ into ++ change_of same tell (g (f x)) a b → into ++ changes_from k ≡ whole → new ++ changes_from (k + 1) ≡ whole
-    change_told k x into new whole a b l e old young n h =
-        ap (λ t. t ++ changes_from (k + 1)) (n ∙ (λ i. into ++ change_of same tell (g (f x)) (old i) (young i)))
-        ∙ append_assoc into (change_of same tell (g (f x)) (slice_get olds k) (slice_get news k)) (changes_from (k + 1))
-        ∙ ap (λ t. into ++ t) (sym (changes_next k x l e)) ∙ h
-
-    pub all_told : (k : ℕ) (into whole : Text) → length xs ≤ k → into ++ changes_from k ≡ whole → into ≡ whole
-    all_told k into whole l h =
-        sym (append-nil into) ∙ ap (λ ys. into ++ changes (map g (map f ys)) (drop k olds) (drop k news)) (sym (drop_all k xs l)) ∙ h
+    pub changes_end : (k : ℕ) → length ns ≤ k → changes_from k ≡ []
+    changes_end k l = ap (λ ys. changes ys (drop k olds) (drop k news)) (drop_all k ns l)
 
 -- where one of two lists ends, the pairs end
 pub pairs_end : {L M N A : Type 0} (f : L → M) (g : M → N) (xs : List L) (ys : List A) (n : ℕ) → n ≡ min (length xs) (length ys) → zip (map g (map f (drop n xs))) (drop n ys) ≡ []
@@ -91,7 +85,7 @@ pairs_end f g xs ys n e =
 -- ---- a thing by its number
 
 module _ {L M N : Type 0} (f : L → M) (g : M → N) where
-  named_at : (xs : List L) (k : ℕ) → slice_get (map g (map f xs)) k ≡ option_map (λ x. g (f x)) (slice_get xs k)
+  pub named_at : (xs : List L) (k : ℕ) → slice_get (map g (map f xs)) k ≡ option_map (λ x. g (f x)) (slice_get xs k)
   named_at [] k = refl
   named_at (x ∷ xs) zero = refl
   named_at (x ∷ xs) (suc k) = named_at xs k

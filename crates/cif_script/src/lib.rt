@@ -6,10 +6,12 @@ mod cutting;
 mod numbers;
 mod paths;
 mod telling;
+mod touched;
 mod values;
 mod writing;
 
 pub use action::Action;
 pub use cutting::{ScriptLines, script_lines};
 pub use paths::Paths;
+pub use touched::Touched;
 pub use writing::{put_set, put_start, put_step};

@@ -13,3 +13,4 @@ pub mod Untouched
 pub mod Watching
 pub mod Passing
 pub mod Few
+pub mod Staying

@@ -5,6 +5,7 @@ pub mod Readers
 pub mod Ready
 pub mod Simulated
 pub mod Starts
+pub mod Stays
 pub mod Tried
 pub mod Waking
 pub mod Watched

@@ -13,5 +13,5 @@ mod stepper;
 mod tries;
 mod waking;
 
-pub use laws::idle_events_stay_idle;
+pub use laws::{choices_leave_others, idle_events_stay_idle};
 pub use sim::{NotEnabled, SetErr, Sim};

@@ -7,6 +7,7 @@ ghost use Rattle.cif_net.specs.Parts.{class_of};
 ghost use Rattle.cif_net.specs.View.{state_tree};
 ghost use Rattle.cif_eval.specs.Choices.{system_of};
 ghost use Rattle.cif_sim_model.specs.Runs.{first_event, first_event_of, input_fits, with_input};
+ghost use Rattle.cif_sim.specs.Tried.{Fires};
 
 use crate::inputs::{put, takes};
 use crate::marks::Marks;
@@ -100,11 +101,12 @@ impl<'a> Sim<'a> {
         Ok(())
     }
 
-    /// Makes the first step of an event: that of the first of its choices that makes one.
-    pub fn fire(&mut self, event: u32) -> Result<(), NotEnabled>
+    /// Makes the first step of an event: that of the first of its choices that makes one, whose number it returns.
+    pub fn fire(&mut self, event: u32) -> Result<u32, NotEnabled>
         requires { event < length (system_of self.old.guarded).events }
         ensures net { self.new.guarded ≡ self.old.guarded }
         ensures fired { OnOk result (first_step (system_of self.old.guarded) self.old.state event ≡ Some self.new.state) }
+        ensures choice { IfOk result (λ k. Fires self.old.guarded self.old.state event k self.new.state) }
         ensures none { OnErr result (first_step (system_of self.old.guarded) self.old.state event ≡ None) }
         ensures kept { OnErr result (self.new ≡ self.old) }
     {
@@ -113,7 +115,7 @@ impl<'a> Sim<'a> {
         };
         let guarded = self.stepper.guarded();
         wake_after(guarded, choice, &self.readers, &mut self.marks);
-        Ok(())
+        Ok(choice)
     }
 
     /// The lowest-numbered event that has a step.

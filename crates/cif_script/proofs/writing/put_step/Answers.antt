@@ -19,10 +19,10 @@ returns c =
     c.in_ok-push-2.ensures.items
     ∙ ap (λ (t : Text). t ++ codes "\n")
     (c.in_ok-put_new_values.ensures
-    ∙ (λ i. c.put_new_places.new.into.items ++ listed (map value_told (changed int_eq (vars_named (c.as_slice-vars.ensures i)) (c.as_slice-3.ensures i) (c.as_slice-4.ensures i))))
+    ∙ (λ i. c.put_new_places.new.into.items ++ listed (map value_told (changed int_eq (vars_named (c.as_slice-5.ensures i)) (c.as_slice-7.ensures i) (c.as_slice-8.ensures i))))
     ∙ ap (λ (t : Text). t ++ listed values)
     (c.in_ok-put_new_places.ensures
-    ∙ (λ i. c.put_event.new.into.items ++ listed (map place_told (changed nat_eq (autos_named (c.as_slice-autos.ensures i)) (c.as_slice.ensures i) (c.as_slice-2.ensures i))))
+    ∙ (λ i. c.put_event.new.into.items ++ listed (map place_told (changed nat_eq (autos_named (c.as_slice.ensures i)) (c.as_slice-3.ensures i) (c.as_slice-4.ensures i))))
     ∙ ap (λ (t : Text). t ++ listed places)
     (c.in_ok-put_event.ensures
     ∙ ap (λ (t : Text). t ++ event)

@@ -5,6 +5,7 @@ use Rattle.cif_net.specs.View.{state_tree}
 use Rattle.cif_net.specs.declared.guarded.Guarded.{Guarded}
 use Rattle.cif_eval.specs.Choices.{system_of}
 use Rattle.cif_sim.specs.Simulated.{Simulated}
+use Rattle.cif_sim.specs.Tried.{Fires}
 use Rattle.cif_sim.specs.Watched.{IsWatched}
 use Rattle.cif_sim.proofs.Watching.{fired-watched}
 use Rattle.cif_sim.proofs.sim.Sim.fire.Goals as goal
@@ -21,3 +22,6 @@ invariant_of-self-2 c =
 
 pub returns-clause-fired : goal.returns-clause-fired
 returns-clause-fired c = subst (λ (x : Simulated). first_step (system_of x.guarded) x.state c.args.event ≡ Some (state_tree c.fire.new.state)) c.self.view_is c.in-Some.ensures.fired
+
+pub returns-clause-choice : goal.returns-clause-choice
+returns-clause-choice c = subst (λ (x : Simulated). Fires x.guarded x.state c.args.event c.in-Some.choice (state_tree c.fire.new.state)) c.self.view_is c.in-Some.ensures.choice
