@@ -71,7 +71,10 @@ fn put_fire(
     requires { sim.old.guarded ≡ guarded.now }
     ensures { sim.new.guarded ≡ guarded.now }
 {
-    let ended = sim.fire(event(guarded, word)?);
+    let ended = match sim.fire(event(guarded, word)?) {
+        Ok(_) => Ok(()),
+        Err(why) => Err(why),
+    };
     Ok(writeln!(page, "  {ended:?}")?)
 }
 

@@ -7,3 +7,8 @@ pub mod Sizes
 pub mod Running
 pub mod FirstRunning
 pub mod Halting
+pub mod Handed
+pub mod Changing
+pub mod Ordered
+pub mod Copied
+pub mod Tables

@@ -11,9 +11,9 @@ ghost use Rattle.cif_sim_run.specs.Left.{IsSized, Shows, first_left, names_in};
 
 use crate::acting::step_by_first;
 use crate::lines::LineWriter;
+use crate::made::Made;
 use cif_io::{Sink, SinkErr, put_all};
 use cif_net::Guarded;
-use cif_script::Action;
 use cif_sim::Sim;
 use std::alloc::Global;
 
@@ -36,7 +36,7 @@ pub fn run_first<O: Sink>(
     let Ok(mut sim) = Sim::new(alloc, guarded) else {
         return Err(SinkErr::Memory);
     };
-    let Ok(mut lines) = LineWriter::new(alloc, &guarded.plain.net) else {
+    let Ok(mut lines) = LineWriter::new(alloc, guarded) else {
         return Err(SinkErr::Memory);
     };
     lines.write_start(out)?;
@@ -51,7 +51,7 @@ fn make_steps<O: Sink>(
     out: &mut O,
 ) -> Result<(), SinkErr>
     requires few { steps ≤ 1000000 }
-    requires net { lines.old.net.now ≡ sim.old.guarded.plain.net }
+    requires net { lines.old.touches ≡ sim.old.guarded }
     requires start { lines.old.steps ≡ 0 }
     requires shown { Shows (state_tree lines.old.before) sim.old.state }
     requires sized { IsSized (system_of sim.old.guarded) sim.old.state }
@@ -64,7 +64,7 @@ fn make_steps<O: Sink>(
 {
     while lines.steps() < steps {
         match step_by_first(sim) {
-            Some(event) => lines.write_action(Action::Fire { event }, sim.state(), out)?,
+            Some(fired) => lines.write_action(Made::Fire(fired), sim.state(), out)?,
             None => return put_all(out, b"deadlock\n"),
         }
     }

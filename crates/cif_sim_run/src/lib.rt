@@ -8,7 +8,9 @@ mod first;
 mod following;
 mod halt;
 mod lines;
+mod made;
 mod script;
+mod touches;
 
 pub use first::run_first;
 pub use following::follow_script;

@@ -39,7 +39,7 @@ pub fn run_script<O: Sink>(
 {
     let paths = Paths::new(alloc, &guarded.plain.net)?;
     let mut sim = Sim::new(alloc, guarded)?;
-    let mut lines = LineWriter::new(alloc, &guarded.plain.net)?;
+    let mut lines = LineWriter::new(alloc, guarded)?;
     lines.write_start(out)?;
     write_lines(&mut sim, &paths, script, &mut lines, out)
 }
@@ -54,7 +54,7 @@ fn write_lines<O: Sink>(
 ) -> Result<(), Halt>
     requires short { length script.now ≤ 4194304 }
     requires names { paths.now ≡ names_in sim.old.guarded }
-    requires net { lines.old.net.now ≡ sim.old.guarded.plain.net }
+    requires net { lines.old.touches ≡ sim.old.guarded }
     requires start { lines.old.steps ≡ 0 }
     requires shown { Shows (state_tree lines.old.before) sim.old.state }
     requires sized { IsSized (system_of sim.old.guarded) sim.old.state }
@@ -69,11 +69,11 @@ fn write_lines<O: Sink>(
     let mut number = 0;
     for line in script_lines(script) {
         number += 1;
-        let action = match follow_line(sim, paths, line) {
-            Ok(action) => action,
+        let made = match follow_line(sim, paths, line) {
+            Ok(made) => made,
             Err(why) => return Err(Halt::Stopped { line: number, why }),
         };
-        lines.write_action(action, sim.state(), out)?;
+        lines.write_action(made, sim.state(), out)?;
     }
     Ok(())
 }

@@ -2,16 +2,17 @@
 use Rattle.std.proofs.Common.{◌≡◌, ◌<◌, Some, None, refl, sym, ap, subst, ◌∙◌, arith}
 use Rattle.cif_eval.specs.Choices.{system_of}
 use Rattle.cif_io.specs.Written.{grown}
-use Rattle.cif_net.specs.View.{net_tree, state_tree}
+use Rattle.cif_net.specs.View.{state_tree}
 use Rattle.cif_system.specs.Scan as scan
 use Rattle.cif_sim_model.specs.Runs.{first_event}
 use Rattle.cif_sim_model.specs.Script.{fires}
 use Rattle.cif_sim_model.specs.Simulation.{moment_text}
-use Rattle.cif_sim_names.specs.Nets.{names_of_net}
 use Rattle.cif_sim_run.specs.Halts.{GrewByPart}
 use Rattle.cif_sim_run.specs.Left.{FirstRunning, Shows, names_in}
 use Rattle.cif_sim_run.proofs.FirstRunning.{all-made, at-first-step, dead, next-step, part-of-dead, part-of-step, step-sizes}
 use Rattle.cif_sim_run.proofs.Halting.{err-kept, on-err, on-ok, rose-later}
+use Rattle.cif_sim_run.specs.declared.made.Made.TheVariants.{Fire}
+use Rattle.cif_sim_run.proofs.Changing.{within-shown}
 use Rattle.cif_sim_run.proofs.first.make_steps.Goals as goal
 
 pub loop-sim-init : goal.loop-sim-init
@@ -29,7 +30,7 @@ write_action-requires-clause-places g c =
     let names = names_in c.args.sim.now.guarded in
     let m = system_of c.args.sim.now.guarded in
     let s = c.loop-sim.sim.state in
-    let event = c.in-Some.event in
+    let event = c.in-Some.fired.event in
     let found = subst (λ x. first_event (system_of x) s ≡ Some event) c.loop-sim.invariant.0 (sym c.in-Some.ensures.first) in
     let is : state_tree c.state.result.now ≡ scan.fire m s event = c.state.ensures.is ∙ c.in-Some.ensures.made ∙ ap (λ x. scan.fire (system_of x) s event) c.loop-sim.invariant.0 in
     let more : c.loop-sim.lines.steps < c.args.steps = (let test = c.loop-sim-test.true in let asked = c.steps.ensures in omega (arith, test, asked)) in
@@ -41,12 +42,16 @@ write_action-requires-clause-values g c =
     let names = names_in c.args.sim.now.guarded in
     let m = system_of c.args.sim.now.guarded in
     let s = c.loop-sim.sim.state in
-    let event = c.in-Some.event in
+    let event = c.in-Some.fired.event in
     let found = subst (λ x. first_event (system_of x) s ≡ Some event) c.loop-sim.invariant.0 (sym c.in-Some.ensures.first) in
     let is : state_tree c.state.result.now ≡ scan.fire m s event = c.state.ensures.is ∙ c.in-Some.ensures.made ∙ ap (λ x. scan.fire (system_of x) s event) c.loop-sim.invariant.0 in
     let more : c.loop-sim.lines.steps < c.args.steps = (let test = c.loop-sim-test.true in let asked = c.steps.ensures in omega (arith, test, asked)) in
     (step-sizes names m c.args.sim.now.state c.args.steps (g.O.Sink.written c.args.out.now) (g.O.Sink.written c.loop-sim.out) s c.loop-sim.lines.steps (state_tree c.loop-sim.lines.before)
     c.loop-sim.invariant.2 more event (state_tree c.state.result.now) found is).1
+
+pub write_action-requires-clause-within : goal.write_action-requires-clause-within
+write_action-requires-clause-within g c =
+    within-shown c.loop-sim.sim.guarded c.loop-sim.lines.touches c.loop-sim.sim.state c.step_by_first.new.sim.state (state_tree c.loop-sim.lines.before) (state_tree c.state.result.now) (Fire c.in-Some.fired) (c.loop-sim.invariant.0 ∙ sym c.loop-sim.invariant.1) c.loop-sim.invariant.2.shown c.state.ensures.is c.in-Some.ensures.within
 
 pub write_action-requires-clause-counted : goal.write_action-requires-clause-counted
 write_action-requires-clause-counted g c =
@@ -66,13 +71,13 @@ loop-sim-preserved g c =
     let k = c.loop-sim.lines.steps in
     let before = state_tree c.loop-sim.lines.before in
     let after = state_tree c.write_action.new.self.before in
-    let event = c.in-Some.event in
+    let event = c.in-Some.fired.event in
     let wrote = c.in_ok-write_action-in-Some.ensures in
     let found = subst (λ x. first_event (system_of x) s ≡ Some event) c.loop-sim.invariant.0 (sym c.in-Some.ensures.first) in
     let made : c.step_by_first.new.sim.state ≡ scan.fire m s event = c.in-Some.ensures.made ∙ ap (λ x. scan.fire (system_of x) s event) c.loop-sim.invariant.0 in
     let is : state_tree c.state.result.now ≡ scan.fire m s event = c.state.ensures.is ∙ made in
     let more : k < c.args.steps = (let test = c.loop-sim-test.true in let asked = c.steps.ensures in omega (arith, test, asked)) in
-    let named : names_of_net (net_tree c.loop-sim.lines.net.now) ≡ names = ap (λ n. names_of_net (net_tree n)) c.loop-sim.invariant.1 in (
+    let named : names_in c.loop-sim.lines.touches ≡ names = ap names_in c.loop-sim.invariant.1 in (
       c.in-Some.ensures.net ∙ c.loop-sim.invariant.0,
       wrote.net ∙ c.loop-sim.invariant.1,
       subst (λ x. FirstRunning names m c.args.sim.now.state c.args.steps old new x c.write_action.new.self.steps after) (sym made)
@@ -99,13 +104,13 @@ returns-in_err-write_action-in-Some-clause-part g c =
     let s = c.loop-sim.sim.state in
     let k = c.loop-sim.lines.steps in
     let before = state_tree c.loop-sim.lines.before in
-    let event = c.in-Some.event in
+    let event = c.in-Some.fired.event in
     let found = subst (λ x. first_event (system_of x) s ≡ Some event) c.loop-sim.invariant.0 (sym c.in-Some.ensures.first) in
     let is : state_tree c.state.result.now ≡ scan.fire m s event = c.state.ensures.is ∙ c.in-Some.ensures.made ∙ ap (λ x. scan.fire (system_of x) s event) c.loop-sim.invariant.0 in
     let more : k < c.args.steps = (let test = c.loop-sim-test.true in let asked = c.steps.ensures in omega (arith, test, asked)) in
-    let named : names_of_net (net_tree c.loop-sim.lines.net.now) ≡ names = ap (λ n. names_of_net (net_tree n)) c.loop-sim.invariant.1 in
+    let named : names_in c.loop-sim.lines.touches ≡ names = ap names_in c.loop-sim.invariant.1 in
     let part = subst (λ n. GrewByPart (moment_text n k (record { action = fires event; before = before; after = scan.fire m s event })) now new) named
-    (subst (λ x. GrewByPart (moment_text (names_of_net (net_tree c.loop-sim.lines.net.now)) k (record { action = fires event; before = before; after = x })) now new) is c.in_err-write_action-in-Some.ensures.part) in
+    (subst (λ x. GrewByPart (moment_text (names_in c.loop-sim.lines.touches) k (record { action = fires event; before = before; after = x })) now new) is c.in_err-write_action-in-Some.ensures.part) in
     err-kept c.from_residual.result _
     (part-of-step names m c.args.sim.now.state c.args.steps old now s k before c.loop-sim.invariant.2 more event new found part)
 

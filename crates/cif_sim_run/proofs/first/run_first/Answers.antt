@@ -2,10 +2,9 @@
 use Rattle.std.proofs.Common.{◌≡◌, sym, ap, subst, ◌∙◌}
 use Rattle.cif_eval.specs.Choices.{system_of}
 use Rattle.cif_io.specs.Written.{grown}
-use Rattle.cif_net.specs.View.{net_tree, state_tree}
+use Rattle.cif_net.specs.View.{state_tree}
 use Rattle.cif_system.specs.System.{initial}
 use Rattle.cif_sim_model.specs.Texts.{start_line}
-use Rattle.cif_sim_names.specs.Nets.{names_of_net}
 use Rattle.cif_sim_run.specs.Halts.{GrewByPart}
 use Rattle.cif_sim_run.specs.Left.{IsSized, first_left, names_in}
 use Rattle.cif_sim_run.proofs.FirstLaws.{whole-first}
@@ -22,13 +21,13 @@ returns-in_err-write_start-clause-part g c =
     let old = g.O.Sink.written c.args.out.now in
     let new = g.O.Sink.written c.write_start.new.out in
     let made = c.in-Ok-new.ensures in
-    let first : start_line (names_of_net (net_tree c.in-Ok-new.lines.net.now)) (state_tree c.in-Ok-new.lines.before) ≡ start_line names (initial m) = (λ i. start_line (names_of_net (net_tree (made.net i))) (made.start i)) in
+    let first : start_line (names_in c.in-Ok-new.lines.touches) (state_tree c.in-Ok-new.lines.before) ≡ start_line names (initial m) = (λ i. start_line (names_in (made.net i)) (made.start i)) in
     err-kept c.from_residual.result _
     (subst (λ t. GrewByPart t old new) (sym (whole-first m names c.args.steps))
     (part-of-first (start_line names (initial m)) (first_left names m (initial m) 0 c.args.steps) old new (subst (λ t. GrewByPart t old new) first c.in_err-write_start.ensures.part)))
 
 pub make_steps-requires-clause-net : goal.make_steps-requires-clause-net
-make_steps-requires-clause-net g c = ap (λ w. w.net.now) c.write_start.ensures.kept ∙ c.in-Ok-new.ensures.net ∙ ap (λ x. x.plain.net) (sym c.in-Ok.ensures.net)
+make_steps-requires-clause-net g c = ap (λ w. w.touches) c.write_start.ensures.kept ∙ c.in-Ok-new.ensures.net ∙ sym c.in-Ok.ensures.net
 
 pub make_steps-requires-clause-start : goal.make_steps-requires-clause-start
 make_steps-requires-clause-start g c = ap (λ w. w.steps) c.write_start.ensures.kept ∙ c.in-Ok-new.ensures.steps
@@ -53,7 +52,7 @@ returns-clause-ran g c =
     let new = g.O.Sink.written c.make_steps.new.out in
     let made = c.in-Ok-new.ensures in
     let begun = c.in-Ok.ensures in
-    let first : start_line (names_of_net (net_tree c.in-Ok-new.lines.net.now)) (state_tree c.in-Ok-new.lines.before) ≡ start_line names (initial m) = (λ i. start_line (names_of_net (net_tree (made.net i))) (made.start i)) in
+    let first : start_line (names_in c.in-Ok-new.lines.touches) (state_tree c.in-Ok-new.lines.before) ≡ start_line names (initial m) = (λ i. start_line (names_in (made.net i)) (made.start i)) in
     let rest : first_left (names_in c.in-Ok.sim.guarded) (system_of c.in-Ok.sim.guarded) c.in-Ok.sim.state 0 c.args.steps ≡ first_left names m (initial m) 0 c.args.steps
     = (λ i. first_left (names_in (begun.net i)) (system_of (begun.net i)) (begun.start i) 0 c.args.steps) in
     on-ok c.make_steps.result _ _
@@ -70,7 +69,7 @@ returns-clause-part g c =
     let new = g.O.Sink.written c.make_steps.new.out in
     let made = c.in-Ok-new.ensures in
     let begun = c.in-Ok.ensures in
-    let first : start_line (names_of_net (net_tree c.in-Ok-new.lines.net.now)) (state_tree c.in-Ok-new.lines.before) ≡ start_line names (initial m) = (λ i. start_line (names_of_net (net_tree (made.net i))) (made.start i)) in
+    let first : start_line (names_in c.in-Ok-new.lines.touches) (state_tree c.in-Ok-new.lines.before) ≡ start_line names (initial m) = (λ i. start_line (names_in (made.net i)) (made.start i)) in
     let rest : first_left (names_in c.in-Ok.sim.guarded) (system_of c.in-Ok.sim.guarded) c.in-Ok.sim.state 0 c.args.steps ≡ first_left names m (initial m) 0 c.args.steps
     = (λ i. first_left (names_in (begun.net i)) (system_of (begun.net i)) (begun.start i) 0 c.args.steps) in
     on-err c.make_steps.result _ _

@@ -1,12 +1,12 @@
 -- Each line leads from what is left to what is left behind it.
 use Rattle.std.proofs.Common.{◌≡◌, Some, [], ◌++◌, refl, sym, ap, subst, ◌∙◌, arith}
 use Rattle.cif_eval.specs.Choices.{system_of}
-use Rattle.cif_script.specs.Views.{action_of}
 use Rattle.cif_sim_model.specs.Runs.{next_by}
 use Rattle.cif_sim_model.specs.Script.{script_lines}
 use Rattle.cif_sim_model.specs.Simulation.{Meets, moment_text, steps_after}
 use Rattle.cif_sim_run.specs.Halts.{cause}
 use Rattle.cif_sim_run.specs.Left.{Followed, names_in}
+use Rattle.cif_sim_run.specs.Made.{action_made}
 use Rattle.cif_sim_run.proofs.LineLaws.{at-end, at-start, at-stop, one-more}
 use Rattle.cif_sim_run.proofs.Running.{few-lines}
 use Rattle.cif_sim_run.proofs.following.follow_lines.Goals as goal
@@ -61,7 +61,7 @@ loop-line-preserved c =
     let s = c.loop-line.sim.state in
     let next = c.follow_line.new.sim.state in
     let line = c.in-Some.line.now in
-    let a = action_of c.in-Ok.field-0 in
+    let a = action_made c.in-Ok.field-0 in
     let leads = subst (λ g. next_by (system_of g) s a ≡ Some next) c.loop-line.invariant.2 c.in-Ok.ensures.followed.1 in (
       tt,
       tt,

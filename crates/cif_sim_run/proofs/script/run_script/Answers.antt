@@ -1,13 +1,12 @@
 -- The lines stand behind the start line.
-use Rattle.std.proofs.Common.{◌≡◌, Err, refl, sym, ap, subst, ◌∙◌}
+use Rattle.std.proofs.Common.{◌≡◌, Err, sym, ap, subst, ◌∙◌}
 use Rattle.cif_eval.specs.Choices.{system_of}
 use Rattle.cif_io.specs.Written.{grown}
-use Rattle.cif_net.specs.View.{net_tree, state_tree}
+use Rattle.cif_net.specs.View.{state_tree}
 use Rattle.cif_system.specs.System.{initial}
 use Rattle.cif_sim_model.specs.Script.{script_lines}
 use Rattle.cif_sim_model.specs.Simulation.{FirstStop, StopsAt, moments_text, script_moments, script_text}
 use Rattle.cif_sim_model.specs.Texts.{start_line}
-use Rattle.cif_sim_names.specs.Nets.{names_of_net}
 use Rattle.cif_sim_run.specs.Halts.{GrewByPart, HaltsIn, halt_of, writing}
 use Rattle.cif_sim_run.specs.Left.{IsSized, names_in}
 use Rattle.cif_sim_run.proofs.Growing.{part-of-first, whole-behind}
@@ -42,7 +41,7 @@ returns-in_err-write_start-clause-halted g c =
     let old = g.O.Sink.written c.args.out.now in
     let new = g.O.Sink.written c.write_start.new.out in
     let made = c.in_ok-lines.ensures in
-    let first : start_line (names_of_net (net_tree c.in_ok-lines.lines.net.now)) (state_tree c.in_ok-lines.lines.before) ≡ start_line names (initial m) = (λ i. start_line (names_of_net (net_tree (made.net i))) (made.start i)) in
+    let first : start_line (names_in c.in_ok-lines.lines.touches) (state_tree c.in_ok-lines.lines.before) ≡ start_line names (initial m) = (λ i. start_line (names_in (made.net i)) (made.start i)) in
     let part = subst (λ t. GrewByPart t old new) first c.in_err-write_start.ensures.part in
     if-err c.from_residual-in_err-write_start.result (halt_of c.in_err-write_start.field-0.0)
     (HaltsIn (StopsAt names m c.args.script.now) (script_text names m c.args.script.now) (writing old new (g.O.Sink.faults c.args.out.now) (g.O.Sink.faults c.write_start.new.out))) c.from_residual-in_err-write_start.ensures.1
@@ -54,7 +53,7 @@ pub write_lines-requires-clause-names : goal.write_lines-requires-clause-names
 write_lines-requires-clause-names g c = c.in_ok-paths.ensures ∙ ap names_in (sym c.in_ok-sim.ensures.net)
 
 pub write_lines-requires-clause-net : goal.write_lines-requires-clause-net
-write_lines-requires-clause-net g c = ap (λ w. w.net.now) c.write_start.ensures.kept ∙ c.in_ok-lines.ensures.net ∙ ap (λ x. x.plain.net) (sym c.in_ok-sim.ensures.net)
+write_lines-requires-clause-net g c = ap (λ w. w.touches) c.write_start.ensures.kept ∙ c.in_ok-lines.ensures.net ∙ sym c.in_ok-sim.ensures.net
 
 pub write_lines-requires-clause-start : goal.write_lines-requires-clause-start
 write_lines-requires-clause-start g c = ap (λ w. w.steps) c.write_start.ensures.kept ∙ c.in_ok-lines.ensures.steps
@@ -79,7 +78,7 @@ returns-clause-ran g c =
     let now = g.O.Sink.written c.write_start.new.out in
     let new = g.O.Sink.written c.write_lines.new.out in
     let made = c.in_ok-lines.ensures in
-    let first : start_line (names_of_net (net_tree c.in_ok-lines.lines.net.now)) (state_tree c.in_ok-lines.lines.before) ≡ start_line names (initial m) = (λ i. start_line (names_of_net (net_tree (made.net i))) (made.start i)) in
+    let first : start_line (names_in c.in_ok-lines.lines.touches) (state_tree c.in_ok-lines.lines.before) ≡ start_line names (initial m) = (λ i. start_line (names_in (made.net i)) (made.start i)) in
     let sim = c.in_ok-sim.sim in
     let rest = whole-text names c.in_ok-paths.paths m (system_of sim.guarded) sim.state script c.in_ok-paths.ensures (ap system_of c.in_ok-sim.ensures.net) c.in_ok-sim.ensures.start in
     on-ok c.write_lines.result _ _
@@ -98,7 +97,7 @@ returns-clause-halted g c =
     let now = g.O.Sink.written c.write_start.new.out in
     let new = g.O.Sink.written c.write_lines.new.out in
     let made = c.in_ok-lines.ensures in
-    let first : start_line (names_of_net (net_tree c.in_ok-lines.lines.net.now)) (state_tree c.in_ok-lines.lines.before) ≡ start_line names (initial m) = (λ i. start_line (names_of_net (net_tree (made.net i))) (made.start i)) in
+    let first : start_line (names_in c.in_ok-lines.lines.touches) (state_tree c.in_ok-lines.lines.before) ≡ start_line names (initial m) = (λ i. start_line (names_in (made.net i)) (made.start i)) in
     let sim = c.in_ok-sim.sim in
     let rest = whole-text names c.in_ok-paths.paths m (system_of sim.guarded) sim.state script c.in_ok-paths.ensures (ap system_of c.in_ok-sim.ensures.net) c.in_ok-sim.ensures.start in
     let f = g.O.Sink.faults c.args.out.now in

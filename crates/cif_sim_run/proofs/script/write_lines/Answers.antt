@@ -2,16 +2,16 @@
 use Rattle.std.proofs.Common.{◌≡◌, Err, Some, refl, sym, ap, subst, ◌∙◌, arith}
 use Rattle.cif_eval.specs.Choices.{system_of}
 use Rattle.cif_io.specs.Written.{grown}
-use Rattle.cif_net.specs.View.{net_tree, state_tree}
-use Rattle.cif_script.specs.Views.{action_of}
+use Rattle.cif_net.specs.View.{state_tree}
 use Rattle.cif_sim_model.specs.Runs.{next_by}
 use Rattle.cif_sim_model.specs.Script.{script_lines}
 use Rattle.cif_sim_model.specs.Simulation.{FirstStop, Meets, moment_text}
-use Rattle.cif_sim_names.specs.Nets.{names_of_net}
 use Rattle.cif_sim_run.specs.Halts.{GrewByPart, HaltsIn, cause, halt_of, writing}
 use Rattle.cif_sim_run.specs.Left.{IsUpToDate, Running, names_in, text_left}
+use Rattle.cif_sim_run.specs.Made.{action_made}
 use Rattle.cif_sim_run.proofs.Halting.{halts-of, if-err, rose-later}
 use Rattle.cif_sim_run.proofs.Running.{all-run, at-first, few-lines, next-line, part-of-line, sizes, stopped}
+use Rattle.cif_sim_run.proofs.Changing.{within-shown}
 use Rattle.cif_sim_run.proofs.script.write_lines.Goals as goal
 
 pub loop-line-init : goal.loop-line-init
@@ -69,7 +69,7 @@ write_action-requires-clause-places g c =
     let before = state_tree c.loop-line.lines.before in
     let so_far = subst (λ ls. Running names m start all c.loop-line.number old now s k before ls) c.in-Some.ensures.steps c.loop-line.invariant.4 in
     let next = c.follow_line.new.sim.state in
-    let a = action_of c.in-Ok.action in
+    let a = action_made c.in-Ok.made in
     let leads = subst (λ x. next_by (system_of x) s a ≡ Some next) c.loop-line.invariant.2 c.in-Ok.ensures.followed.1 in
     (sizes names m start all old c.loop-line.number now s k before c.in-Some.line.now c.next.new.self so_far a next (state_tree c.state.result.now) leads c.state.ensures.is).0
 
@@ -86,9 +86,13 @@ write_action-requires-clause-values g c =
     let before = state_tree c.loop-line.lines.before in
     let so_far = subst (λ ls. Running names m start all c.loop-line.number old now s k before ls) c.in-Some.ensures.steps c.loop-line.invariant.4 in
     let next = c.follow_line.new.sim.state in
-    let a = action_of c.in-Ok.action in
+    let a = action_made c.in-Ok.made in
     let leads = subst (λ x. next_by (system_of x) s a ≡ Some next) c.loop-line.invariant.2 c.in-Ok.ensures.followed.1 in
     (sizes names m start all old c.loop-line.number now s k before c.in-Some.line.now c.next.new.self so_far a next (state_tree c.state.result.now) leads c.state.ensures.is).1
+
+pub write_action-requires-clause-within : goal.write_action-requires-clause-within
+write_action-requires-clause-within g c =
+    within-shown c.loop-line.sim.guarded c.loop-line.lines.touches c.loop-line.sim.state c.follow_line.new.sim.state (state_tree c.loop-line.lines.before) (state_tree c.state.result.now) c.in-Ok.made (c.loop-line.invariant.2 ∙ sym c.loop-line.invariant.3) c.loop-line.invariant.4.shown c.state.ensures.is c.in-Ok.ensures.within
 
 pub write_action-requires-clause-counted : goal.write_action-requires-clause-counted
 write_action-requires-clause-counted g c =
@@ -111,9 +115,9 @@ loop-line-preserved g c =
     let before = state_tree c.loop-line.lines.before in
     let so_far = subst (λ ls. Running names m start all c.loop-line.number old now s k before ls) c.in-Some.ensures.steps c.loop-line.invariant.4 in
     let next = c.follow_line.new.sim.state in
-    let a = action_of c.in-Ok.action in
+    let a = action_made c.in-Ok.made in
     let leads = subst (λ x. next_by (system_of x) s a ≡ Some next) c.loop-line.invariant.2 c.in-Ok.ensures.followed.1 in
-    let named : names_of_net (net_tree c.loop-line.lines.net.now) ≡ names = ap (λ n. names_of_net (net_tree n)) c.loop-line.invariant.3 ∙ sym c.requires.names in
+    let named : names_in c.loop-line.lines.touches ≡ names = ap names_in c.loop-line.invariant.3 ∙ sym c.requires.names in
     let after = state_tree c.write_action.new.self.before in
     let wrote = c.in_ok-write_action.ensures in (
       tt,
@@ -140,13 +144,13 @@ returns-in_err-write_action-clause-halted g c =
     let before = state_tree c.loop-line.lines.before in
     let so_far = subst (λ ls. Running names m start all c.loop-line.number old now s k before ls) c.in-Some.ensures.steps c.loop-line.invariant.4 in
     let next = c.follow_line.new.sim.state in
-    let a = action_of c.in-Ok.action in
+    let a = action_made c.in-Ok.made in
     let leads = subst (λ x. next_by (system_of x) s a ≡ Some next) c.loop-line.invariant.2 c.in-Ok.ensures.followed.1 in
-    let named : names_of_net (net_tree c.loop-line.lines.net.now) ≡ names = ap (λ n. names_of_net (net_tree n)) c.loop-line.invariant.3 ∙ sym c.requires.names in
+    let named : names_in c.loop-line.lines.touches ≡ names = ap names_in c.loop-line.invariant.3 ∙ sym c.requires.names in
     let new = g.O.Sink.written c.write_action.new.out in
     let e = c.in_err-write_action.field-0.0 in
     let part = subst (λ n. GrewByPart (moment_text n k (record { action = a; before = before; after = next })) now new) named
-    (subst (λ x. GrewByPart (moment_text (names_of_net (net_tree c.loop-line.lines.net.now)) k (record { action = a; before = before; after = x })) now new) c.state.ensures.is c.in_err-write_action.ensures.part) in
+    (subst (λ x. GrewByPart (moment_text (names_in c.loop-line.lines.touches) k (record { action = a; before = before; after = x })) now new) c.state.ensures.is c.in_err-write_action.ensures.part) in
     if-err c.from_residual.result (halt_of e) (HaltsIn (FirstStop names m start all) (text_left names m start 0 all) (writing old new (g.O.Sink.faults c.args.out.now) (g.O.Sink.faults c.write_action.new.out))) c.from_residual.ensures.1
     (halts-of (FirstStop names m start all) (text_left names m start 0 all) old new (g.O.Sink.faults c.args.out.now) (g.O.Sink.faults c.write_action.new.out) e
     (λ h. rose-later (g.O.Sink.faults c.args.out.now) (g.O.Sink.faults c.loop-line.out) (g.O.Sink.faults c.write_action.new.out) c.loop-line.invariant.5 (c.write_action.ensures.failed (c.in_err-write_action.was ∙ ap Err h)))

@@ -11,7 +11,7 @@ invariant-loop-line g l =
     (goal.iterator-loop-line g).can_next l.line-iterator
     × (goal.iterator-loop-line g).is_finite l.line-iterator
     × (l.sim.guarded ≡ l.fn.sim.guarded)
-    × (l.lines.net.now ≡ l.fn.sim.guarded.plain.net)
+    × (l.lines.touches ≡ l.fn.sim.guarded)
     × Running l.paths (system_of l.fn.sim.guarded) l.fn.sim.state (script_lines l.script) l.number
     (g.O.Sink.written l.fn.out) (g.O.Sink.written l.out) l.sim.state l.lines.steps (state_tree l.lines.before) l.line-iterator
     × (g.O.Sink.faults l.fn.out ≤ g.O.Sink.faults l.out)
