@@ -4,11 +4,11 @@ ghost use Rattle.std.specs.Prelude.{◌≤◌, length};
 
 use crate::both::Both;
 use cif_base::Text;
-use cif_batch::{CaseErr, Gate, NoGate, batch};
+use cif_batch::{CaseErr, Gate, NoGate, batch, read_cases};
 use cif_io::{MemFile, MemFiles, MemSink};
 use cif_replay::program_of;
 use cif_tool::{Status, tool};
-use plc_rows::read_cases;
+use plc_rows::RowErr;
 use st_scan::ScanErr;
 use std::alloc::Global;
 use std::thread::Threads;
@@ -17,7 +17,7 @@ use std::thread::Threads;
 const PROGRAM: &[u8] =
     b"PROGRAM p VAR_INPUT a : LINT (0..9); END_VAR VAR_OUTPUT y : LINT (0..3); END_VAR y := a; END_PROGRAM";
 
-/// What `batch` returns for a text of cases.
+/// What `batch` returns for a text of cases, read by as many workers.
 fn answer<R: Threads + Sync, G: Gate + Sync>(
     rt: &R,
     alloc: Global,
@@ -31,7 +31,7 @@ fn answer<R: Threads + Sync, G: Gate + Sync>(
     let Ok(program) = program_of(alloc, PROGRAM) else {
         return Err(CaseErr::Memory);
     };
-    let Ok(cases) = read_cases(alloc, text, &program) else {
+    let Ok(cases) = read_cases(rt, alloc, text, &program, workers) else {
         return Err(CaseErr::Memory);
     };
     batch(rt, alloc, &program, &cases, workers, gate)
@@ -150,5 +150,68 @@ fn each_number_of_workers_tells_the_first_case(rt: HostRuntime) -> Result<(), st
 fn no_case_has_no_table(rt: HostRuntime) -> Result<(), std::test::Fail> {
     let texts = answer(&rt, rt.alloc(), b"scan,a\n", 4, &NoGate)?;
     assert!(rt; texts.is_empty());
+    Ok(())
+}
+
+/// Two cases, in texts of other forms: with carriage returns, a byte order mark, quotes, the column `scan` behind another, a blank line, and
+/// without a last line feed.
+const FORMS: [&[u8]; 6] = [
+    b"scan,a\r\n1,1\r\n2,2\r\n1,3\r\n",
+    b"\xEF\xBB\xBFscan,a\n1,1\n2,2\n1,3\n",
+    b"\"scan\",a\n1,1\n\"2\",2\n\"1\",3\n",
+    b"a,scan\n1,1\n2,2\n3,1\n",
+    b"scan,a\n1,1\n2,2\n\n1,3\n",
+    b"scan,a\n1,1\n2,2\n1,3",
+];
+
+#[test]
+fn each_form_of_text_gives_its_cases(rt: HostRuntime) -> Result<(), std::test::Fail> {
+    for text in FORMS {
+        for workers in [1, 2, 4] {
+            let texts = answer(&rt, rt.alloc(), text, workers, &NoGate)?;
+            assert_eq!(rt; texts.len(), 2);
+            assert_eq!(rt; texts[0].as_slice(), b"scan,y\n1,1\n2,2\n".as_slice());
+            assert_eq!(rt; texts[1].as_slice(), b"scan,y\n1,3\n".as_slice());
+        }
+    }
+    Ok(())
+}
+
+/// Why workers read no cases from a text; `None` if they read some.
+fn refused<R: Threads + Sync>(rt: &R, alloc: Global, text: &[u8], workers: u32) -> Option<RowErr>
+    requires workers { 1 ≤ workers }
+    requires size { length text.now ≤ 67108864 }
+{
+    let Ok(program) = program_of(alloc, PROGRAM) else {
+        return Some(RowErr::Memory);
+    };
+    read_cases(rt, alloc, text, &program, workers).err()
+}
+
+#[test]
+fn each_number_of_workers_refuses_the_same(rt: HostRuntime) -> Result<(), std::test::Fail> {
+    let last_row: &[u8] = b"scan,a\n1,1\n2,2\n1,3\n3,3\n";
+    let last_cell: &[u8] = b"scan,a\n1,1\n1,2\n1,3\n1,10\n";
+    let last_length: &[u8] = b"scan,a\n1,1\n1,2\n1,3\n1\n";
+    let header: &[u8] = b"scan,b\n1,1\n1,2\n";
+    for workers in [1, 2, 3, 64] {
+        let alloc = rt.alloc();
+        assert_eq!(rt;
+            refused(&rt, alloc, last_row, workers),
+            Some(RowErr::CaseBoundary { row: 4 })
+        );
+        assert_eq!(rt;
+            refused(&rt, alloc, last_cell, workers),
+            Some(RowErr::Cell { row: 4, column: 2 })
+        );
+        assert_eq!(rt;
+            refused(&rt, alloc, last_length, workers),
+            Some(RowErr::RowLength { row: 4 })
+        );
+        assert_eq!(rt;
+            refused(&rt, alloc, header, workers),
+            Some(RowErr::Header { column: 2 })
+        );
+    }
     Ok(())
 }
