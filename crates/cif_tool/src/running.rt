@@ -103,10 +103,10 @@ fn run_words<R: Threads + Sync, F: Files, O: Sink, G: Gate + Sync>(
 }
 
 /// Runs the command of the words after the program's name: `check FILE`, `generate FILE [--unc N] [--con N]`, where N is 1 to 10,000
-/// and 100 where the option is left out, `replay ST ROWS`, `batch ST CASES`, `simulate FILE SCRIPT`, `simulate FILE --first N`, where N is 0 to 1,000,000,
-/// or `why FILE SCRIPT EVENT`. Nothing goes to `out` before the whole text is built, but for `simulate`: it writes each line of its run
-/// before the next step. `batch` alone starts threads; the work of each of its cases enters the gate as it begins, with the number of the
-/// case, counted from 1.
+/// and 100 where the option is left out, `replay ST ROWS`, `batch ST CASES`, `simulate FILE SCRIPT`, `simulate FILE --first N`, where N
+/// is 0 to 1,000,000, or `why FILE SCRIPT EVENT`. Nothing goes to `out` before the whole text is built, but for `simulate`: it writes each
+/// line of its run before the next step. `batch` alone starts threads; the work of each of its cases enters the gate as it begins, with the
+/// number of the case, counted from 1.
 pub fn tool<R: Threads + Sync, F: Files, O: Sink, E: Sink, G: Gate + Sync>(
     rt: &R,
     alloc: Global,
