@@ -1,0 +1,25 @@
+//! The laws, each the contract of a function without a body.
+
+ghost use Rattle.std.specs.Prelude.{◌≡◌, ℕ, true, List, []};
+ghost use Rattle.cif_lex.specs.Tokens.{Tokens};
+ghost use Rattle.cif_parse.specs.Grammar.{Reads};
+ghost use Rattle.cif_source.specs.Source.{source_of};
+ghost use Rattle.cif_maker.specs.MadeText.{made_text};
+ghost use Rattle.cif_maker_laws.specs.MadeSpec.{made_spec};
+ghost use Rattle.cif_maker_laws.specs.MadeTree.{made_source};
+ghost use Rattle.cif_maker_laws.specs.Written.{Written, AreWritten, text_of, tokens_of, are_apart};
+
+/// Pieces of which no two neighbours run together are cut from their text as they are written, so its tokens are theirs.
+pub fn written_pieces_are_tokens()
+    ensures { (ws : List Written) → AreWritten ws → are_apart ws [] ≡ true → Tokens (text_of ws) (tokens_of 0 ws) }
+{}
+
+/// The text of a made source reads as its tree, for each seed and size.
+pub fn made_sources_read()
+    ensures { (seed size : ℕ) → Reads (made_text seed size) (made_spec seed size) }
+{}
+
+/// The tree of a made source stands for the made source.
+pub fn made_trees_are_sources()
+    ensures { (seed size : ℕ) → source_of (made_spec seed size) ≡ made_source seed size }
+{}

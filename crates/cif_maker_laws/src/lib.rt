@@ -1,0 +1,6 @@
+//! That the text of a made source reads as a source, as laws for the crates above.
+#![tactic(auto)]
+
+mod laws;
+
+pub use laws::{made_sources_read, made_trees_are_sources, written_pieces_are_tokens};
