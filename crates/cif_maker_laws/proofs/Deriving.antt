@@ -25,7 +25,6 @@ use Rattle.cif_parse_expr.specs.Spelling.{spelling, value, is_small}
 use Rattle.cif_parse_expr.specs.Trees as tree
 use Rattle.cif_parse_expr.specs.Grammar.{Level, at_cmp, ident, name, prim, below, IsExpr}
 use Rattle.cif_parse_decl.specs.Grammar.{disc_declaration}
-use Rattle.cif_parse.specs.Trees as tree'
 use Rattle.cif_parse.specs.Grammar.{item}
 
 abbrev pub tok : TokenKind → Span → Token

@@ -6,4 +6,8 @@ pub mod MadePieces
 pub mod Places
 pub mod Blocks
 pub mod MadeReads
+pub mod Bodies
+pub mod NoSubject
+pub mod Lookups
+pub mod Names
 mod Examples

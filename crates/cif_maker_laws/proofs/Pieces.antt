@@ -3,7 +3,7 @@ use Rattle.std.proofs.Common.{◌≡◌, ◌==◌, ℕ, ◌+◌, ◌≤◌, ◌<
 use Rattle.std.proofs.lemmas.Bool.Decides.{nat_tests}
 use Rattle.std.proofs.lemmas.List.{length-append, append-nil}
 use Rattle.std.proofs.lemmas.List.Elements.{All-nil, All-cons}
-use Rattle.grammar.specs.Pieces.{Text, IsLongest, Pieces, Cut, run_of, AllAre, run, one_text, text_cut}
+use Rattle.grammar.specs.Pieces.{Text, IsLongest, Pieces, Cut, run_of, AllAre, one_text, text_cut}
 use Rattle.grammar.specs.Bytes.{is_blank, begins_word, is_digit, is_wordy, none_of}
 use Rattle.grammar.proofs.Texts.{and_left, and_right, from_test}
 use Rattle.grammar.proofs.Cutting.{Cuts, text_cuts, text_made}
