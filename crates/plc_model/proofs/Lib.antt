@@ -1,7 +1,9 @@
+pub mod DoorRefusals
+pub mod DoorScans
 pub mod Example
 pub mod FaceLaws
-pub mod Framed
 pub mod FrameLaw
+pub mod Framed
 pub mod Latches
 pub mod NameLaws
 pub mod Rows
