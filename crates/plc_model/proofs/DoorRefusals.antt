@@ -1,5 +1,5 @@
 -- Each wrong program of the door breaks a promise, as one of its scans shows.
-use Rattle.std.proofs.Common.{◌≡◌, ℕ, zero, suc, ◌<◌, ◌≤◌, ◌⊎◌, ℤ, pos, false, true, List, [], ◌∷◌, length, Some, refl, ap, subst, ◌∙◌, inl, inr, arith}
+use Rattle.std.proofs.Common.{◌≡◌, ℕ, zero, suc, ◌+◌, ◌<◌, ◌≤◌, ◌⊎◌, ℤ, pos, false, true, List, [], ◌∷◌, length, Some, refl, sym, ap, subst, ◌∙◌, inl, inr, arith}
 use Rattle.std.specs.Prelude.{IsTrue, nat_abs, slice_index_or}
 use Rattle.std.specs.Fmt.{digits}
 use Rattle.std.specs.List.{AllByRecursion}
@@ -18,7 +18,7 @@ use Rattle.st_ast.specs.Exec.{OutOfTurns, and_then, exec, repeated}
 use Rattle.st_ast.specs.Scan.{start_memory, store_row, turns_of_scan, when_ended}
 use Rattle.plc_model.specs.Face.{HasInterface, StateOf, Shows, AreInTypes, seen_values}
 use Rattle.plc_model.specs.Scans.{Change, EndedScans, IsProgramOf, Leads, NeverFaults, RunsFirstSteps, ScansExactly, ScansLegally, ShowsOutputs, StaysTyped, memories}
-use Rattle.plc_model.specs.Door.{closed, opened, locked, system, turned, unturned, door_at, face, variables, program_with, program, memory, unlatched, idle, hasty, misled, stale, astray, endless, untyped, hidden, ajar}
+use Rattle.plc_model.specs.Door.{closed, opened, locked, system, turned, unturned, door_at, face, variables, program_with, program, memory, unlatched, idle, hasty, misled, forgetful, stale, astray, endless, untyped, hidden, ajar}
 use Rattle.plc_model.proofs.NameLaws.{false-true}
 use Rattle.plc_model.proofs.FaceLaws.{one-state}
 use Rattle.plc_model.proofs.ScanLaws.{exact-legal}
@@ -40,6 +40,15 @@ changes : (body : Stms) (R : Change) (row : List ℤ) (m : Memory) (t : State) �
 changes body R row m t fit are state scans =
     let l = subst (λ ms. Leads R (StateOf face system (program_with body)) (initial system) (row ∷ []) ms) are (scans (row ∷ []) (fit, tt)) in
     subst (R (initial system) row) (one-state face system (program_with body) m l.0 t l.2 state) l.1
+
+-- how the scan of a second row changes the state after the first
+changes-then : (body : Stms) (R : Change) (first row : List ℤ) (m n : Memory) (s t : State) → AllFit system.inputs first → AllFit system.inputs row
+    → memories (program_with body) (first ∷ row ∷ []) ≡ m ∷ n ∷ [] → StateOf face system (program_with body) m s → StateOf face system (program_with body) n t
+    → EndedScans face system (program_with body) R → R s row t
+changes-then body R first row m n s t fit fits are state next scans =
+    let l = subst (λ ms. Leads R (StateOf face system (program_with body)) (initial system) (first ∷ row ∷ []) ms) are (scans (first ∷ row ∷ []) (fit, (fits, tt))) in
+    let rest = l.3 in
+    subst (λ u. R u row t) (one-state face system (program_with body) m l.0 s l.2 state) (subst (R l.0 row) (one-state face system (program_with body) n rest.0 t rest.2 next) rest.1)
 
 place-same : (j k : ℕ) (x y : ℤ) → door_at j x ≡ door_at k y → j ≡ k
 place-same j k x y e = ap (λ (s : State). slice_index_or s.locs 0 0) e
@@ -128,16 +137,62 @@ legal-opens U C next some legal =
     let middle = opens-first U legal.middle legal.uncontrollable.fired some legal.uncontrollable.run legal.uncontrollable.enough in
     still (door_at opened (pos 1)) refl refl con legal.controllable.fired next (subst (λ s. Run system con s legal.controllable.fired next) middle legal.controllable.run)
 
+-- the door stays closed in a run of uncontrollable events without the key
+stays-closed : (es : List ℕ) (next : State) → Run system unc (door_at closed (pos 0)) es next → next ≡ door_at closed (pos 0)
+stays-closed [] next run = run
+stays-closed (zero ∷ es) next run = false-true false refl (only-choice (door_at closed (pos 0)) 0 run.0 opening refl run.2).makes
+stays-closed (suc zero ∷ es) next run = false-true false refl run.1
+stays-closed (suc (suc e) ∷ es) next run = false-true false refl run.1
+
+-- after a run of controllable events the closed door is locked, or none fired
+locks-or-none : (fired : List ℕ) (next : State) → Run system con (door_at closed (pos 0)) fired next → (fired ≡ []) ⊎ (next ≡ door_at locked (pos 0))
+locks-or-none [] next run = inl refl
+locks-or-none (zero ∷ es) next run = false-true false refl run.1
+locks-or-none (suc zero ∷ es) next run =
+    let first : run.0 ≡ door_at locked (pos 0) = (only-choice (door_at closed (pos 0)) 1 run.0 locking refl run.2).is_after in
+    inr (still (door_at locked (pos 0)) refl refl con es next (subst (λ s. Run system con s es next) first run.3))
+locks-or-none (suc (suc e) ∷ es) next run = false-true false refl run.1
+
+locks-first : (C : ℕ) (fired : List ℕ) (next : State) → 0 < C → Run system con (door_at closed (pos 0)) fired next → (C ≤ length fired) ⊎ Exhausted system con next → next ≡ door_at locked (pos 0)
+locks-first C fired next some run enough = go (locks-or-none fired next run) enough
+  where
+    go : (fired ≡ []) ⊎ (next ≡ door_at locked (pos 0)) → (C ≤ length fired) ⊎ Exhausted system con next → next ≡ door_at locked (pos 0)
+    go (inr is) enough = is
+    go (inl none) (inl enough) = let short : length fired ≡ 0 = ap length none in absurd (omega (arith, some, enough, short))
+    go (inl none) (inr exhausted) =
+        let same : next ≡ door_at closed (pos 0) = subst (λ es. Run system con (door_at closed (pos 0)) es next) none run in
+        absurd (subst (Exhausted system con) same exhausted 1 (door_at locked (pos 0)) refl (record { choice = locking; makes = refl; is_after = refl }))
+
+legal-locks : (U C : ℕ) (next : State) → 0 < C → ScanIsLegal system (initial system) unturned next U C → next ≡ door_at locked (pos 0)
+legal-locks U C next some legal =
+    let middle = stays-closed legal.uncontrollable.fired legal.middle legal.uncontrollable.run in
+    locks-first C legal.controllable.fired next some (subst (λ s. Run system con s legal.controllable.fired next) middle legal.controllable.run) legal.controllable.enough
+
 pub idle-scan : memories idle (turned ∷ []) ≡ memory (pos 1) (pos 1) closed (pos closed) (pos 0) (pos 1) ∷ []
 unfolding digits repeated
 idle-scan = refl
 
-pub idle-legal : (U C : ℕ) → 0 < U → ScansLegally U C face system idle → ⊥
-idle-legal U C some scans =
+pub idle-scan_unturned : memories idle (unturned ∷ []) ≡ memory (pos 0) (pos 0) closed (pos closed) (pos 0) (pos 1) ∷ []
+unfolding digits repeated
+idle-scan_unturned = refl
+
+idle-uncontrollable : (U C : ℕ) → 0 < U → ScansLegally U C face system idle → ⊥
+idle-uncontrollable U C some scans =
     let legal = changes idle.body (λ s row t. ScanIsLegal system s row t U C) turned (memory (pos 1) (pos 1) closed (pos closed) (pos 0) (pos 1)) (door_at closed (pos 1)) (refl, tt) idle-scan
     (state-at idle.body (pos 1) (pos 1) closed (pos closed) (pos 0) (pos 1) (omega arith) refl) scans.1 in
     let same : 0 ≡ 1 = place-same 0 1 (pos 1) (pos 1) (legal-opens U C (door_at closed (pos 1)) some legal) in
     omega (arith, same)
+
+idle-controllable : (U C : ℕ) → 0 < C → ScansLegally U C face system idle → ⊥
+idle-controllable U C some scans =
+    let legal = changes idle.body (λ s row t. ScanIsLegal system s row t U C) unturned (memory (pos 0) (pos 0) closed (pos closed) (pos 0) (pos 1)) (door_at closed (pos 0)) (refl, tt) idle-scan_unturned
+    (state-at idle.body (pos 0) (pos 0) closed (pos closed) (pos 0) (pos 1) (omega arith) refl) scans.1 in
+    let same : 0 ≡ 2 = place-same 0 2 (pos 0) (pos 0) (legal-locks U C (door_at closed (pos 0)) some legal) in
+    omega (arith, same)
+
+pub idle-legal : (U C : ℕ) → 0 < U + C → ScansLegally U C face system idle → ⊥
+idle-legal zero C some scans = idle-controllable 0 C (omega (arith, some)) scans
+idle-legal (suc U) C some scans = idle-uncontrollable (suc U) C (omega arith) scans
 
 pub hasty-scan : memories hasty (turned ∷ []) ≡ memory (pos 1) (pos 1) locked (pos locked) (pos 0) (pos 1) ∷ []
 unfolding digits repeated
@@ -152,35 +207,39 @@ hasty-legal U C some scans =
 
 -- ---- steps
 
-stays-closed : (es : List ℕ) (next : State) → Run system unc (door_at closed (pos 0)) es next → next ≡ door_at closed (pos 0)
-stays-closed [] next run = run
-stays-closed (zero ∷ es) next run = false-true false refl (only-choice (door_at closed (pos 0)) 0 run.0 opening refl run.2).makes
-stays-closed (suc zero ∷ es) next run = false-true false refl run.1
-stays-closed (suc (suc e) ∷ es) next run = false-true false refl run.1
-
-stays-shut : (es : List ℕ) (next : State) → Run system con (door_at closed (pos 0)) es next → (next ≡ door_at closed (pos 0)) ⊎ (next ≡ door_at locked (pos 0))
-stays-shut [] next run = inl run
-stays-shut (zero ∷ es) next run = false-true false refl run.1
-stays-shut (suc zero ∷ es) next run =
-    let first : run.0 ≡ door_at locked (pos 0) = (only-choice (door_at closed (pos 0)) 1 run.0 locking refl run.2).is_after in
-    inr (still (door_at locked (pos 0)) refl refl con es next (subst (λ s. Run system con s es next) first run.3))
-stays-shut (suc (suc e) ∷ es) next run = false-true false refl run.1
-
 pub misled-scan : memories misled (unturned ∷ []) ≡ memory (pos 0) (pos 0) opened (pos opened) (pos 0) (pos 2) ∷ []
 unfolding digits repeated
 misled-scan = refl
-
-never-open : (door_at opened (pos 0) ≡ door_at closed (pos 0)) ⊎ (door_at opened (pos 0) ≡ door_at locked (pos 0)) → ⊥
-never-open (inl e) = let same : 1 ≡ 0 = place-same 1 0 (pos 0) (pos 0) e in omega (arith, same)
-never-open (inr e) = let same : 1 ≡ 2 = place-same 1 2 (pos 0) (pos 0) e in omega (arith, same)
 
 pub misled-first : RunsFirstSteps face system misled → ⊥
 misled-first scans =
     let runs = changes misled.body (ScanRunsFirstSteps system) unturned (memory (pos 0) (pos 0) opened (pos opened) (pos 0) (pos 2)) (door_at opened (pos 0)) (refl, tt) misled-scan
     (state-at misled.body (pos 0) (pos 0) opened (pos opened) (pos 0) (pos 2) (omega arith) refl) scans in
     let middle = stays-closed runs.uncontrollable runs.middle (first-run unc (door_at closed (pos 0)) runs.uncontrollable runs.middle runs.first) in
-    never-open (stays-shut runs.controllable (door_at opened (pos 0))
-    (subst (λ s. Run system con s runs.controllable (door_at opened (pos 0))) middle (first-run con runs.middle runs.controllable (door_at opened (pos 0)) runs.second)))
+    let run = subst (λ s. Run system con s runs.controllable (door_at opened (pos 0))) middle (first-run con runs.middle runs.controllable (door_at opened (pos 0)) runs.second) in
+    go runs.controllable run (locks-or-none runs.controllable (door_at opened (pos 0)) run)
+  where
+    go : (fired : List ℕ) → Run system con (door_at closed (pos 0)) fired (door_at opened (pos 0)) → (fired ≡ []) ⊎ (door_at opened (pos 0) ≡ door_at locked (pos 0)) → ⊥
+    go fired run (inl none) = let same : 1 ≡ 0 = place-same 1 0 (pos 0) (pos 0) (subst (λ es. Run system con (door_at closed (pos 0)) es (door_at opened (pos 0))) none run) in omega (arith, same)
+    go fired run (inr is) = let same : 1 ≡ 2 = place-same 1 2 (pos 0) (pos 0) is in omega (arith, same)
+
+pub forgetful-scan : memories forgetful (turned ∷ []) ≡ memories program (turned ∷ [])
+unfolding digits repeated
+forgetful-scan = refl
+
+pub forgetful-scans : memories forgetful (turned ∷ unturned ∷ []) ≡ memory (pos 1) (pos 1) opened (pos opened) (pos 0) (pos 1) ∷ memory (pos 0) (pos 0) locked (pos locked) (pos 0) (pos 2) ∷ []
+unfolding digits repeated
+forgetful-scans = refl
+
+pub forgetful-first : RunsFirstSteps face system forgetful → ⊥
+forgetful-first scans =
+    let runs = changes-then forgetful.body (ScanRunsFirstSteps system) turned unturned (memory (pos 1) (pos 1) opened (pos opened) (pos 0) (pos 1)) (memory (pos 0) (pos 0) locked (pos locked) (pos 0) (pos 2))
+    (door_at opened (pos 1)) (door_at locked (pos 0)) (refl, tt) (refl, tt) forgetful-scans
+    (state-at forgetful.body (pos 1) (pos 1) opened (pos opened) (pos 0) (pos 1) (omega arith) refl) (state-at forgetful.body (pos 0) (pos 0) locked (pos locked) (pos 0) (pos 2) (omega arith) refl) scans in
+    let middle = still (door_at opened (pos 0)) refl refl unc runs.uncontrollable runs.middle (first-run unc (door_at opened (pos 0)) runs.uncontrollable runs.middle runs.first) in
+    let last = still runs.middle (subst (λ s. makes_step system s 0 opening ≡ false) (sym middle) refl) (subst (λ s. makes_step system s 1 locking ≡ false) (sym middle) refl) con runs.controllable (door_at locked (pos 0)) (first-run con runs.middle runs.controllable (door_at locked (pos 0)) runs.second) in
+    let same : 2 ≡ 1 = place-same 2 1 (pos 0) (pos 0) (last ∙ middle) in
+    omega (arith, same)
 
 -- ---- outputs, ends of scans, types and declarations
 

@@ -134,6 +134,10 @@ hasty = program_with (frame (latches_of face) (λ e. (part_of (opens ∷ locks �
 abbrev pub misled : Program
 misled = framed_with (opens ∷ moves_to is_closed opened ∷ []) shows
 
+-- the door is closed at the start of each scan, which shows from the second scan on
+abbrev pub forgetful : Program
+forgetful = program_with (stms (assign (codes "L0_door") (number (pos closed))) program.body)
+
 -- without the outputs, which stay as they were
 abbrev pub stale : Program
 stale = framed_with (opens ∷ locks ∷ []) no_stms

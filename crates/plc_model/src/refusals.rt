@@ -1,9 +1,9 @@
 //! The promises of scans hold of a right program of a small system, and each is refused for wrong ones.
 
-ghost use Rattle.std.specs.Prelude.{◌≡◌, ◌<◌, ℕ, pos, [], ◌∷◌};
+ghost use Rattle.std.specs.Prelude.{◌≡◌, ◌+◌, ◌<◌, ℕ, pos, [], ◌∷◌};
 ghost use Rattle.plc_model.specs.Face.{HasInterface};
 ghost use Rattle.plc_model.specs.Scans.{IsProgramOf, NeverFaults, RunsFirstSteps, ScansLegally, ScansExactly, ShowsOutputs, StaysTyped, memories};
-ghost use Rattle.plc_model.specs.Door.{closed, opened, locked, system, turned, unturned, face, program, memory, unlatched, idle, hasty, misled, stale, astray, endless, untyped, hidden, ajar};
+ghost use Rattle.plc_model.specs.Door.{closed, opened, locked, system, turned, unturned, face, program, memory, unlatched, idle, hasty, misled, forgetful, stale, astray, endless, untyped, hidden, ajar};
 
 /// The right program keeps all promises: with the key turned the door is open after its first scan, and else locked.
 pub fn right_program_keeps_all_promises()
@@ -24,13 +24,14 @@ pub fn missing_latch_is_refused()
     ensures first_steps { RunsFirstSteps face system unlatched → ⊥ }
 {}
 
-/// A program that fires nothing although an event is enabled makes no legal scans for any bound but 0.
+/// A program that fires nothing although an event is enabled makes no legal scans, unless both bounds are 0.
 pub fn idle_loops_are_refused()
-    ensures scan { memories idle (turned ∷ []) ≡ memory (pos 1) (pos 1) closed (pos closed) (pos 0) (pos 1) ∷ [] }
-    ensures legal { (U C : ℕ) → 0 < U → ScansLegally U C face system idle → ⊥ }
+    ensures turned { memories idle (turned ∷ []) ≡ memory (pos 1) (pos 1) closed (pos closed) (pos 0) (pos 1) ∷ [] }
+    ensures unturned { memories idle (unturned ∷ []) ≡ memory (pos 0) (pos 0) closed (pos closed) (pos 0) (pos 1) ∷ [] }
+    ensures legal { (U C : ℕ) → 0 < U + C → ScansLegally U C face system idle → ⊥ }
 {}
 
-/// A program that fires the controllable event first makes no legal scans for any bound but 0.
+/// A program that fires the controllable event first makes no legal scans, unless the bound of the others is 0.
 pub fn controllable_events_first_are_refused()
     ensures scan { memories hasty (turned ∷ []) ≡ memory (pos 1) (pos 1) locked (pos locked) (pos 0) (pos 1) ∷ [] }
     ensures legal { (U C : ℕ) → 0 < U → ScansLegally U C face system hasty → ⊥ }
@@ -40,6 +41,14 @@ pub fn controllable_events_first_are_refused()
 pub fn wrong_steps_are_refused()
     ensures scan { memories misled (unturned ∷ []) ≡ memory (pos 0) (pos 0) opened (pos opened) (pos 0) (pos 2) ∷ [] }
     ensures first_steps { RunsFirstSteps face system misled → ⊥ }
+{}
+
+/// A program that loses its state after a right first scan makes no run of first steps in the second.
+pub fn lost_states_are_refused()
+    ensures scan { memories forgetful (turned ∷ []) ≡ memories program (turned ∷ []) }
+    ensures scans { memories forgetful (turned ∷ unturned ∷ [])
+        ≡ memory (pos 1) (pos 1) opened (pos opened) (pos 0) (pos 1) ∷ memory (pos 0) (pos 0) locked (pos locked) (pos 0) (pos 2) ∷ [] }
+    ensures first_steps { RunsFirstSteps face system forgetful → ⊥ }
 {}
 
 /// A program that doesn't write its outputs doesn't show those of the state.
@@ -60,7 +69,7 @@ pub fn numbers_outside_types_are_refused()
     ensures types { StaysTyped system untyped → ⊥ }
 {}
 
-/// A program without outputs has another interface, and one that starts at another place is none of the system.
+/// A program without outputs has another interface, and one with the door open at first doesn't start in the initial state.
 pub fn wrong_declarations_are_refused()
     ensures outputs { HasInterface face hidden → ⊥ }
     ensures start { IsProgramOf face system ajar → ⊥ }
