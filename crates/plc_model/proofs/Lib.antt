@@ -1,6 +1,5 @@
 pub mod DoorRefusals
 pub mod DoorScans
-pub mod Example
 pub mod FaceLaws
 pub mod FrameLaw
 pub mod Framed
