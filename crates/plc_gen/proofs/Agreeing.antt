@@ -159,7 +159,7 @@ module _ (n : Net) (w v : Naming) (y z : NewNames) (alike : (r : Option Ty) (q :
       ap₂ (λ bs d. append bs (stms (assign w.received d) (where_fits w.received t ss))) (expr-before None k e h.0) (expr-text None k e h.0)
       ∙ ap₂ (λ x r. append (before v k e) (stms (assign x (text v k e)) r)) received (where-same t ss ts same)
 
-  -- the state invariants that are asked
+  -- the state invariants that are tested
   module _ (c : NetChoice) (new : (x : ℕ) → has (targets c.writes) x ≡ true → NewAlike x) where
     located-same : (k p : ℕ) → w.located k p ≡ v.located k p → located_after n w c k p ≡ located_after n v c k p
     located-same k p same = go (taken_edge n c k)

@@ -12,9 +12,10 @@ use Rattle.plc_model.specs.Names.{name_for}
 use Rattle.plc_event_model.specs.Own.{new_face, place_in}
 use Rattle.plc_event_model.proofs.Targets.{has-append}
 use Rattle.plc_expr_walk.proofs.Joining.{drop-item}
-use Rattle.plc_gen.specs.Outlines.{Keeps, NamesNew, StandOnce, declared_from}
-use Rattle.plc_gen.specs.Writers.{new_names_of}
-use Rattle.plc_gen.specs.declared.writing.NewTexts.{NewTexts}
+use Rattle.plc_event.specs.Writers.{Keeps}
+use Rattle.plc_gen.specs.Outlines.{NamesNew, StandOnce, declared_from}
+use Rattle.plc_event.specs.Writers.{new_names_of}
+use Rattle.plc_event.specs.declared.writing.NewTexts.{NewTexts}
 
 -- ---- declarations
 

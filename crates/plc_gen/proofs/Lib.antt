@@ -1,8 +1,6 @@
-pub mod Bare
-pub mod Others
-pub mod Assigning
-pub mod Marking
-pub mod Steps
+pub mod BareLaws
+pub mod Once
+pub mod Typing
 pub mod Facing
 pub mod Agreeing
 pub mod Namings
@@ -10,10 +8,5 @@ pub mod Sorted
 pub mod Stand
 pub mod Parting
 pub mod Fitting
-pub mod Several
 pub mod Eventwise
-pub mod Updating
 pub mod Shown
-pub mod Changing
-pub mod Aftering
-pub mod Holding

@@ -1,5 +1,5 @@
 -- The names of a net as a generator has them name alike what is there.
-use Rattle.std.proofs.Common.{◌≡◌, ℕ, zero, suc, ◌+◌, ◌<◌, pos, true, List, [], ◌∷◌, map, length, Option, slice_get, ap, ◌∙◌, arith}
+use Rattle.std.proofs.Common.{◌≡◌, ℕ, zero, suc, ◌+◌, ◌<◌, pos, true, List, [], ◌∷◌, map, length, Option, slice_get, sym, ap, ◌∙◌, arith}
 use Rattle.std.specs.Prelude.{is_some}
 use Rattle.std.specs.List.{enumerate_from}
 use Rattle.grammar.specs.Pieces.{Text}
@@ -17,7 +17,8 @@ use Rattle.plc_expr.specs.declared.names.Names.{Names}
 use Rattle.plc_expr.specs.declared.names.PlaceText.{PlaceText}
 use Rattle.plc_event_model.specs.Own.{net_naming, path_of}
 use Rattle.plc_expr_walk.specs.Alike.{IsAlike}
-use Rattle.plc_gen.specs.Named.{AreNames, place_text, stored_name}
+use Rattle.plc_event.specs.After.{AreSame}
+use Rattle.plc_event.specs.Names.{AreNames, place_text, stored_name}
 
 -- the name with a number, of those that are numbered from j
 stored-at : (l : Letter) (vs : List NetStored) (j k : ℕ) → k < length vs → name_at (map (stored_name l) (enumerate_from j vs)) k ≡ name_for l (j + k) (path_of vs k)
@@ -51,3 +52,23 @@ module _ (n : Net) (names : Names) (are : AreNames n names) (received : Text) wh
 
   pub own-alike : (k : ℕ) → (naming_of names).own k ≡ (net_naming n received).own k
   own-alike k = ap (name_for letter.T k) are.own
+
+-- ---- two tables of names
+
+-- names of the same net are the same
+pub same_names : (n : Net) (x names : Names) → AreNames n x → AreNames n names → AreSame x names
+same_names n x names a b = record {
+  places = λ k. ap (λ (xs : List PlaceText). slice_get xs k) (a.places ∙ sym b.places);
+  variables = λ v. ap (λ xs. name_at xs v) (a.variables ∙ sym b.variables);
+  inputs = a.inputs ∙ sym b.inputs;
+  own = a.own ∙ sym b.own;
+}
+
+-- also where what is received has another name
+pub same_still : (n : Net) (x old new : Names) → AreSame x old → AreNames n old → AreNames n new → AreSame x new
+same_still n x old new same a b = record {
+  places = λ k. same.places k ∙ ap (λ (xs : List PlaceText). slice_get xs k) (a.places ∙ sym b.places);
+  variables = λ v. same.variables v ∙ ap (λ xs. name_at xs v) (a.variables ∙ sym b.variables);
+  inputs = same.inputs ∙ a.inputs ∙ sym b.inputs;
+  own = same.own ∙ a.own ∙ sym b.own;
+}

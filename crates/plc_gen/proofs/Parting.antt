@@ -23,11 +23,12 @@ use Rattle.plc_event_model.specs.Sends.{event_type}
 use Rattle.plc_event_model.specs.Writes.{NewNames}
 use Rattle.plc_event_model.proofs.Targets.{has-append, once-all}
 use Rattle.plc_event_model.specs.ProgramParts.{part_for}
-use Rattle.plc_gen.specs.Named.{AreNames, IsNamedChoice}
+use Rattle.plc_event.specs.Names.{AreNames}
+use Rattle.plc_gen.specs.Named.{IsNamedChoice}
 use Rattle.plc_gen.specs.Outlines.{IsOutline, NamesNew, declared_from, done_if, outlined_faces, outlined_ifs, outlined_new, outlined_sent}
-use Rattle.plc_gen.specs.Writers.{new_names_of}
+use Rattle.plc_event.specs.Writers.{new_names_of}
 use Rattle.plc_gen.specs.declared.faces.Outline.{Outline}
-use Rattle.plc_gen.specs.declared.writing.NewTexts.{NewTexts}
+use Rattle.plc_event.specs.declared.writing.NewTexts.{NewTexts}
 use Rattle.plc_gen.proofs.Agreeing.{all-same}
 use Rattle.plc_gen.proofs.Namings.{names-alike, own-alike}
 

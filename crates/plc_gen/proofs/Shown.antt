@@ -31,7 +31,8 @@ use Rattle.plc_event_model.specs.Own.{net_naming, if_face}
 use Rattle.plc_expr_walk.specs.Alike.{IsAlike}
 use Rattle.plc_expr_walk.proofs.Alike.{same-before, same-text}
 use Rattle.plc_event_model.specs.ProgramParts.{defined_types, shown_part, shown_text}
-use Rattle.plc_gen.specs.Named.{AreNames, IsNamedAlg}
+use Rattle.plc_event.specs.Names.{AreNames}
+use Rattle.plc_gen.specs.Named.{IsNamedAlg}
 use Rattle.plc_gen.specs.Outlines.{declared_from}
 use Rattle.plc_gen.proofs.Namings.{names-alike, own-alike}
 

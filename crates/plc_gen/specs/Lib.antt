@@ -1,10 +1,3 @@
-pub mod Marked
-pub mod Assigned
 pub mod Named
-pub mod Writers
-pub mod Making
 pub mod Outlines
 pub mod Order
-pub mod Moved
-pub mod Changed
-pub mod After

@@ -1,7 +1,6 @@
 -- Helper of the code: the own variables of an event, and the names of its new values.
-use Rattle.std.specs.Prelude.{◌≡◌, ℕ, ◌+◌, Bool, true, List, [], ◌∷◌, ◌++◌, length, map, flat_map, nat_eq, Some, None, slice_get, if◌then◌else◌}
+use Rattle.std.specs.Prelude.{◌≡◌, ℕ, ◌+◌, Bool, true, List, [], ◌∷◌, ◌++◌, length, map, flat_map, Some, slice_get, if◌then◌else◌}
 use Rattle.std.specs.List.{enumerate_from}
-use Rattle.grammar.specs.Pieces.{Text}
 use Rattle.cif_net_model.specs.Facts.{has}
 use Rattle.cif_net_model.specs.Listing.{NetChoice}
 use Rattle.cif_net_model.specs.Net.{Net}
@@ -14,10 +13,10 @@ use Rattle.plc_frame.specs.Events.{done_face}
 use Rattle.plc_event_model.specs.Own.{choice_types, event_vars, faces_sent, if_face, new_face, place_in, range_face, tests_range}
 use Rattle.plc_event_model.specs.Sends.{event_type}
 use Rattle.plc_event_model.specs.Parts.{needs_done}
-use Rattle.plc_gen.specs.Writers.{new_names_of}
+use Rattle.plc_event.specs.Writers.{new_names_of}
 use Rattle.plc_gen.specs.declared.faces.NewFace.{NewFace}
 use Rattle.plc_gen.specs.declared.faces.Outline.{Outline}
-use Rattle.plc_gen.specs.declared.writing.NewTexts.{NewTexts}
+use Rattle.plc_event.specs.declared.writing.NewTexts.{NewTexts}
 
 -- what decides which own variables an event with these choices has
 pub record IsOutline (n : Net) (cs : List NetChoice) (x : Outline) : Type 0 where
@@ -57,15 +56,10 @@ outlined_ifs first x = outlined_sent first x + length (faces_sent x.sent)
 
 -- ---- names of new values
 
--- no number stands twice
+-- no number occurs twice
 abbrev pub StandOnce : List ℕ → Type 0
 StandOnce vs = (i v : ℕ) → slice_get vs i ≡ Some v → place_in vs v ≡ i
 
 -- the new values of these variables are numbered from k
 abbrev pub NamesNew : Net → ℕ → List ℕ → NewTexts → Type 0
 NamesNew n k vs x = (v : ℕ) → has vs v ≡ true → (new_names_of x).next v ≡ name_for letter.T (k + place_in vs v) (new_face n v).path
-
--- one variable has this name afterwards, and nothing else changes
-pub record Keeps (old new : NewTexts) (var : ℕ) (name : Text) : Type 0 where
-  pub next : (v : ℕ) → (new_names_of new).next v ≡ (if nat_eq v var then name else (new_names_of old).next v)
-  pub in_range : new.in_range ≡ old.in_range

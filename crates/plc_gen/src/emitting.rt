@@ -14,9 +14,9 @@ use plc_frame::Bounds;
 use st_ast::Program;
 use std::alloc::Global;
 
-/// The program of a net whose conditional updates nest no deeper than statements can. It makes the net's scans, with these most
-/// rounds of each class. Own variables past 31 bits are want of memory. The time is linear in the choices, in the state
-/// invariants of each, and in what is written.
+/// The program of a net whose conditional updates nest no deeper than statements can. It makes the net's scans, with at most
+/// `bounds` rounds of each class; `Memory` where the own variables are numbered beyond 31 bits. The time is linear in the choices,
+/// in the state invariants of each, and in what is written.
 pub fn emit(alloc: Global, guarded: &Guarded, bounds: Bounds) -> Result<Program, Memory>
     requires shallow { is_shallow (net_tree guarded.now.plain.net) ≡ true }
     requires unc { bounds.unc ≤ 10000 }

@@ -1,24 +1,20 @@
 //! The own variables of an event.
 
 ghost use Rattle.std.specs.Prelude.{◌≡◌, ◌+◌, ◌++◌, [], ◌∷◌, flat_map, length, map, IfOk, OnOk, Some, None};
-ghost use Rattle.cif_net_model.specs.Exprs.{targets};
-ghost use Rattle.cif_net_model.specs.Listing.{NetChoice};
 ghost use Rattle.cif_net.specs.View.{choice_tree, net_tree};
 ghost use Rattle.plc_model.specs.Face.{declaration, literal_of};
 ghost use Rattle.plc_model.specs.Names.{name_for};
 ghost use Rattle.plc_model.specs.declared.letter.Letter.TheVariants as letter;
 ghost use Rattle.st_ast.specs.declared.tree.StClass.TheVariants as class;
 ghost use Rattle.plc_event_model.specs.Own as o;
-ghost use Rattle.plc_gen.specs.Outlines.{IsOutline, Keeps, NamesNew, StandOnce, declared_from, done_if, face_tree, range_if};
+ghost use Rattle.plc_event.specs.Writers.{Keeps};
+ghost use Rattle.plc_gen.specs.Outlines.{IsOutline, NamesNew, StandOnce, declared_from, done_if, face_tree, range_if};
 
-use crate::asking::Changes;
-use crate::events::needs_mark;
-use crate::marks::once_of;
-use crate::targets::{add_targets, any_tested};
-use crate::types::{add_choice_types, event_type, new_type, sent_type};
-use crate::writing::NewTexts;
+use crate::bare::needs_mark;
+use crate::types::{add_choice_types, event_type};
 use cif_base::{Items, Memory, Text, Ty};
 use cif_net::{Choice, Net};
+use plc_event::{Changes, NewTexts, any_tested, assigned_variables, new_type, sent_type};
 use plc_model::Letter;
 use plc_names::name_of;
 use st_ast::{StClass, StLit, StTy, StVar};
@@ -36,7 +32,7 @@ pub struct Outline {
 }
 
 /// The outline of the event of these choices.
-pub fn outline_of(
+pub(crate) fn outline_of(
     alloc: Global,
     net: &Net,
     choices: &[Choice],
@@ -44,24 +40,13 @@ pub fn outline_of(
 ) -> Result<Outline, Memory>
     ensures { IfOk result (λ x. IsOutline (net_tree net.now) (map choice_tree choices.now) x) }
 {
-    let targets = all_targets(alloc, choices)?;
     Ok(Outline {
         has_mark: needs_mark(alloc, net, choices, changes)?,
         tests_range: any_range_tested(net, choices),
-        vars: once_of(alloc, targets.as_slice(), &mut changes.variables)?,
+        vars: assigned_variables(alloc, choices, changes)?,
         sent: event_type(net, choices),
         types: all_types(alloc, net, choices, changes)?,
     })
-}
-
-fn all_targets(alloc: Global, choices: &[Choice]) -> Result<Items<u32>, Memory>
-    ensures { IfOk result (λ all. all ≡ flat_map (λ (c : NetChoice). targets c.writes) (map choice_tree choices.now)) }
-{
-    let mut all = Items::new(alloc);
-    for choice in choices {
-        add_targets(choice.writes.as_slice(), &mut all)?;
-    }
-    Ok(all)
 }
 
 fn any_range_tested(net: &Net, choices: &[Choice]) -> bool
@@ -108,7 +93,7 @@ pub struct NewFace {
     pub first: i64,
 }
 
-/// The new value of a variable. One that is not there has an integer; no net has it.
+/// The new value of a variable; an integer for a variable that the net lacks.
 fn new_face_of(alloc: Global, net: &Net, var: u32) -> Result<NewFace, Memory>
     ensures { IfOk result (λ x. face_tree x ≡ o.new_face (net_tree net.now) var) }
 {
@@ -136,7 +121,7 @@ pub struct OwnVariables {
 }
 
 impl OwnVariables {
-    /// Declares a variable with this name, which has the next number. A number that runs out is want of memory.
+    /// Declares a variable with this name, which has the next number; `Memory` beyond 32 bits.
     fn declare(&mut self, name: Text, ty: StTy, first: i64) -> Result<(), Memory>
         ensures variables { OnOk result (self.new.variables ≡ self.old.variables
             ++ record { name = name; class = class.Plain; ty = ty; init = Some (literal_of ty first); at = None } ∷ []) }
@@ -166,7 +151,7 @@ impl OwnVariables {
     }
 
     /// Declares the mark that a choice was made, if the event has it.
-    pub fn add_done(&mut self, alloc: Global, has_mark: bool) -> Result<(), Memory>
+    pub(crate) fn add_done(&mut self, alloc: Global, has_mark: bool) -> Result<(), Memory>
         ensures variables { OnOk result (self.new.variables ≡ self.old.variables ++ declared_from self.old.next (done_if has_mark)) }
         ensures next { OnOk result (self.new.next ≡ self.old.next + length (done_if has_mark)) }
     {
@@ -177,7 +162,7 @@ impl OwnVariables {
     }
 
     /// Declares the mark that new values are in their ranges, if the event has it.
-    pub fn add_range(&mut self, alloc: Global, tests_range: bool) -> Result<(), Memory>
+    pub(crate) fn add_range(&mut self, alloc: Global, tests_range: bool) -> Result<(), Memory>
         ensures variables { OnOk result (self.new.variables ≡ self.old.variables ++ declared_from self.old.next (range_if tests_range)) }
         ensures next { OnOk result (self.new.next ≡ self.old.next + length (range_if tests_range)) }
     {
@@ -207,7 +192,7 @@ impl OwnVariables {
     }
 
     /// Declares the new values of variables, and keeps their names.
-    pub fn add_new(
+    pub(crate) fn add_new(
         &mut self,
         alloc: Global,
         net: &Net,
@@ -227,7 +212,7 @@ impl OwnVariables {
     }
 
     /// Declares what is sent, if the event carries values.
-    pub fn add_sent(&mut self, alloc: Global, sent: Option<Ty>) -> Result<(), Memory>
+    pub(crate) fn add_sent(&mut self, alloc: Global, sent: Option<Ty>) -> Result<(), Memory>
         ensures variables { OnOk result (self.new.variables ≡ self.old.variables ++ declared_from self.old.next (o.faces_sent sent)) }
         ensures next { OnOk result (self.new.next ≡ self.old.next + length (o.faces_sent sent)) }
     {
@@ -238,7 +223,7 @@ impl OwnVariables {
     }
 
     /// Declares the variables of `if`s with these types.
-    pub fn add_ifs(&mut self, alloc: Global, types: &[StTy]) -> Result<(), Memory>
+    pub(crate) fn add_ifs(&mut self, alloc: Global, types: &[StTy]) -> Result<(), Memory>
         ensures variables { OnOk result (self.new.variables ≡ self.old.variables ++ declared_from self.old.next (map o.if_face types.now)) }
         ensures next { OnOk result (self.new.next ≡ self.old.next + length types.now) }
     {

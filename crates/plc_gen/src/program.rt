@@ -7,20 +7,20 @@ ghost use Rattle.plc_frame.specs.Given.{FrameFits};
 ghost use Rattle.plc_frame.specs.Makes.{Makes};
 ghost use Rattle.plc_event_model.specs.ProgramParts.{HasParts, net_parts, net_program, shown_first, shown_part};
 
-use crate::naming::names_of;
 use crate::parts::{Parts, all_parts, number_after};
 use crate::showing::shown_part_of;
 use cif_base::Memory;
 use cif_net::Guarded;
+use plc_event::names_of;
 use plc_frame::{Bounds, frame};
 use st_ast::Program;
 use std::alloc::Global;
 
-/// The number behind those of the most own variables, which are numbered from 2 on in 31 bits.
+/// The bound of the numbers of own variables, which are numbered from 2 on in 31 bits.
 const MOST_OWN: u32 = 2_147_483_648;
 
-/// The program of a net, where its parts fit into the frame. Own variables past 31 bits are want of memory. The time is
-/// linear in the choices, in the state invariants of each, and in what is written.
+/// The program of a net, where its parts fit into the frame; `Memory` where the own variables are numbered beyond 31 bits. The time
+/// is linear in the choices, in the state invariants of each, and in what is written.
 pub(crate) fn emit_fitting(
     alloc: Global,
     guarded: &Guarded,

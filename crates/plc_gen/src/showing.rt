@@ -12,12 +12,13 @@ ghost use Rattle.plc_expr.specs.Texts.{before, temps, text};
 ghost use Rattle.plc_expr.specs.Written.{naming_of};
 ghost use Rattle.plc_frame.specs.Given.{part_tree};
 ghost use Rattle.plc_event_model.specs.ProgramParts.{defined_types, shown_part, shown_text};
-ghost use Rattle.plc_gen.specs.Named.{AreNames, IsNamedAlg};
+ghost use Rattle.plc_event.specs.Names.{AreNames};
+ghost use Rattle.plc_gen.specs.Named.{IsNamedAlg};
 
 use crate::faces::OwnVariables;
-use crate::naming::number_at;
 use cif_base::{Boxed, Items, Memory};
 use cif_net::{Alg, Net, NetExpr, definition};
+use plc_event::number_at;
 use plc_expr::{Draft, Names};
 use plc_expr_walk::{own_types_of, written};
 use plc_frame::Part;
@@ -33,7 +34,7 @@ struct ShownText {
     statements: Items<Stmt>,
 }
 
-/// Adds the statements by which the R variable with this number and path takes over the value of an expression.
+/// Adds the statements that assign the value of an expression to the R variable with this number and path.
 #[tactic(auto, using(plc_expr_walk::proofs::Joining::statements))]
 fn show(
     alloc: Global,
@@ -55,8 +56,8 @@ fn show(
     Ok(())
 }
 
-/// What shows these algebraic variables in their order, where the own variables are numbered from a number on. A definition by
-/// location is built once.
+/// The statements that show these algebraic variables in their order. The own variables are numbered from `first` on. A definition
+/// by location is built once.
 fn shows(
     alloc: Global,
     net: &Net,
@@ -87,9 +88,9 @@ fn shows(
     Ok(ShownText { types, statements })
 }
 
-/// The part that shows the algebraic variables, whose own variables are numbered from a number on. The definitions name what is
-/// in the net. The time is linear in what is written.
-pub fn shown_part_of(
+/// The part that shows the algebraic variables. Its own variables are numbered from `first` on, and the definitions name what is in
+/// the net. The time is linear in what is written.
+pub(crate) fn shown_part_of(
     alloc: Global,
     net: &Net,
     names: &Names,

@@ -1,91 +1,23 @@
-//! The types of variables, and of the own variables of a choice's expressions in the order of its statements.
+//! The types of the own variables of a choice's expressions, in the order of its statements.
 
-ghost use Rattle.std.specs.Prelude.{◌≡◌, ◌++◌, true, map, OnOk, None};
+ghost use Rattle.std.specs.Prelude.{◌≡◌, ◌++◌, map, OnOk, None};
 ghost use Rattle.cif_net_expr.specs.View.{view_update, view_update_branches, view_updates};
-ghost use Rattle.cif_net_model.specs.Facts.{channel_of};
 ghost use Rattle.cif_net_model.specs.Listing.{all_hold};
-ghost use Rattle.cif_net_model.specs.Shown as t;
-ghost use Rattle.cif_net_model.specs.Table as c;
-ghost use Rattle.cif_net.specs.View.{chan_of, choice_tree, net_tree};
+ghost use Rattle.cif_net.specs.View.{choice_tree, net_tree};
 ghost use Rattle.plc_expr.specs.Sorts.{own_types};
-ghost use Rattle.plc_event_model.specs.Keeps.{asked};
+ghost use Rattle.plc_event_model.specs.Keeps.{asked, invariants_at};
 ghost use Rattle.plc_event_model.specs.Own as o;
 ghost use Rattle.plc_event_model.specs.Sends as s;
-ghost use Rattle.plc_frame.specs.Faces as f;
-ghost use Rattle.plc_frame.specs.Small.{is_small};
 
-use crate::asking::{Changes, asked_of, invariants_types};
-use crate::targets::is_tested;
 use cif_base::{Items, Memory, Ty};
-use cif_net::{Choice, Net, NetChan, NetUpdate, NetUpdateBranch};
+use cif_net::{Choice, Net, NetUpdate, NetUpdateBranch};
+use plc_event::{Changes, carried_type, invariants_after};
 use plc_expr_walk::own_types_of;
 use st_ast::StTy;
 use std::alloc::Global;
 
-/// The type of a variable, where a literal of an enumeration is its place. The size of an enumeration is a number of 32 bits.
-pub fn st_type(ty: Ty) -> StTy
-    ensures mapped { result ≡ f.st_type ty }
-    ensures small { is_small ty ≡ true }
-{
-    match ty {
-        Ty::Bool => StTy::Bool,
-        Ty::Int { lo, hi } => StTy::Range { lo, hi },
-        Ty::Enum { size } => StTy::Range {
-            lo: 0,
-            hi: i64::from(size) - 1,
-        },
-    }
-}
-
-/// The type of a new value: any integer where it is tested, and else the type of its variable.
-pub fn new_type(ty: Ty) -> StTy
-    ensures { result ≡ o.new_type ty }
-{
-    if is_tested(ty) {
-        StTy::Lint
-    } else {
-        st_type(ty)
-    }
-}
-
-/// The type of what is sent: any integer, or a boolean.
-pub fn sent_type(ty: Ty) -> StTy
-    ensures { result ≡ o.sent_type ty }
-{
-    match ty {
-        Ty::Bool => StTy::Bool,
-        Ty::Int { lo: _, hi: _ } | Ty::Enum { size: _ } => StTy::Lint,
-    }
-}
-
-/// The type of what an event carries, if it carries values.
-fn channel_type(net: &Net, event: u32) -> Option<Ty>
-    ensures { result ≡ t.channel_type (channel_of (net_tree net.now) event) }
-{
-    match net.events.get(event as usize) {
-        Some(found) => type_on(found.chan),
-        None => None,
-    }
-}
-
-fn type_on(chan: NetChan) -> Option<Ty>
-    ensures { result ≡ t.channel_type (chan_of chan) }
-{
-    match chan {
-        NetChan::Of(ty) => Some(ty),
-        NetChan::No | NetChan::Void => None,
-    }
-}
-
-/// The type of what the choice may send, by its event.
-pub fn carried_type(net: &Net, choice: &Choice) -> Option<Ty>
-    ensures { result ≡ c.carried_type (net_tree net.now) (choice_tree choice.now) }
-{
-    channel_type(net, choice.event)
-}
-
 /// The type of what is sent over the event of these choices.
-pub fn event_type(net: &Net, choices: &[Choice]) -> Option<Ty>
+pub(crate) fn event_type(net: &Net, choices: &[Choice]) -> Option<Ty>
     ensures { result ≡ s.event_type (net_tree net.now) (map choice_tree choices.now) }
 {
     match choices.first() {
@@ -95,8 +27,8 @@ pub fn event_type(net: &Net, choices: &[Choice]) -> Option<Ty>
 }
 
 /// Adds the types of the own variables of the test, of what is sent, of the updates from the last to the first, which may read
-/// what is sent, and of the invariants that are asked.
-pub fn add_choice_types(
+/// what is sent, and of the state invariants that are tested after the choice.
+pub(crate) fn add_choice_types(
     alloc: Global,
     choice: &Choice,
     net: &Net,
@@ -113,10 +45,10 @@ pub fn add_choice_types(
         carried_type(net, choice),
         types,
     )?;
-    asked_types(alloc, choice, net, changes, types)
+    invariants_types_after(alloc, choice, net, changes, types)
 }
 
-fn asked_types(
+fn invariants_types_after(
     alloc: Global,
     choice: &Choice,
     net: &Net,
@@ -125,7 +57,7 @@ fn asked_types(
 ) -> Result<(), Memory>
     ensures { OnOk result (types.new ≡ types.old ++ own_types (net_tree net.now) None (all_hold (asked (net_tree net.now) (choice_tree choice.now)))) }
 {
-    let numbers = asked_of(alloc, net, choice, changes)?;
+    let numbers = invariants_after(alloc, net, choice, changes)?;
     invariants_types(net, numbers.as_slice(), types)
 }
 
@@ -199,6 +131,20 @@ fn bodies_types(
 {
     for branch in branches {
         updates_types(branch.updates.as_slice(), net, received, types)?;
+    }
+    Ok(())
+}
+
+/// Adds the types of the own variables of these invariants. An invariant that the net lacks is reported as `Memory`; no choice
+/// has one.
+fn invariants_types(net: &Net, numbers: &[u32], types: &mut Items<StTy>) -> Result<(), Memory>
+    ensures { OnOk result (types.new ≡ types.old ++ own_types (net_tree net.now) None (all_hold (invariants_at (net_tree net.now) numbers.now))) }
+{
+    for number in numbers {
+        let Some(found) = net.invariants.get(*number as usize) else {
+            return Err(Memory);
+        };
+        own_types_of(&found.pred, net, None, types)?;
     }
     Ok(())
 }

@@ -3,8 +3,9 @@ use Rattle.std.specs.List.{AllByRecursion, range_with_len}
 use Rattle.cif_net.specs.View.{choice_tree, net_tree}
 use Rattle.plc_frame.specs.Given.{own_variables, part_tree}
 use Rattle.plc_event_model.specs.ProgramParts.{net_parts, parts_from}
-use Rattle.plc_gen.specs.After.{AreSame}
-use Rattle.plc_gen.specs.Named.{AreNames, IsNamedChoice}
+use Rattle.plc_event.specs.After.{AreSame}
+use Rattle.plc_event.specs.Names.{AreNames}
+use Rattle.plc_gen.specs.Named.{IsNamedChoice}
 use Rattle.plc_gen.specs.Order.{Ascending}
 use Rattle.plc_gen.proofs.parts.all_parts.Given as goal
 

@@ -8,8 +8,8 @@ use Rattle.plc_frame.specs.Given.{part_tree}
 use Rattle.plc_frame.specs.declared.given.Part.{Part}
 use Rattle.plc_event_model.specs.ProgramParts.{part_for}
 use Rattle.plc_gen.specs.Outlines.{StandOnce}
-use Rattle.plc_gen.proofs.Aftering.{same_still}
-use Rattle.plc_gen.proofs.Marking.{stand-once}
+use Rattle.plc_gen.proofs.Namings.{same_still}
+use Rattle.plc_gen.proofs.Once.{stand-once}
 use Rattle.plc_gen.proofs.Parting.{part-is}
 use Rattle.plc_gen.proofs.parts.event_part_of.Goals as goal
 
@@ -17,8 +17,8 @@ pub declared-requires-clause-once : goal.declared-requires-clause-once
 declared-requires-clause-once c =
     subst StandOnce (sym c.in_ok-outline.ensures.vars) (stand-once (flat_map (λ (d : NetChoice). targets d.writes) (map choice_tree c.args.choices.now)))
 
-pub statements-requires-clause-same : goal.statements-requires-clause-same
-statements-requires-clause-same c =
+pub statements_of-requires-clause-same : goal.statements_of-requires-clause-same
+statements_of-requires-clause-same c =
     same_still (net_tree c.args.net.now) c.args.tables.now.scratch.after c.args.names.now c.declared.new.names c.requires.same c.requires.names c.in_ok-variables.ensures.still_names
 
 pub returns-clause-part : goal.returns-clause-part

@@ -8,7 +8,7 @@ use Rattle.plc_model.specs.declared.letter.Letter.TheVariants as letter
 use Rattle.plc_expr.specs.Texts.{before, text}
 use Rattle.plc_expr.specs.Written.{naming_of}
 use Rattle.plc_gen.proofs.Shown.{one-shown}
-use Rattle.plc_gen.proofs.Updating.{view_assign}
+use Rattle.plc_event.proofs.Updating.{view_assign}
 use Rattle.plc_gen.proofs.showing.show.Goals as goal
 
 pub returns-clause-before : goal.returns-clause-before

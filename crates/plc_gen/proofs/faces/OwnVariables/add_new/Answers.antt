@@ -2,7 +2,7 @@ use Rattle.std.proofs.Common.{◌∙◌, arith}
 use Rattle.cif_net.specs.View.{net_tree}
 use Rattle.plc_event_model.specs.Own.{new_face}
 use Rattle.plc_gen.proofs.Facing.{counted-more, declared-more, one-named}
-use Rattle.plc_gen.proofs.Marking.{same-item}
+use Rattle.plc_event.proofs.Marking.{same-item}
 use Rattle.plc_gen.proofs.faces.OwnVariables.add_new.Goals as goal
 
 pub loop-var-preserved : goal.loop-var-preserved

@@ -1,0 +1,9 @@
+pub mod Others
+pub mod Assigning
+pub mod Marking
+pub mod Steps
+pub mod Updating
+pub mod Changing
+pub mod Aftering
+pub mod Holding
+pub mod Several
