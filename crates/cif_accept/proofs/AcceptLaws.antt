@@ -2,10 +2,10 @@
 use Rattle.std.proofs.Common.{◌≡◌, ℕ, ◌≤◌, length, Some, refl, sym, subst, inl, inr, arith}
 use Rattle.grammar.specs.Pieces.{Text}
 use Rattle.cif_io.specs.Faults.{Rose}
+use Rattle.cif_refusal.specs.declared.refusal.Refusal.{Refusal}
 use Rattle.cif_run.specs.declared.status.Status.{Status}
 use Rattle.cif_run.specs.declared.status.Status.TheVariants as status
 use Rattle.cif_run.specs.declared.status.ProfileWhy.TheVariants as profile
-use Rattle.cif_run.specs.declared.status.Refusal.{Refusal}
 use Rattle.cif_run.specs.declared.ended.Ended.{Ended}
 use Rattle.cif_run.specs.Groups.{group_of, IsUnlessMemory}
 use Rattle.cif_run.specs.Works.{Comes, Content, Failed, Holds, Input, Overlong, Reading, StopsIn, Unread, Work, Writing}
@@ -15,7 +15,6 @@ use Rattle.cif_front.specs.Loads.{ReadsAsSource}
 use Rattle.cif_net.specs.declared.guarded.Guarded.{Guarded}
 use Rattle.cif_front.specs.Loads.{Loads}
 use Rattle.cif_accept.specs.Accepts.{CommandEnds, FileRefused, IsLoaded, SourceEnds, SourceHasTooMany, SourceRefused, silent_work, source_input, source_limit, source_work}
-use Rattle.cif_accept.proofs.SourceLaws.{refused_of}
 use Rattle.cif_accept.proofs.OverSource.{IsOverSource, longer_told, not_refused, this}
 
 -- ---- the reader
@@ -70,7 +69,7 @@ module _ (file : Text) (P : Source → Text → Type 0) (E : CommandEnds) (c : R
 
   pub refused : TellsItsOwn E → (why : Refusal) → r ≡ status.Refused why → SourceRefused c.content file why
   refused own why q = elim (ended_so work c o e came r same (status.Refused why) (λ z. cc) refl q) [
-    | inl h ↦ (h.0, h.1, h.2, refused_of h.0 why e.variable h.3)
+    | inl h ↦ (h.0, h.1, h.2, h.3.0)
     | inr h ↦ absurd (own.refused h.0 why e.variable h.2)
   ]
 

@@ -2,21 +2,21 @@
 use Rattle.std.proofs.Common.{◌≡◌, ℕ, ◌<◌, ◌≤◌, ◌⊎◌, length, Option, Some, refl, sym, ap, subst, ◌∙◌, inl, inr, arith}
 use Rattle.std.specs.Prelude.{IfSome, MatchOption}
 use Rattle.grammar.specs.Pieces.{Text}
+use Rattle.cif_refusal.specs.declared.refusal.Refusal.{Refusal}
 use Rattle.cif_source.specs.Source.{Source}
 use Rattle.cif_io.specs.Faults.{Rose}
 use Rattle.cif_run.specs.declared.status.Status.{Status}
 use Rattle.cif_run.specs.declared.status.Status.TheVariants as status
 use Rattle.cif_run.specs.declared.status.ProfileWhy.TheVariants as profile
-use Rattle.cif_run.specs.declared.status.Refusal.{Refusal}
 use Rattle.cif_run.specs.declared.ended.Ended.{Ended}
 use Rattle.cif_run.specs.Groups.{group_of, IsUnlessMemory}
 use Rattle.cif_run.specs.Works.{Comes, Content, Failed, Holds, Input, IsLonger, Reading, Work, Writing}
 use Rattle.cif_run.proofs.CallLaws.{came_how, wrote_begins}
 use Rattle.cif_run.proofs.CallLaws as call
+use Rattle.cif_front.specs.Dues.{HasTooMany, IsRefused}
 use Rattle.cif_front.specs.Loads.{ReadsAsSource}
 use Rattle.cif_accept.specs.Accepts.{FileRefused, HasSource, SourceHas, SourceHasTooMany, SourceIs, SourceRefused, source_input, source_limit}
-use Rattle.cif_accept.specs.Refused.{HasTooMany, IsRefused}
-use Rattle.cif_accept.proofs.SourceLaws.{one_source, refused_of, refused_reads_none, too_many_none}
+use Rattle.cif_accept.proofs.SourceLaws.{one_source, refused_reads_none, too_many_none}
 
 -- Another file is asked for, a text is written, and what isn't a refusal of the source is told, only where the file holds a source.
 pub record IsOverSource (w : Work) (content : Content) (file : Text) : Type 0 where
@@ -41,7 +41,7 @@ Refuses content file s = ((why : Refusal) × (s ≡ status.Refused why) × Sourc
     ⊎ ((count : ℕ) × (s ≡ status.OutsideProfile (profile.TooManyChoices count)) × SourceHasTooMany content file count)
 
 refused_as : (content : Content) (file : Text) (s : Status) (name : Text) → FileRefused content file s name → Refuses content file s
-refused_as content file (status.Refused why) name h = inl (why, refl, (h.0, h.1, h.2, refused_of h.0 why name h.3))
+refused_as content file (status.Refused why) name h = inl (why, refl, (h.0, h.1, h.2, h.3.0))
 refused_as content file (status.OutsideProfile (profile.TooManyChoices count)) name h = inr (count, refl, h)
 refused_as content file (status.OutsideProfile (profile.Unclassed event)) name h = absurd h
 refused_as content file _ name h = absurd h

@@ -4,14 +4,15 @@ use Rattle.grammar.specs.Pieces.{Text}
 use Rattle.cif_run.specs.declared.status.Status.{Status}
 use Rattle.cif_run.specs.declared.status.Status.TheVariants as status
 use Rattle.cif_run.specs.declared.status.ProfileWhy.TheVariants as profile
-use Rattle.cif_run.specs.declared.status.Refusal.{Refusal}
 use Rattle.cif_run.specs.Works.{Content, Holds, Input, Work, whole_work}
 use Rattle.cif_net.specs.declared.guarded.Guarded.{Guarded}
 use Rattle.cif_net.specs.View.{net_tree}
-use Rattle.cif_front.specs.Loads.{Stands}
 use Rattle.cif_source.specs.Source.{Source}
-use Rattle.cif_front.specs.Loads.{ReadsAsSource}
-use Rattle.cif_accept.specs.Refused.{IsRefused, IsRefusedAs, HasTooMany}
+use Rattle.cif_refusal.specs.declared.refusal.Refusal.{Refusal}
+use Rattle.cif_front.specs.declared.error.LoadErr.TheVariants as load
+use Rattle.cif_front.specs.Dues.{HasTooMany, IsRefused}
+use Rattle.cif_front.specs.Loads.{ReadsAsSource, Stands}
+use Rattle.cif_front.specs.Paths.{NamesIn}
 
 -- the most bytes of a source
 abbrev pub source_limit : ℕ
@@ -47,6 +48,10 @@ HasSource content file = OfSource content file (λ t. Unit {0})
 -- the net is that of the source in the file
 abbrev pub IsLoaded : Content → Text → Guarded → Type 0
 IsLoaded content file g = (t : Source) × SourceIs content file t × Stands (net_tree g.plain.net) t
+
+-- the text is refused for this cause, and if the cause tells of an algebraic variable, its path is this name
+abbrev pub IsRefusedAs : Text → Refusal → (name : Text) → Type 0
+IsRefusedAs text why name = IsRefused text why × NamesIn text (load.Refused why) name
 
 -- why a source gives nothing, by the status, where that tells of something of this name
 abbrev pub SourceEnds : Text → Status → (name : Text) → Type 0

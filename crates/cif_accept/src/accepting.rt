@@ -4,16 +4,29 @@ ghost use Rattle.std.specs.Prelude.{◌≡◌, ◌≤◌, ℕ, List, length, IfO
 ghost use Rattle.cif_front.specs.Loads.{Loads};
 ghost use Rattle.cif_run.specs.Works.{Stops, reading};
 ghost use Rattle.cif_accept.specs.Accepts.{IsLoaded, SourceEnds, silent_work};
+ghost use Rattle.cif_accept.specs.Refusals as refusals;
 
-use crate::refusing::status_of;
-use cif_front::{Refused, load_named};
+use cif_front::{LoadErr, Unloaded, load_named};
 use cif_io::Files;
 use cif_net::Guarded;
-use cif_run::{Ended, read_file};
+use cif_run::{Ended, ProfileWhy, Status, read_file};
 use std::alloc::Global;
 
 /// The most bytes of a source.
 pub const SOURCE_LIMIT: u32 = 4_194_304;
+
+/// How a command ends whose source is not loaded for this cause.
+fn status_of(error: LoadErr) -> Status
+    ensures { result ≡ refusals.status_of error }
+{
+    match error {
+        LoadErr::Refused { why } => Status::Refused { why },
+        LoadErr::TooManyChoices { count } => Status::OutsideProfile {
+            why: ProfileWhy::TooManyChoices { count },
+        },
+        LoadErr::Memory => Status::Memory,
+    }
+}
 
 /// The net of a source.
 #[tactic(auto, using(crate::proofs::SourceLaws::due_ends))]
@@ -24,7 +37,7 @@ fn net_of(alloc: Global, source: &[u8]) -> Result<Guarded, Ended>
 {
     match load_named(alloc, source) {
         Ok(net) => Ok(net),
-        Err(Refused { why, path }) => Err(Ended {
+        Err(Unloaded { why, path }) => Err(Ended {
             status: status_of(why),
             variable: path,
             limit: 0,

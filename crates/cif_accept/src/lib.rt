@@ -3,7 +3,6 @@
 
 mod accepting;
 mod laws;
-mod refusing;
 
 pub use accepting::{SOURCE_LIMIT, accept_file};
 pub use laws::these_tokens_are_read;

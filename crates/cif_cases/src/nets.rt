@@ -12,7 +12,7 @@ use cif_alg::inline;
 use cif_alg_measure::{check_intervals, depth_of};
 use cif_ast::Spec;
 use cif_base::Text;
-use cif_front::{Refusal, load};
+use cif_front::{LoadErr, load};
 use cif_inst::instantiate;
 use cif_net::{Auto, Choice, Class, Event, Guarded, Move, Net, NetEdge, State};
 use cif_resolve::resolve;
@@ -37,7 +37,7 @@ pub fn load_case(fields: &Fields<'_>, page: &mut String) -> Result<(), Fault> {
 }
 
 #[tactic(auto, using(crate::proofs::NetLaws::loads_shallow))]
-pub(crate) fn loaded(alloc: Global, text: &[u8]) -> Result<Result<Guarded, Refusal>, Fault>
+pub(crate) fn loaded(alloc: Global, text: &[u8]) -> Result<Result<Guarded, LoadErr>, Fault>
     ensures shallow { IfOk result (λ answer. IfOk answer (λ g. is_shallow (net_tree g.plain.net) ≡ true)) }
 {
     if text.len() > MOST_BYTES {
@@ -56,7 +56,7 @@ fn put_guarded(alloc: Global, page: &mut String, guarded: &Guarded) -> Result<()
 }
 
 /// The net of a source in which algebraic variables stand as names, or why there is none.
-fn net_of(alloc: Global, spec: &Spec) -> Result<Net, Refusal>
+fn net_of(alloc: Global, spec: &Spec) -> Result<Net, LoadErr>
     requires countable { IsCountable spec.now }
     requires small { HasSmallNumbers spec.now }
 {

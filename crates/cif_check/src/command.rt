@@ -6,7 +6,7 @@ ghost use Rattle.cif_run.specs.Works.{Comes, reading, writing};
 ghost use Rattle.cif_source.specs.Source.{Source};
 ghost use Rattle.cif_accept.specs.Accepts.{SourceHasTooMany, SourceIs, SourceRefused};
 ghost use Rattle.cif_run.specs.declared.status.ProfileWhy.{ProfileWhy};
-ghost use Rattle.cif_run.specs.declared.status.Refusal.{Refusal};
+ghost use Rattle.cif_refusal.specs.declared.refusal.Refusal.{Refusal};
 ghost use Rattle.cif_check.specs.Checks.{accepted, check_of, check_work};
 
 use crate::words::Check;

@@ -25,8 +25,9 @@ use Rattle.cif_source.specs.Objects.{Declared, algs}
 use Rattle.cif_inst_model.specs.Flat.{net_alg, net_of_source}
 use Rattle.cif_front.specs.Dues.{lex_refusal, parse_refusal, scope_refusal, type_refusal, inst_refusal, alg_refusal, lin_refusal}
 use Rattle.cif_front.specs.Paths.{path_in, NamesNothing, NamesOf, NamesIn, NamesFor}
-use Rattle.cif_front.specs.declared.refusal.Refusal.{Refusal}
-use Rattle.cif_front.specs.declared.refusal.Refusal.TheVariants as refusal
+use Rattle.cif_refusal.specs.declared.refusal.Refusal.TheVariants as refusal
+use Rattle.cif_front.specs.declared.error.LoadErr.{LoadErr}
+use Rattle.cif_front.specs.declared.error.LoadErr.TheVariants as load
 
 -- ---- refusals that tell of none
 
@@ -70,55 +71,22 @@ lin_silent lin.Memory = tt
 
 -- ---- so whatever path stands beside them
 
-pub silent_of : (t : Source) (why : Refusal) (path : Text) → NamesNothing why → NamesOf t why path
-silent_of t (refusal.Alg (alg.Cycle number)) path h = absurd h
-silent_of t (refusal.Alg (alg.ZeroDivisor at)) path h = tt
-silent_of t (refusal.Alg (alg.TooWide at)) path h = tt
-silent_of t (refusal.Alg (alg.InvariantReadsInput at)) path h = tt
-silent_of t (refusal.Alg (alg.InvariantFalse at)) path h = tt
-silent_of t (refusal.Alg (alg.TooLarge nodes depth)) path h = tt
-silent_of t (refusal.Alg alg.Memory) path h = tt
-silent_of t (refusal.Lex e) path h = tt
-silent_of t (refusal.Parse e) path h = tt
-silent_of t (refusal.Scope e) path h = tt
-silent_of t (refusal.Types e) path h = tt
-silent_of t (refusal.Inst e) path h = tt
-silent_of t (refusal.Lin e) path h = tt
-silent_of t refusal.Memory path h = tt
+pub silent_of : (t : Source) (why : LoadErr) (path : Text) → NamesNothing why → NamesOf t why path
+silent_of t (load.Refused (refusal.AlgCycle number)) path h = absurd h
+silent_of t (load.Refused _) path h = tt
+silent_of t _ path h = tt
 
-pub silent_in : (text : Text) (why : Refusal) (path : Text) → NamesNothing why → NamesIn text why path
-silent_in text (refusal.Alg (alg.Cycle number)) path h = absurd h
-silent_in text (refusal.Alg (alg.ZeroDivisor at)) path h = tt
-silent_in text (refusal.Alg (alg.TooWide at)) path h = tt
-silent_in text (refusal.Alg (alg.InvariantReadsInput at)) path h = tt
-silent_in text (refusal.Alg (alg.InvariantFalse at)) path h = tt
-silent_in text (refusal.Alg (alg.TooLarge nodes depth)) path h = tt
-silent_in text (refusal.Alg alg.Memory) path h = tt
-silent_in text (refusal.Lex e) path h = tt
-silent_in text (refusal.Parse e) path h = tt
-silent_in text (refusal.Scope e) path h = tt
-silent_in text (refusal.Types e) path h = tt
-silent_in text (refusal.Inst e) path h = tt
-silent_in text (refusal.Lin e) path h = tt
-silent_in text refusal.Memory path h = tt
+pub silent_in : (text : Text) (why : LoadErr) (path : Text) → NamesNothing why → NamesIn text why path
+silent_in text (load.Refused (refusal.AlgCycle number)) path h = absurd h
+silent_in text (load.Refused _) path h = tt
+silent_in text _ path h = tt
 
 -- ---- a path of the source is one of the text
 
-pub named_in : (text : Text) (tree : Spec) → ReadsAsTree text tree → (why : Refusal) (path : Text) → NamesOf (source_of tree) why path → NamesIn text why path
-named_in text tree read (refusal.Alg (alg.Cycle number)) path h = (tree, read, h)
-named_in text tree read (refusal.Alg (alg.ZeroDivisor at)) path h = tt
-named_in text tree read (refusal.Alg (alg.TooWide at)) path h = tt
-named_in text tree read (refusal.Alg (alg.InvariantReadsInput at)) path h = tt
-named_in text tree read (refusal.Alg (alg.InvariantFalse at)) path h = tt
-named_in text tree read (refusal.Alg (alg.TooLarge nodes depth)) path h = tt
-named_in text tree read (refusal.Alg alg.Memory) path h = tt
-named_in text tree read (refusal.Lex e) path h = tt
-named_in text tree read (refusal.Parse e) path h = tt
-named_in text tree read (refusal.Scope e) path h = tt
-named_in text tree read (refusal.Types e) path h = tt
-named_in text tree read (refusal.Inst e) path h = tt
-named_in text tree read (refusal.Lin e) path h = tt
-named_in text tree read refusal.Memory path h = tt
+pub named_in : (text : Text) (tree : Spec) → ReadsAsTree text tree → (why : LoadErr) (path : Text) → NamesOf (source_of tree) why path → NamesIn text why path
+named_in text tree read (load.Refused (refusal.AlgCycle number)) path h = (tree, read, h)
+named_in text tree read (load.Refused _) path h = tt
+named_in text tree read _ path h = tt
 
 -- ---- the path in the net is that in the source
 

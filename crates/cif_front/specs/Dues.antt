@@ -1,5 +1,5 @@
--- Which refusal of a text is due, phase by phase.
-use Rattle.std.specs.Prelude.{Option, Some, None}
+-- Which refusal of a text is due.
+use Rattle.std.specs.Prelude.{ℕ, Option, Some, None}
 use Rattle.grammar.specs.Pieces.{Text}
 use Rattle.cif_lex.specs.Tokens.{BadByteDue, NumberTooBigDue, OpenCommentDue}
 use Rattle.cif_lex.specs.declared.error.LexErr.{LexErr}
@@ -21,103 +21,83 @@ use Rattle.cif_lin.specs.declared.error.LinErr.TheVariants as lin
 use Rattle.cif_source.specs.Source.{Source, source_of}
 use Rattle.cif_inst_model.specs.WellFormed as rule
 use Rattle.cif_inst_model.specs.WellFormed.{Due}
-use Rattle.cif_front.specs.declared.refusal.Refusal.{Refusal}
-use Rattle.cif_front.specs.declared.refusal.Refusal.TheVariants as refusal
+use Rattle.cif_refusal.specs.declared.refusal.Refusal.{Refusal}
+use Rattle.cif_refusal.specs.declared.refusal.Refusal.TheVariants as refusal
+use Rattle.cif_front.specs.declared.error.LoadErr.{LoadErr}
+use Rattle.cif_front.specs.declared.error.LoadErr.TheVariants as load
 
--- ---- the refusal of an error; want of memory is told alone
+-- ---- why a source is not loaded, by the error of a phase
 
-abbrev pub lex_refusal : LexErr → Refusal
-lex_refusal lex.Memory = refusal.Memory
-lex_refusal (lex.BadByte at) = refusal.Lex (lex.BadByte at)
-lex_refusal (lex.NumberTooBig at) = refusal.Lex (lex.NumberTooBig at)
-lex_refusal (lex.OpenComment at) = refusal.Lex (lex.OpenComment at)
+abbrev pub lex_refusal : LexErr → LoadErr
+lex_refusal lex.Memory = load.Memory
+lex_refusal (lex.BadByte at) = load.Refused (refusal.BadByte at)
+lex_refusal (lex.NumberTooBig at) = load.Refused (refusal.NumberTooBig at)
+lex_refusal (lex.OpenComment at) = load.Refused (refusal.OpenComment at)
 
-abbrev pub parse_refusal : ParseErr → Refusal
-parse_refusal parse.Memory = refusal.Memory
-parse_refusal (parse.NotRead at) = refusal.Parse (parse.NotRead at)
+abbrev pub parse_refusal : ParseErr → LoadErr
+parse_refusal parse.Memory = load.Memory
+parse_refusal (parse.NotRead at) = load.Refused (refusal.NotRead at)
 
-abbrev pub scope_refusal : ScopeErr → Refusal
-scope_refusal scope.Memory = refusal.Memory
-scope_refusal (scope.Unknown at) = refusal.Scope (scope.Unknown at)
-scope_refusal (scope.Duplicate at first) = refusal.Scope (scope.Duplicate at first)
-scope_refusal (scope.WrongKind at) = refusal.Scope (scope.WrongKind at)
-scope_refusal (scope.DefinitionCycle at) = refusal.Scope (scope.DefinitionCycle at)
+abbrev pub scope_refusal : ScopeErr → LoadErr
+scope_refusal scope.Memory = load.Memory
+scope_refusal (scope.Unknown at) = load.Refused (refusal.Unknown at)
+scope_refusal (scope.Duplicate at first) = load.Refused (refusal.Duplicate at first)
+scope_refusal (scope.WrongKind at) = load.Refused (refusal.WrongKind at)
+scope_refusal (scope.DefinitionCycle at) = load.Refused (refusal.DefinitionCycle at)
 
-abbrev pub type_refusal : TypeErr → Refusal
-type_refusal type.Memory = refusal.Memory
-type_refusal (type.Mismatch at) = refusal.Types (type.Mismatch at)
-type_refusal (type.NotConstant at) = refusal.Types (type.NotConstant at)
-type_refusal (type.Initials at count) = refusal.Types (type.Initials at count)
-type_refusal (type.NotOwn at) = refusal.Types (type.NotOwn at)
-type_refusal (type.AssignedTwice at) = refusal.Types (type.AssignedTwice at)
-type_refusal (type.Equations at count) = refusal.Types (type.Equations at count)
+abbrev pub type_refusal : TypeErr → LoadErr
+type_refusal type.Memory = load.Memory
+type_refusal (type.Mismatch at) = load.Refused (refusal.Mismatch at)
+type_refusal (type.NotConstant at) = load.Refused (refusal.NotConstant at)
+type_refusal (type.Initials at count) = load.Refused (refusal.Initials at count)
+type_refusal (type.NotOwn at) = load.Refused (refusal.NotOwn at)
+type_refusal (type.AssignedTwice at) = load.Refused (refusal.AssignedTwice at)
+type_refusal (type.Equations at count) = load.Refused (refusal.Equations at count)
 
-abbrev pub inst_refusal : InstErr → Refusal
-inst_refusal inst.Memory = refusal.Memory
-inst_refusal (inst.AlphabetLacks at) = refusal.Inst (inst.AlphabetLacks at)
-inst_refusal (inst.RoleMixed at) = refusal.Inst (inst.RoleMixed at)
-inst_refusal (inst.TooManyObjects count) = refusal.Inst (inst.TooManyObjects count)
-inst_refusal (inst.ConstantRange at) = refusal.Inst (inst.ConstantRange at)
-inst_refusal (inst.TooLarge nodes depth) = refusal.Inst (inst.TooLarge nodes depth)
+abbrev pub inst_refusal : InstErr → LoadErr
+inst_refusal inst.Memory = load.Memory
+inst_refusal (inst.AlphabetLacks at) = load.Refused (refusal.AlphabetLacks at)
+inst_refusal (inst.RoleMixed at) = load.Refused (refusal.RoleMixed at)
+inst_refusal (inst.TooManyObjects count) = load.Refused (refusal.TooManyObjects count)
+inst_refusal (inst.ConstantRange at) = load.Refused (refusal.ConstantRange at)
+inst_refusal (inst.TooLarge nodes depth) = load.Refused (refusal.TooLarge nodes depth)
 
-abbrev pub alg_refusal : AlgErr → Refusal
-alg_refusal alg.Memory = refusal.Memory
-alg_refusal (alg.Cycle number) = refusal.Alg (alg.Cycle number)
-alg_refusal (alg.ZeroDivisor at) = refusal.Alg (alg.ZeroDivisor at)
-alg_refusal (alg.TooWide at) = refusal.Alg (alg.TooWide at)
-alg_refusal (alg.InvariantReadsInput at) = refusal.Alg (alg.InvariantReadsInput at)
-alg_refusal (alg.InvariantFalse at) = refusal.Alg (alg.InvariantFalse at)
-alg_refusal (alg.TooLarge nodes depth) = refusal.Alg (alg.TooLarge nodes depth)
+abbrev pub alg_refusal : AlgErr → LoadErr
+alg_refusal alg.Memory = load.Memory
+alg_refusal (alg.Cycle number) = load.Refused (refusal.AlgCycle number)
+alg_refusal (alg.ZeroDivisor at) = load.Refused (refusal.ZeroDivisor at)
+alg_refusal (alg.TooWide at) = load.Refused (refusal.TooWide at)
+alg_refusal (alg.InvariantReadsInput at) = load.Refused (refusal.InvariantReadsInput at)
+alg_refusal (alg.InvariantFalse at) = load.Refused (refusal.InvariantFalse at)
+alg_refusal (alg.TooLarge nodes depth) = load.Refused (refusal.TooLarge nodes depth)
 
-abbrev pub lin_refusal : LinErr → Refusal
-lin_refusal lin.Memory = refusal.Memory
-lin_refusal (lin.TooManyChoices count) = refusal.Lin (lin.TooManyChoices count)
+abbrev pub lin_refusal : LinErr → LoadErr
+lin_refusal lin.Memory = load.Memory
+lin_refusal (lin.TooManyChoices count) = load.TooManyChoices count
 
--- ---- the rule that a refusal of a source with a tree tells of, if it tells of one
-
-abbrev pub scope_rule : ScopeErr → Option rule.Refusal
-scope_rule (scope.Unknown at) = Some (rule.unknown at)
-scope_rule (scope.Duplicate at first) = Some (rule.duplicate at first)
-scope_rule (scope.WrongKind at) = Some (rule.wrong_kind at)
-scope_rule (scope.DefinitionCycle at) = Some (rule.definition_cycle at)
-scope_rule scope.Memory = None
-
-abbrev pub type_rule : TypeErr → Option rule.Refusal
-type_rule (type.Mismatch at) = Some (rule.mismatch at)
-type_rule (type.NotConstant at) = Some (rule.not_constant at)
-type_rule (type.Initials at count) = Some (rule.initials at count)
-type_rule (type.NotOwn at) = Some (rule.not_own at)
-type_rule (type.AssignedTwice at) = Some (rule.assigned_twice at)
-type_rule (type.Equations at count) = Some (rule.equations at count)
-type_rule type.Memory = None
-
-abbrev pub inst_rule : InstErr → Option rule.Refusal
-inst_rule (inst.AlphabetLacks at) = Some (rule.alphabet_lacks at)
-inst_rule (inst.RoleMixed at) = Some (rule.role_mixed at)
-inst_rule (inst.TooManyObjects count) = Some (rule.too_many_objects count)
-inst_rule (inst.ConstantRange at) = Some (rule.constant_range at)
-inst_rule (inst.TooLarge nodes depth) = Some (rule.too_large nodes depth)
-inst_rule inst.Memory = None
-
-abbrev pub alg_rule : AlgErr → Option rule.Refusal
-alg_rule (alg.Cycle number) = Some (rule.alg_cycle number)
-alg_rule (alg.ZeroDivisor at) = Some (rule.zero_divisor at)
-alg_rule (alg.TooWide at) = Some (rule.too_wide at)
-alg_rule (alg.InvariantReadsInput at) = Some (rule.invariant_reads_input at)
-alg_rule (alg.InvariantFalse at) = Some (rule.invariant_false at)
-alg_rule (alg.TooLarge nodes depth) = Some (rule.too_large nodes depth)
-alg_rule alg.Memory = None
-
-abbrev pub lin_rule : LinErr → Option rule.Refusal
-lin_rule (lin.TooManyChoices count) = Some (rule.too_many_choices count)
-lin_rule lin.Memory = None
+-- ---- the rule that a refusal of a source with a tree tells of
 
 abbrev pub rule_of : Refusal → Option rule.Refusal
-rule_of (refusal.Scope e) = scope_rule e
-rule_of (refusal.Types e) = type_rule e
-rule_of (refusal.Inst e) = inst_rule e
-rule_of (refusal.Alg e) = alg_rule e
-rule_of (refusal.Lin e) = lin_rule e
+rule_of (refusal.Unknown at) = Some (rule.unknown at)
+rule_of (refusal.Duplicate at first) = Some (rule.duplicate at first)
+rule_of (refusal.WrongKind at) = Some (rule.wrong_kind at)
+rule_of (refusal.DefinitionCycle at) = Some (rule.definition_cycle at)
+rule_of (refusal.Mismatch at) = Some (rule.mismatch at)
+rule_of (refusal.NotConstant at) = Some (rule.not_constant at)
+rule_of (refusal.Initials at count) = Some (rule.initials at count)
+rule_of (refusal.NotOwn at) = Some (rule.not_own at)
+rule_of (refusal.AssignedTwice at) = Some (rule.assigned_twice at)
+rule_of (refusal.Equations at count) = Some (rule.equations at count)
+rule_of (refusal.AlphabetLacks at) = Some (rule.alphabet_lacks at)
+rule_of (refusal.RoleMixed at) = Some (rule.role_mixed at)
+rule_of (refusal.TooManyObjects count) = Some (rule.too_many_objects count)
+rule_of (refusal.ConstantRange at) = Some (rule.constant_range at)
+rule_of (refusal.AlgCycle number) = Some (rule.alg_cycle number)
+rule_of (refusal.ZeroDivisor at) = Some (rule.zero_divisor at)
+rule_of (refusal.TooWide at) = Some (rule.too_wide at)
+rule_of (refusal.InvariantReadsInput at) = Some (rule.invariant_reads_input at)
+rule_of (refusal.InvariantFalse at) = Some (rule.invariant_false at)
+rule_of (refusal.TooLarge nodes depth) = Some (rule.too_large nodes depth)
 rule_of _ = None
 
 -- ---- which are due
@@ -127,9 +107,10 @@ HasRule P None = ⊥
 HasRule P (Some r) = P r
 
 -- of a source: it tells of a rule, and is due; of want of memory nothing is said
-abbrev pub IsDueOf : Source → Refusal → Type 0
-IsDueOf t refusal.Memory = Unit {0}
-IsDueOf t e = HasRule (Due t) (rule_of e)
+abbrev pub IsDueOf : Source → LoadErr → Type 0
+IsDueOf t (load.Refused why) = HasRule (Due t) (rule_of why)
+IsDueOf t (load.TooManyChoices count) = Due t (rule.too_many_choices count)
+IsDueOf t load.Memory = Unit {0}
 
 -- the text reads as a source, of which the refusal is due
 pub record SourceDue (text : Text) (r : rule.Refusal) : Type 0 where
@@ -137,19 +118,20 @@ pub record SourceDue (text : Text) (r : rule.Refusal) : Type 0 where
   pub read : ReadsAsTree text tree
   pub due : Due (source_of tree) r
 
-abbrev pub LexDue : Text → LexErr → Type 0
-LexDue text (lex.BadByte at) = BadByteDue text at
-LexDue text (lex.NumberTooBig at) = NumberTooBigDue text at
-LexDue text (lex.OpenComment at) = OpenCommentDue text at
-LexDue text lex.Memory = ⊥
+-- why the text reads as no source that breaks no rule
+abbrev pub IsRefused : Text → Refusal → Type 0
+IsRefused text (refusal.BadByte at) = BadByteDue text at
+IsRefused text (refusal.NumberTooBig at) = NumberTooBigDue text at
+IsRefused text (refusal.OpenComment at) = OpenCommentDue text at
+IsRefused text (refusal.NotRead at) = NotReadDue text at
+IsRefused text why = HasRule (SourceDue text) (rule_of why)
 
-abbrev pub ParseDue : Text → ParseErr → Type 0
-ParseDue text (parse.NotRead at) = NotReadDue text at
-ParseDue text parse.Memory = ⊥
+-- the choices of all its events are too many
+abbrev pub HasTooMany : Text → (count : ℕ) → Type 0
+HasTooMany text count = SourceDue text (rule.too_many_choices count)
 
 -- of a text
-abbrev pub IsDue : Text → Refusal → Type 0
-IsDue text (refusal.Lex e) = LexDue text e
-IsDue text (refusal.Parse e) = ParseDue text e
-IsDue text refusal.Memory = Unit {0}
-IsDue text e = HasRule (SourceDue text) (rule_of e)
+abbrev pub IsDue : Text → LoadErr → Type 0
+IsDue text (load.Refused why) = IsRefused text why
+IsDue text (load.TooManyChoices count) = HasTooMany text count
+IsDue text load.Memory = Unit {0}

@@ -20,7 +20,7 @@ ghost use Rattle.cif_front.specs.Loads.{IsLoadedFrom, Stands};
 ghost use Rattle.cif_front.specs.Paths as paths;
 ghost use Rattle.cif_front.specs.Paths.{NamesNothing, NamesOf};
 
-use crate::refusal::{Refusal, Refused};
+use crate::error::{LoadErr, Unloaded};
 use cif_alg::{AlgErr, check_net, settle};
 use cif_ast::Spec;
 use cif_base::{Memory, Text};
@@ -36,7 +36,7 @@ use std::alloc::Global;
 
 /// The scopes of a source.
 #[tactic(auto, using(crate::proofs::PhaseLaws::scope_due, crate::proofs::PathLaws::scope_silent))]
-fn scopes_of(alloc: Global, spec: &Spec) -> Result<Scopes, Refusal>
+fn scopes_of(alloc: Global, spec: &Spec) -> Result<Scopes, LoadErr>
     ensures scopes { IfOk result (λ s. AreScopesOf (source_of spec.now) s) }
     ensures refused { IfErr result (λ e. IsDueOf (source_of spec.now) e) }
     ensures silent { IfErr result NamesNothing }
@@ -46,7 +46,7 @@ fn scopes_of(alloc: Global, spec: &Spec) -> Result<Scopes, Refusal>
 
 /// The net of a source, by its scopes.
 #[tactic(auto, using(crate::proofs::PhaseLaws::source_kept, crate::proofs::PhaseLaws::type_due, crate::proofs::PhaseLaws::inst_due, crate::proofs::PathLaws::type_silent, crate::proofs::PathLaws::inst_silent))]
-fn net_by(alloc: Global, spec: &Spec, scopes: &Scopes) -> Result<Net, Refusal>
+fn net_by(alloc: Global, spec: &Spec, scopes: &Scopes) -> Result<Net, LoadErr>
     requires countable { IsCountable spec.now }
     requires small { HasSmallNumbers spec.now }
     requires scopes { AreScopesOf (source_of spec.now) scopes.now }
@@ -60,7 +60,7 @@ fn net_by(alloc: Global, spec: &Spec, scopes: &Scopes) -> Result<Net, Refusal>
 }
 
 /// The net of a source.
-fn net_of(alloc: Global, spec: &Spec) -> Result<Net, Refusal>
+fn net_of(alloc: Global, spec: &Spec) -> Result<Net, LoadErr>
     requires countable { IsCountable spec.now }
     requires small { HasSmallNumbers spec.now }
     ensures represents { IfOk result (λ n. Represents (net_tree n) (source_of spec.now)) }
@@ -83,30 +83,30 @@ fn path_of(alloc: Global, net: &Net, alg: u32) -> Result<Text, Memory>
 }
 
 /// The refusal of a net: an algebraic variable that depends on itself is told by its path.
-fn refused_net(alloc: Global, net: &Net, error: AlgErr) -> Refused
+fn refused_net(alloc: Global, net: &Net, error: AlgErr) -> Unloaded
     ensures { paths.IsRefusedNet (net_tree net.now) error result }
 {
     match error {
         AlgErr::Cycle { alg } => match path_of(alloc, net, alg) {
-            Ok(path) => Refused {
-                why: Refusal::from(error),
+            Ok(path) => Unloaded {
+                why: LoadErr::from(error),
                 path,
             },
-            Err(_memory) => Refused::plain(alloc, Refusal::Memory),
+            Err(_memory) => Unloaded::plain(alloc, LoadErr::Memory),
         },
         AlgErr::ZeroDivisor { .. }
         | AlgErr::TooWide { .. }
         | AlgErr::InvariantReadsInput { .. }
         | AlgErr::InvariantFalse { .. }
         | AlgErr::TooLarge { .. }
-        | AlgErr::Memory => Refused::plain(alloc, Refusal::from(error)),
+        | AlgErr::Memory => Unloaded::plain(alloc, LoadErr::from(error)),
     }
 }
 
 /// The plain net of a source, by its net whose expressions keep their rules: algebraic variables are replaced by their definitions,
 /// along an order of these, and the state invariants keep their rules too.
 #[tactic(auto, using(crate::proofs::PhaseLaws::alg_due, crate::proofs::PhaseLaws::unfolded_stands, crate::proofs::PhaseLaws::plain_kept, crate::proofs::PathLaws::settled_silent))]
-fn settled_of(alloc: Global, _spec: &Spec, net: Net, order: &[u32]) -> Result<Plain, Refusal>
+fn settled_of(alloc: Global, _spec: &Spec, net: Net, order: &[u32]) -> Result<Plain, LoadErr>
     requires represents { Represents (net_tree net) (source_of _spec.now) }
     requires kept { KeepsSource (source_of _spec.now) }
     requires order { IsOrderOf (net_tree net) order.now }
@@ -123,7 +123,7 @@ fn settled_of(alloc: Global, _spec: &Spec, net: Net, order: &[u32]) -> Result<Pl
 }
 
 /// The plain net of a source, by its net.
-fn plain_of(alloc: Global, spec: &Spec, net: Net) -> Result<Plain, Refused>
+fn plain_of(alloc: Global, spec: &Spec, net: Net) -> Result<Plain, Unloaded>
     requires represents { Represents (net_tree net) (source_of spec.now) }
     requires kept { KeepsSource (source_of spec.now) }
     ensures stands { IfOk result (λ p. Stands (net_tree p.net) (source_of spec.now)) }
@@ -134,14 +134,14 @@ fn plain_of(alloc: Global, spec: &Spec, net: Net) -> Result<Plain, Refused>
     match check_net(alloc, &net) {
         Ok(order) => match settled_of(alloc, spec, net, order.as_slice()) {
             Ok(plain) => Ok(plain),
-            Err(why) => Err(Refused::plain(alloc, why)),
+            Err(why) => Err(Unloaded::plain(alloc, why)),
         },
         Err(error) => Err(refused_net(alloc, &net, error)),
     }
 }
 
 /// The net of a source with the choices of all events, by its plain net.
-fn guarded_of(alloc: Global, _spec: &Spec, plain: Plain) -> Result<Guarded, Refusal>
+fn guarded_of(alloc: Global, _spec: &Spec, plain: Plain) -> Result<Guarded, LoadErr>
     requires stands { Stands (net_tree plain.net) (source_of _spec.now) }
     requires kept { KeepsSource (source_of _spec.now) }
     requires plain { KeepsAlgebraic (net_of_source (source_of _spec.now)) }
@@ -152,12 +152,12 @@ fn guarded_of(alloc: Global, _spec: &Spec, plain: Plain) -> Result<Guarded, Refu
     let roles = roles(alloc, &plain)?;
     match linearise(alloc, &plain, &roles) {
         Ok(linear) => Ok(guard(alloc, plain, linear)?),
-        Err(error) => Err(Refusal::from(error)),
+        Err(error) => Err(LoadErr::from(error)),
     }
 }
 
 /// The net of a source with the choices of all events, or a rule that it breaks, of the first phase in which it breaks one.
-pub fn build(alloc: Global, spec: &Spec) -> Result<Guarded, Refused>
+pub fn build(alloc: Global, spec: &Spec) -> Result<Guarded, Unloaded>
     requires countable { IsCountable spec.now }
     requires small { HasSmallNumbers spec.now }
     ensures loaded { IfOk result (λ g. IsLoadedFrom (source_of spec.now) g) }
@@ -166,11 +166,11 @@ pub fn build(alloc: Global, spec: &Spec) -> Result<Guarded, Refused>
 {
     let net = match net_of(alloc, spec) {
         Ok(net) => net,
-        Err(why) => return Err(Refused::plain(alloc, why)),
+        Err(why) => return Err(Unloaded::plain(alloc, why)),
     };
     let plain = plain_of(alloc, spec, net)?;
     match guarded_of(alloc, spec, plain) {
         Ok(guarded) => Ok(guarded),
-        Err(why) => Err(Refused::plain(alloc, why)),
+        Err(why) => Err(Unloaded::plain(alloc, why)),
     }
 }

@@ -3,8 +3,8 @@
 #![tactic(auto)]
 
 mod building;
+mod error;
 mod loading;
-mod refusal;
 
+pub use error::{LoadErr, Unloaded};
 pub use loading::{load, load_named};
-pub use refusal::{Refusal, Refused};

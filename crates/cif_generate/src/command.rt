@@ -3,7 +3,7 @@
 ghost use Rattle.std.specs.Prelude.{◌≡◌, ◌≤◌, ℕ, List, IfOk};
 ghost use Rattle.cif_run.specs.Works.{Comes, Stops, reading, writing};
 ghost use Rattle.cif_run.specs.declared.status.ProfileWhy.{ProfileWhy};
-ghost use Rattle.cif_run.specs.declared.status.Refusal.{Refusal};
+ghost use Rattle.cif_refusal.specs.declared.refusal.Refusal.{Refusal};
 ghost use Rattle.cif_net.specs.View.{net_tree};
 ghost use Rattle.cif_accept.specs.Accepts.{SourceHasTooMany, SourceIs, SourceRefused};
 ghost use Rattle.cif_source.specs.Source.{Source};

@@ -11,5 +11,5 @@ mod telling;
 pub use command::{Command, put_text, run};
 pub use ended::Ended;
 pub use reading::read_file;
-pub use status::{ProfileWhy, Refusal, StRefusal, Status, StopWhy, code};
+pub use status::{ProfileWhy, StRefusal, Status, StopWhy, code};
 pub use telling::report;

@@ -3,68 +3,11 @@
 ghost use Rattle.std.specs.Prelude.{◌≡◌};
 ghost use Rattle.cif_run.specs.Codes.{code_of};
 
+use cif_refusal::Refusal;
 use plc_rows::RowErr;
 use st_check::StCheckErr;
 use st_read::StErr;
 use st_scan::ScanErr;
-
-/// Why a source is refused, with the byte place in it, counted from 0.
-#[derive(Clone, Copy, Debug, PartialEq, Eq)]
-pub enum Refusal {
-    /// No token, blank or comment begins there.
-    BadByte { at: u32 },
-    /// The number that begins there exceeds 2147483647.
-    NumberTooBig { at: u32 },
-    /// The comment that `/*` begins there has no end.
-    OpenComment { at: u32 },
-    /// The tokens are no source: the one that begins there can't be there, or what begins there is too deep; or the source
-    /// ends there too early.
-    NotRead { at: u32 },
-    /// A part of the name that begins there is declared nowhere where it is looked up.
-    Unknown { at: u32 },
-    /// One scope declares one name at both places, of which `first` is the earlier.
-    Duplicate { at: u32, first: u32 },
-    /// The name that begins there denotes something of another sort than its position asks, or the instance of that name has
-    /// another number of arguments than its definition has parameters.
-    WrongKind { at: u32 },
-    /// The definition, type or constant whose declared name begins there reaches itself.
-    DefinitionCycle { at: u32 },
-    /// The expression that begins there has another kind than its position asks for, or the use of an event there does not fit what
-    /// is sent along it.
-    Mismatch { at: u32 },
-    /// The name that begins there stands in a bound of a type, the value of a constant or a first value, and is no constant and no
-    /// literal.
-    NotConstant { at: u32 },
-    /// The automaton whose declared name begins there has so many initial locations, and not one.
-    Initials { at: u32, count: u32 },
-    /// The variable that is assigned there isn't declared in the automaton itself.
-    NotOwn { at: u32 },
-    /// An earlier update of the same list assigns the variable there too.
-    AssignedTwice { at: u32 },
-    /// The algebraic variable whose declared name begins there has so many definitions, and not one.
-    Equations { at: u32, count: u32 },
-    /// The name that begins there is that of an event outside the alphabet of its automaton.
-    AlphabetLacks { at: u32 },
-    /// In an automaton with the name that begins there an event has two roles.
-    RoleMixed { at: u32 },
-    /// Components, declarations, locations and edges are too many. The count stops one past the limit.
-    TooManyObjects { count: u32 },
-    /// In the constant expression that begins there a value leaves 64 bits or a divisor is 0; or its value leaves its declared range;
-    /// or a bound there leaves 32 bits; or the lower bound there exceeds the upper one.
-    ConstantRange { at: u32 },
-    /// The algebraic variable of that number, counted from 0, is the first that depends on itself.
-    AlgCycle { alg: u32 },
-    /// The divisor that begins there may be 0.
-    ZeroDivisor { at: u32 },
-    /// The value of the expression that begins there, or of a part of a sum or product there, may leave 64 bits.
-    TooWide { at: u32 },
-    /// The state invariant whose predicate begins there depends on an input.
-    InvariantReadsInput { at: u32 },
-    /// The state invariant whose predicate begins there does not hold in the initial state.
-    InvariantFalse { at: u32 },
-    /// The choices of all events have too many nodes, or an expression is too deep. Each number stops one past its limit.
-    TooLarge { nodes: u32, depth: u32 },
-}
 
 /// Why no program is written for a source that breaks no other rule.
 #[derive(Clone, Copy, Debug, PartialEq, Eq)]

@@ -1,16 +1,16 @@
 //! The line that is told of a status on the standard error.
 
 ghost use Rattle.std.specs.Prelude.{◌≡◌, ◌≤◌, codes, map, string_bytes, IfOk};
-ghost use Rattle.std.specs.Fmt.{signed_decimal};
 ghost use Rattle.cif_io.specs.Faults.{Rose};
 ghost use Rattle.cif_run.specs.Groups.{IsUnlessMemory};
 ghost use Rattle.cif_run.specs.Tells.{Tells};
 ghost use Rattle.cif_run.specs.Lines as lines;
 
 use crate::ended::Ended;
-use crate::status::{ProfileWhy, Refusal, StRefusal, Status, StopWhy};
-use cif_base::{Memory, Text, put_int};
+use crate::status::{ProfileWhy, StRefusal, Status, StopWhy};
+use cif_base::{Memory, Text};
 use cif_io::{Sink, SinkErr, put_all};
+use cif_refusal::{decimal_text, joined, refusal_text, with_number, with_numbers};
 use plc_rows::RowErr;
 use st_check::StCheckErr;
 use st_read::StErr;
@@ -56,93 +56,6 @@ fn log_word(words: &[String], log: u32) -> &[u8]
 {
     let before = before_logs(words);
     word(words, before + log as usize)
-}
-
-/// The texts one after the other.
-fn joined(alloc: Global, parts: &[&[u8]]) -> Result<Text, Memory>
-    ensures { IfOk result (λ text. text ≡ lines.joined (map (λ p. p.now) parts.now)) }
-{
-    let mut text = Text::new(alloc);
-    for part in parts {
-        text.push_slice(part)?;
-    }
-    Ok(text)
-}
-
-/// A number as decimal text.
-fn decimal_text(alloc: Global, number: i64) -> Result<Text, Memory>
-    ensures { IfOk result (λ text. text ≡ signed_decimal number) }
-{
-    let mut text = Vec::new(alloc);
-    put_int(&mut text, number)?;
-    Ok(Text::from_vec(text))
-}
-
-/// A refusal with one field that is a number.
-fn with_number(alloc: Global, head: &[u8], number: u32) -> Result<Text, Memory>
-    ensures { IfOk result (λ text. text ≡ lines.with_number head.now number) }
-{
-    let number = decimal_text(alloc, number as i64)?;
-    joined(alloc, &[head, number.as_slice()])
-}
-
-/// A refusal with two such fields.
-fn with_numbers(
-    alloc: Global,
-    head: &[u8],
-    number: u32,
-    between: &[u8],
-    other: u32,
-) -> Result<Text, Memory>
-    ensures { IfOk result (λ text. text ≡ lines.with_numbers head.now number between.now other) }
-{
-    let number = decimal_text(alloc, number as i64)?;
-    let other = decimal_text(alloc, other as i64)?;
-    joined(alloc, &[head, number.as_slice(), between, other.as_slice()])
-}
-
-/// Why a source is refused; an algebraic variable is told by its path.
-fn refusal_text(alloc: Global, path: &[u8], why: Refusal) -> Result<Text, Memory>
-    ensures { IfOk result (λ text. text ≡ lines.refusal_text path.now why) }
-{
-    match why {
-        Refusal::BadByte { at } => with_number(alloc, b"1 BadByte at ", at),
-        Refusal::NumberTooBig { at } => with_number(alloc, b"2 NumberTooBig at ", at),
-        Refusal::OpenComment { at } => with_number(alloc, b"3 OpenComment at ", at),
-        Refusal::NotRead { at } => with_number(alloc, b"4 NotRead at ", at),
-        Refusal::Unknown { at } => with_number(alloc, b"5 Unknown at ", at),
-        Refusal::Duplicate { at, first } => {
-            with_numbers(alloc, b"6 Duplicate at ", at, b" first ", first)
-        }
-        Refusal::WrongKind { at } => with_number(alloc, b"7 WrongKind at ", at),
-        Refusal::DefinitionCycle { at } => with_number(alloc, b"8 DefinitionCycle at ", at),
-        Refusal::Mismatch { at } => with_number(alloc, b"9 Mismatch at ", at),
-        Refusal::NotConstant { at } => with_number(alloc, b"10 NotConstant at ", at),
-        Refusal::Initials { at, count } => {
-            with_numbers(alloc, b"11 Initials at ", at, b" count ", count)
-        }
-        Refusal::NotOwn { at } => with_number(alloc, b"12 NotOwn at ", at),
-        Refusal::AssignedTwice { at } => with_number(alloc, b"13 AssignedTwice at ", at),
-        Refusal::Equations { at, count } => {
-            with_numbers(alloc, b"16 Equations at ", at, b" count ", count)
-        }
-        Refusal::AlphabetLacks { at } => with_number(alloc, b"14 AlphabetLacks at ", at),
-        Refusal::RoleMixed { at } => with_number(alloc, b"15 RoleMixed at ", at),
-        Refusal::TooManyObjects { count } => {
-            with_number(alloc, b"17 TooManyObjects count ", count)
-        }
-        Refusal::ConstantRange { at } => with_number(alloc, b"18 ConstantRange at ", at),
-        Refusal::AlgCycle { alg: _ } => joined(alloc, &[b"19 AlgCycle alg ", path]),
-        Refusal::ZeroDivisor { at } => with_number(alloc, b"20 ZeroDivisor at ", at),
-        Refusal::TooWide { at } => with_number(alloc, b"21 TooWide at ", at),
-        Refusal::InvariantReadsInput { at } => {
-            with_number(alloc, b"22 InvariantReadsInput at ", at)
-        }
-        Refusal::InvariantFalse { at } => with_number(alloc, b"23 InvariantFalse at ", at),
-        Refusal::TooLarge { nodes, depth } => {
-            with_numbers(alloc, b"24 TooLarge nodes ", nodes, b" depth ", depth)
-        }
-    }
 }
 
 /// Why no program is written; an event is told by its path.

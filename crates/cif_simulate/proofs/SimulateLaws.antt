@@ -8,14 +8,13 @@ use Rattle.cif_io.specs.Written.{grown}
 use Rattle.cif_run.specs.declared.status.Status.{Status}
 use Rattle.cif_run.specs.declared.status.Status.TheVariants as status
 use Rattle.cif_run.specs.declared.status.ProfileWhy.TheVariants as profile
-use Rattle.cif_run.specs.declared.status.Refusal.{Refusal}
+use Rattle.cif_refusal.specs.declared.refusal.Refusal.{Refusal}
 use Rattle.cif_run.specs.declared.status.StopWhy.{StopWhy}
 use Rattle.cif_run.specs.declared.ended.Ended.{Ended}
 use Rattle.cif_run.specs.Groups.{IsUnlessMemory}
 use Rattle.cif_run.specs.Works.{Comes, Reading, Work, Writing}
 use Rattle.cif_run.proofs.CallLaws.{ended_so, halted_so, written}
 use Rattle.cif_accept.specs.Accepts.{OfSource, SourceHasTooMany, SourceRefused}
-use Rattle.cif_accept.proofs.SourceLaws.{refused_of}
 use Rattle.cif_simulate.specs.Words.{Simulate, Which, by_script, by_first}
 use Rattle.cif_simulate.specs.Scripts.{OfScript, cause}
 use Rattle.cif_simulate.specs.Simulates.{halts_by, simulate_work, writes_by}
@@ -51,7 +50,7 @@ module _ (x : Simulate) (c : Reading) (o : Writing) (e : Ended) (came : Comes (s
   pub refused : (why : Refusal) → r ≡ status.Refused why → SourceRefused c.content x.file why
   refused why q =
       let h = ended_so work c o e came r same (status.Refused why) (λ z. cc) refl q in
-      (h.0, h.1, h.2, refused_of h.0 why e.variable h.3)
+      (h.0, h.1, h.2, h.3.0)
 
   pub too_many : (count : ℕ) → r ≡ status.OutsideProfile (profile.TooManyChoices count) → SourceHasTooMany c.content x.file count
   too_many count q = ended_so work c o e came r same (status.OutsideProfile (profile.TooManyChoices count)) (λ z. cc) refl q

@@ -16,7 +16,7 @@ use Rattle.plc_rows.specs.declared.error.RowErr.{RowErr}
 use Rattle.cif_run.specs.declared.status.Status.{Status}
 use Rattle.cif_run.specs.declared.status.Status.TheVariants as status
 use Rattle.cif_run.specs.declared.status.ProfileWhy.TheVariants as profile
-use Rattle.cif_run.specs.declared.status.Refusal.{Refusal}
+use Rattle.cif_refusal.specs.declared.refusal.Refusal.{Refusal}
 use Rattle.cif_run.specs.declared.status.StRefusal.{StRefusal}
 use Rattle.cif_run.specs.declared.status.StopWhy.{StopWhy}
 use Rattle.cif_run.specs.declared.ended.Ended.{Ended}
@@ -32,7 +32,6 @@ use Rattle.cif_inst_model.specs.NetRules.{UnclassedDue}
 use Rattle.cif_accept.proofs.AcceptLaws as accept
 use Rattle.cif_accept.proofs.OverSource as source
 use Rattle.cif_accept.proofs.OverSource.{IsOverSource}
-use Rattle.cif_accept.proofs.SourceLaws.{refused_of}
 use Rattle.cif_check.specs.Words.{Check, IsCheck}
 use Rattle.cif_check.specs.Checks.{accepted, check_work}
 use Rattle.cif_check.proofs.CheckLaws as checks
@@ -237,13 +236,13 @@ module _ (words : List Text) (c : Reading) (o : Writing) (e : Ended) (came : Com
     where
       go : (k : Command) (q : Request k) → IsFor k words q → (work_of k q c.content).ends (status.Refused reason) e.variable
           → (file : Text) × AsksSource words file × SourceRefused c.content file reason
-      go check q is h = elim h [ inl x ↦ (q.file, (record { command = check; request = q }, is, refl), (x.0, x.1, x.2, refused_of x.0 reason e.variable x.3)) | inr x ↦ absurd x.2 ]
-      go generate q is h = elim h [ inl x ↦ (q.file, (record { command = generate; request = q }, is, refl), (x.0, x.1, x.2, refused_of x.0 reason e.variable x.3)) | inr x ↦ absurd x.2 ]
+      go check q is h = elim h [ inl x ↦ (q.file, (record { command = check; request = q }, is, refl), (x.0, x.1, x.2, x.3.0)) | inr x ↦ absurd x.2 ]
+      go generate q is h = elim h [ inl x ↦ (q.file, (record { command = generate; request = q }, is, refl), (x.0, x.1, x.2, x.3.0)) | inr x ↦ absurd x.2 ]
       go replay q is h = absurd h
       go batch q is h = absurd h
-      go simulate q is h = (q.file, (record { command = simulate; request = q }, is, refl), (h.0, h.1, h.2, refused_of h.0 reason e.variable h.3))
+      go simulate q is h = (q.file, (record { command = simulate; request = q }, is, refl), (h.0, h.1, h.2, h.3.0))
       go why q is h = elim h [
-        | inl x ↦ (q.file, (record { command = why; request = q }, is, refl), (x.0, x.1, x.2, refused_of x.0 reason e.variable x.3))
+        | inl x ↦ (q.file, (record { command = why; request = q }, is, refl), (x.0, x.1, x.2, x.3.0))
         | inr x ↦ let other = x.0 in absurd cc
       ]
 

@@ -6,7 +6,7 @@ ghost use Rattle.st_ast.specs.declared.tree.StTy.{StTy};
 ghost use Rattle.plc_rows.specs.Rows.{RowsOf};
 ghost use Rattle.cif_run.specs.Lines.{line_of};
 ghost use Rattle.cif_run.specs.declared.status.Status.{Status};
-ghost use Rattle.cif_run.specs.declared.status.Refusal.{Refusal};
+ghost use Rattle.cif_refusal.specs.declared.refusal.Refusal.{Refusal};
 ghost use Rattle.cif_source.specs.Source.{Source};
 ghost use Rattle.cif_generate.specs.Words.{IsGenerate};
 ghost use Rattle.cif_generate.specs.Meaning.{IsTextOf, meant_by};

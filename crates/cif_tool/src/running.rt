@@ -22,7 +22,7 @@ ghost use Rattle.plc_model.specs.Face.{HasInterface};
 ghost use Rattle.plc_model.specs.Scans.{NeverFaults, RunsFirstSteps, ScansLegally, ScansExactly, ShowsOutputs, StaysTyped};
 ghost use Rattle.plc_back.specs.Texts.{IsLayoutOf, TheProgram};
 ghost use Rattle.cif_run.specs.declared.status.ProfileWhy.{ProfileWhy};
-ghost use Rattle.cif_run.specs.declared.status.Refusal.{Refusal};
+ghost use Rattle.cif_refusal.specs.declared.refusal.Refusal.{Refusal};
 ghost use Rattle.cif_run.specs.declared.status.StRefusal.{StRefusal};
 ghost use Rattle.cif_run.specs.declared.status.StopWhy.{StopWhy};
 ghost use Rattle.cif_run.specs.Groups.{IsUnlessMemory};

@@ -7,14 +7,13 @@ use Rattle.cif_io.specs.Written.{grown}
 use Rattle.cif_run.specs.declared.status.Status.{Status}
 use Rattle.cif_run.specs.declared.status.Status.TheVariants as status
 use Rattle.cif_run.specs.declared.status.ProfileWhy.TheVariants as profile
-use Rattle.cif_run.specs.declared.status.Refusal.{Refusal}
+use Rattle.cif_refusal.specs.declared.refusal.Refusal.{Refusal}
 use Rattle.cif_run.specs.declared.status.StopWhy.{StopWhy}
 use Rattle.cif_run.specs.declared.ended.Ended.{Ended}
 use Rattle.cif_run.specs.Groups.{IsUnlessMemory}
 use Rattle.cif_run.specs.Works.{Comes, Reading, Work, Writing}
 use Rattle.cif_run.proofs.CallLaws.{ended_so, halted_so, written}
 use Rattle.cif_accept.specs.Accepts.{OfSource, SourceHasTooMany, SourceRefused}
-use Rattle.cif_accept.proofs.SourceLaws.{refused_of}
 use Rattle.cif_simulate.specs.Scripts.{OfScript, cause}
 use Rattle.cif_why_command.specs.Words.{Why}
 use Rattle.cif_why_command.specs.Explains.{LacksEvent, event_of, explained, why_work}
@@ -45,7 +44,7 @@ module _ (q : Why) (c : Reading) (o : Writing) (e : Ended) (came : Comes (why_wo
 
   pub refused : (why : Refusal) → r ≡ status.Refused why → SourceRefused c.content q.file why
   refused why z = elim (ended_so work c o e came r same (status.Refused why) (λ x. cc) refl z) [
-    | inl h ↦ (h.0, h.1, h.2, refused_of h.0 why e.variable h.3)
+    | inl h ↦ (h.0, h.1, h.2, h.3.0)
     | inr h ↦ let other = h.0 in absurd cc
   ]
 

@@ -7,7 +7,7 @@ ghost use Rattle.cif_sim_names.specs.Sources.{names_of, told_of};
 ghost use Rattle.cif_source.specs.Step.{system_of};
 ghost use Rattle.cif_run.specs.Works.{Comes, reading, writing};
 ghost use Rattle.cif_run.specs.declared.status.ProfileWhy.{ProfileWhy};
-ghost use Rattle.cif_run.specs.declared.status.Refusal.{Refusal};
+ghost use Rattle.cif_refusal.specs.declared.refusal.Refusal.{Refusal};
 ghost use Rattle.cif_run.specs.declared.status.StopWhy.{StopWhy};
 ghost use Rattle.cif_accept.specs.Accepts.{OfSource, SourceHasTooMany, SourceRefused};
 ghost use Rattle.cif_simulate.specs.Scripts.{OfScript, cause};
