@@ -1,27 +1,25 @@
--- What `generate` promises: each promise is a law on the printed program of the net of a source, said of the source, and then one
--- of a call that came to its end, where the answer is the status of that end or want of memory.
+-- What `generate` promises: what is promised of the text of a net is said of the source, and each promise then of a call that came
+-- to its end, where the answer is the status of that end or want of memory.
 use Rattle.std.proofs.Common.{◌≡◌, ℕ, zero, suc, ◌⊎◌, true, false, List, [], ◌∷◌, map, Some, None, refl, sym, ap, ◌∙◌, subst, inl, inr, length, ◌≤◌, ◌<◌, nat_lt, arith}
 use Rattle.std.specs.Prelude.{slice_get, IsTrue}
 use Rattle.std.proofs.lemmas.Bool.Decides.{nat_tests}
 use Rattle.grammar.specs.Pieces.{Text}
 use Rattle.cif_io.specs.Faults.{Rose}
-use Rattle.cif_system.specs.System.{System, plain}
+use Rattle.cif_system.specs.System.{plain}
 use Rattle.cif_system.specs.Step.{is_of}
 use Rattle.cif_source.specs.Objects.{Declared, events}
 use Rattle.cif_net.specs.View.{net_tree}
 use Rattle.cif_net.specs.declared.guarded.Guarded.{Guarded}
 use Rattle.cif_net_model.specs.Meaning.{system_of_net}
+use Rattle.cif_net_model.specs.Net.{Net}
 use Rattle.cif_inst_model.specs.Flat.{net_event, net_of_source}
 use Rattle.cif_inst_model.specs.NetRules.{UnclassedDue}
 use Rattle.st_ast.specs.Tree.{Program}
-use Rattle.plc_model.specs.Face.{Face, HasInterface}
-use Rattle.plc_model.specs.Scans.{NeverFaults, RunsFirstSteps, ScansLegally, ScansExactly, ShowsOutputs, StaysTyped}
 use Rattle.plc_frame.specs.Faces.{face_of_net}
 use Rattle.cif_net_model.specs.Nesting.{is_shallow}
-use Rattle.plc_back.specs.Texts.{IsLayoutOf, TakesInRange, TheProgram}
+use Rattle.plc_back.specs.Texts.{Makes, TheProgram}
 use Rattle.plc_back.specs.Written as written
 use Rattle.plc_back.specs.Written.{IsFirstUnclassed}
-use Rattle.plc_back.proofs.TextLaws as law
 use Rattle.cif_run.specs.declared.status.Status.{Status}
 use Rattle.cif_run.specs.declared.status.Status.TheVariants as status
 use Rattle.cif_run.specs.declared.status.ProfileWhy.TheVariants as profile
@@ -30,11 +28,11 @@ use Rattle.cif_run.specs.Groups.{IsUnlessMemory, group_of}
 use Rattle.cif_run.specs.Works.{Comes, Content, Reading, StopsIn, Writing}
 use Rattle.cif_run.proofs.CallLaws.{answers, ended_so, written as wrote}
 use Rattle.cif_source.specs.Source.{Source}
-use Rattle.cif_front.specs.Loads.{ReadsAsSource}
+use Rattle.cif_front.specs.Loads.{ReadsAsSource, Stands}
 use Rattle.cif_accept.specs.Accepts.{IsLoaded, SourceIs, source_limit}
 use Rattle.cif_accept.proofs.AcceptLaws.{TellsItsOwn, told_of}
 use Rattle.cif_generate.specs.Words.{Generate}
-use Rattle.cif_generate.specs.Meaning.{AreClassed, IsTextOf, StartsInitial, event_path, meant_by, shown_of}
+use Rattle.cif_generate.specs.Meaning.{AreClassed, IsWrittenFor, event_path, meant_by, shown_of}
 use Rattle.cif_generate.specs.Generates.{Writes, generate_work, is_unclassed}
 use Rattle.cif_generate.specs.Told.{IsTold, TellsOf, path_in}
 use Rattle.cif_generate.proofs.FaceLaws.{face-same}
@@ -43,46 +41,16 @@ use Rattle.cif_generate.proofs.ProgramLaws.{read-shallow}
 
 -- ---- texts
 
-module _ (U C : ℕ) (t : Source) (text : Text) (h : IsTextOf U C t text) where
-  -- what is so over what the net shows and means is so over what the source does
-  over : (P : Face → System → Program → Type 0) → TheProgram text (P (face_of_net h.net) (system_of_net h.net))
-      → TheProgram text (P (shown_of t) (meant_by t))
-  over P x =
-      subst (λ f. TheProgram text (P f (meant_by t))) (face-unfolded (net_of_source t) h.net h.stands.unfolds ∙ face-same t)
-      (subst (λ s. TheProgram text (P (face_of_net h.net) s)) h.stands.meaning x)
+-- what makes the scans of a net of the source makes those of the source
+pub made_of : (U C : ℕ) (t : Source) (n : Net) (text : Text) → Stands n t → TheProgram text (Makes U C (face_of_net n) (system_of_net n) text)
+    → TheProgram text (Makes U C (shown_of t) (meant_by t) text)
+made_of U C t n text stands made =
+    subst (λ f. TheProgram text (Makes U C f (meant_by t) text)) (face-unfolded (net_of_source t) n stands.unfolds ∙ face-same t)
+    (subst (λ s. TheProgram text (Makes U C (face_of_net n) s text)) stands.meaning made)
 
-  pub program : TheProgram text (HasInterface (shown_of t))
-  program = over (λ f s. HasInterface f) (law.has_interface h.net U C text h.of_net)
-
-  pub starts_initial : TheProgram text (StartsInitial (shown_of t) (meant_by t))
-  starts_initial = over StartsInitial (law.starts_initial h.net U C text h.of_net)
-
-  pub runs_first_steps : TheProgram text (RunsFirstSteps (shown_of t) (meant_by t))
-  runs_first_steps = over RunsFirstSteps (law.runs_first_steps h.net U C text h.of_net)
-
-  pub never_faults : TheProgram text (NeverFaults (meant_by t))
-  never_faults = over (λ f s. NeverFaults s) (law.never_faults h.net U C text h.of_net)
-
-  pub scans_legally : TheProgram text (ScansLegally U C (shown_of t) (meant_by t))
-  scans_legally = over (ScansLegally U C) (law.scans_legally h.net U C text h.of_net)
-
-  pub scans_exactly : TheProgram text (ScansExactly U C (shown_of t) (meant_by t))
-  scans_exactly = over (ScansExactly U C) (law.scans_exactly h.net U C text h.of_net)
-
-  pub shows_outputs : TheProgram text (ShowsOutputs (shown_of t) (meant_by t))
-  shows_outputs = over ShowsOutputs (law.shows_outputs h.net U C text h.of_net)
-
-  pub stays_typed : TheProgram text (StaysTyped (meant_by t))
-  stays_typed = over (λ f s. StaysTyped s) (law.stays_typed h.net U C text h.of_net)
-
-  pub takes_in_range : TheProgram text (TakesInRange (meant_by t))
-  takes_in_range = over (λ f s. TakesInRange s) (law.takes_in_range h.net U C text h.of_net)
-
-  pub laid_out : TheProgram text (IsLayoutOf text)
-  laid_out = law.laid_out h.net U C text h.of_net
-
-  pub classed : AreClassed t
-  classed event due = h.of_net.classed event (subst (λ s. IsTrue (is_of s plain event)) (sym h.stands.meaning) due.0)
+pub classed : (U C : ℕ) (t : Source) (text : Text) → IsWrittenFor U C t text → AreClassed t
+classed U C t text h event due =
+    h.text_of.of_net.classed event (subst (λ s. IsTrue (is_of s plain event)) (sym h.text_of.stands.meaning) due.0)
 
 -- ---- the net of the source in the file
 
@@ -96,8 +64,16 @@ module _ (content : Content) (file : Text) (g : Guarded) (l : IsLoaded content f
   pub loaded_shallow : is_shallow (net_tree g.plain.net) ≡ true
   loaded_shallow = shallow-unfolded (net_of_source l.0) (net_tree g.plain.net) l.2.unfolds ∙ read-shallow l.1.0 l.0 l.1.3
 
-  pub loaded_text : (U C : ℕ) (text : Text) → written.IsTextOf (net_tree g.plain.net) U C text → (t : Source) × SourceIs content file t × IsTextOf U C t text
-  loaded_text U C text h = (l.0, l.1, record { net = net_tree g.plain.net; stands = l.2; of_net = h })
+  pub loaded_text : (U C : ℕ) (text : Text) → written.IsTextOf (net_tree g.plain.net) U C text
+      → TheProgram text (Makes U C (face_of_net (net_tree g.plain.net)) (system_of_net (net_tree g.plain.net)) text) → (t : Source) × SourceIs content file t × IsWrittenFor U C t text
+  loaded_text U C text h made = (
+    l.0,
+    l.1,
+    record {
+      text_of = record { net = net_tree g.plain.net; stands = l.2; of_net = h };
+      makes = made_of U C l.0 (net_tree g.plain.net) text l.2 made;
+    },
+  )
 
   first_due : (event : ℕ) → IsFirstUnclassed (net_tree g.plain.net) event → UnclassedDue l.0 event
   first_due event h = (
@@ -147,10 +123,17 @@ pub tells_own : TellsItsOwn is_unclassed
 tells_own = record { refused = λ t why name h. h; many = λ t count name h. h }
 
 module _ (g : Generate) (c : Reading) (o : Writing) (e : Ended) (came : Comes (generate_work g c.content) c o e) (r : Status) (same : IsUnlessMemory r e.status) where
-  pub writes : (P : Source → Text → Type 0) → ((t : Source) (text : Text) → IsTextOf g.unc g.con t text → P t text)
+  pub writes : (P : Source → Text → Type 0) → ((t : Source) (text : Text) → IsWrittenFor g.unc g.con t text → P t text)
       → r ≡ status.Done → Writes c.content g.file o.old o.new P
   writes P from q =
       let w = wrote (generate_work g c.content) c o e came r same q in (w.1.0, w.1.1, (w.0, w.2, from w.1.0 w.0 w.1.2))
+
+  -- one of the promises on the program
+  pub promised : (P : Source → Text → Program → Type 0)
+      → ((t : Source) (text : Text) (p : Program) → Makes g.unc g.con (shown_of t) (meant_by t) text p → P t text p)
+      → r ≡ status.Done → Writes c.content g.file o.old o.new (λ t text. TheProgram text (P t text))
+  promised P from = writes (λ t text. TheProgram text (P t text))
+      (λ t text h. (h.makes.0, h.makes.1, from t text h.makes.0 h.makes.2, h.makes.3))
 
   pub unclassed : (event : ℕ) → r ≡ status.OutsideProfile (profile.Unclassed event) → (t : Source) × SourceIs c.content g.file t × UnclassedDue t event
   unclassed event q = elim (ended_so (generate_work g c.content) c o e came r same (status.OutsideProfile (profile.Unclassed event)) (λ z. cc) refl q) [
@@ -162,7 +145,7 @@ module _ (g : Generate) (c : Reading) (o : Writing) (e : Ended) (came : Comes (g
   pub unclassed_is_told : (bytes : Text) → c.content g.file ≡ Some bytes → (Rose (c.faults g.file) (c.faults_after g.file) → ⊥) → length bytes ≤ source_limit
       → (t : Source) → ReadsAsSource bytes t → (event : ℕ) → UnclassedDue t event → IsUnlessMemory r (status.OutsideProfile (profile.Unclassed event))
   unclassed_is_told bytes told sure short t reads event due =
-      told_of g.file (IsTextOf g.unc g.con) is_unclassed c o e came r same bytes told sure short t reads
+      told_of g.file (IsWrittenFor g.unc g.con) is_unclassed c o e came r same bytes told sure short t reads
       (IsUnlessMemory r (status.OutsideProfile (profile.Unclassed event)))
       (λ h. this e.status refl h)
       (λ text h. classed g.unc g.con t text h event due)

@@ -9,7 +9,7 @@ use Rattle.cif_inst_model.specs.NetRules.{UnclassedDue}
 use Rattle.cif_source.specs.Source.{Source}
 use Rattle.cif_accept.specs.Accepts.{CommandEnds, SourceIs, source_work}
 use Rattle.cif_generate.specs.Words.{Generate as Asked}
-use Rattle.cif_generate.specs.Meaning.{IsTextOf, event_path}
+use Rattle.cif_generate.specs.Meaning.{IsWrittenFor, event_path}
 use Rattle.cif_generate.specs.declared.request.Generate.{Generate}
 
 -- the first event without a class is told by its path
@@ -18,7 +18,7 @@ is_unclassed t (status.OutsideProfile (profile.Unclassed event)) name = Unclasse
 is_unclassed t _ name = ⊥
 
 abbrev pub generate_work : Asked → Content → Work
-generate_work g content = source_work content g.file (IsTextOf g.unc g.con) is_unclassed
+generate_work g content = source_work content g.file (IsWrittenFor g.unc g.con) is_unclassed
 
 -- what is asked for, as the code holds it
 abbrev pub generate_of : Generate → Asked

@@ -10,6 +10,7 @@ use Rattle.cif_inst_model.specs.NetRules.{UnclassedDue}
 use Rattle.st_ast.specs.Tree.{Program}
 use Rattle.st_ast.specs.Scan.{start_memory}
 use Rattle.plc_model.specs.Face.{Face, StateOf}
+use Rattle.plc_back.specs.Texts.{Makes, TheProgram}
 use Rattle.plc_back.specs.Written as written
 use Rattle.cif_front.specs.Loads.{Stands}
 use Rattle.cif_source.specs.Source.{Source}
@@ -33,6 +34,11 @@ pub record IsTextOf (unc con : ℕ) (t : Source) (text : Text) : Type 0 where
   pub net : Net
   pub stands : Stands net t
   pub of_net : written.IsTextOf net unc con text
+
+-- the text is written for the source: it is that text, and reads as one program, which makes the scans of the source
+pub record IsWrittenFor (unc con : ℕ) (t : Source) (text : Text) : Type 0 where
+  pub text_of : IsTextOf unc con t text
+  pub makes : TheProgram text (Makes unc con (shown_of t) (meant_by t) text)
 
 -- the memory of the declarations stands for the initial state
 abbrev pub StartsInitial : Face → System → Program → Type 0

@@ -12,6 +12,7 @@ use Rattle.st_ast.specs.Tree.{Program}
 use Rattle.st_scan.specs.Endings.{stopped}
 use Rattle.st_scan.specs.declared.error.ScanErr.{ScanErr}
 use Rattle.st_scan.specs.declared.error.ScanErr.TheVariants as scan
+use Rattle.plc_back.specs.Texts.{Makes, TheProgram}
 use Rattle.plc_rows.specs.declared.error.RowErr.{RowErr}
 use Rattle.cif_run.specs.declared.status.Status.{Status}
 use Rattle.cif_run.specs.declared.status.Status.TheVariants as status
@@ -36,7 +37,7 @@ use Rattle.cif_check.specs.Words.{Check, IsCheck}
 use Rattle.cif_check.specs.Checks.{accepted, check_work}
 use Rattle.cif_check.proofs.CheckLaws as checks
 use Rattle.cif_generate.specs.Words.{Generate, IsGenerate}
-use Rattle.cif_generate.specs.Meaning.{AreClassed, IsTextOf}
+use Rattle.cif_generate.specs.Meaning.{AreClassed, IsWrittenFor, meant_by, shown_of}
 use Rattle.cif_generate.specs.Generates.{generate_work, is_unclassed}
 use Rattle.cif_generate.proofs.GenerateLaws as generates
 use Rattle.cif_replay.specs.Words.{Replay, IsReplay}
@@ -106,7 +107,7 @@ over_of content check q file at =
     subst (λ f. IsOverSource (check_work q content) content f) same (accept.over_source content q.file (λ t text. text ≡ accepted) no_ends)
 over_of content generate q file at =
     let same : q.file ≡ file = cc in
-    subst (λ f. IsOverSource (generate_work q content) content f) same (accept.over_source content q.file (IsTextOf q.unc q.con) is_unclassed)
+    subst (λ f. IsOverSource (generate_work q content) content f) same (accept.over_source content q.file (IsWrittenFor q.unc q.con) is_unclassed)
 over_of content replay q file at = absurd cc
 over_of content batch q file at = absurd cc
 over_of content simulate q file at = let same : q.file ≡ file = cc in subst (λ f. IsOverSource (simulate_work q content) content f) same (is_over_source q content)
@@ -210,9 +211,9 @@ module _ (words : List Text) (c : Reading) (o : Writing) (e : Ended) (came : Com
         silent = λ t are s name h. h;
       }
       go generate q is at = record {
-        P = IsTextOf q.unc q.con;
+        P = IsWrittenFor q.unc q.con;
         E = is_unclassed;
-        comes = here (IsTextOf q.unc q.con) is_unclassed q.file at (of_command generate q is);
+        comes = here (IsWrittenFor q.unc q.con) is_unclassed q.file at (of_command generate q is);
         silent = λ t are. classed_silent t (are q is);
       }
       go replay q is at = absurd cc
@@ -302,9 +303,14 @@ module _ (words : List Text) (c : Reading) (o : Writing) (e : Ended) (came : Com
   pub checked : r ≡ status.Done → (k : Check) → IsCheck words k → ((t : Source) × SourceIs c.content k.file t) × (o.new ≡ grown o.old accepted)
   checked q k is = checks.checked k c o e (of_command check k is) r same q
 
-  pub generated : (P : Generate → Source → Text → Type 0) → ((g : Generate) (t : Source) (text : Text) → IsTextOf g.unc g.con t text → P g t text)
+  pub generated : (P : Generate → Source → Text → Type 0) → ((g : Generate) (t : Source) (text : Text) → IsWrittenFor g.unc g.con t text → P g t text)
       → Generated r words c.content o.old o.new P
   generated P from q g is = generates.writes g c o e (of_command generate g is) r same (P g) (from g) q
+
+  pub promised : (P : Generate → Source → Text → Program → Type 0)
+      → ((g : Generate) (t : Source) (text : Text) (p : Program) → Makes g.unc g.con (shown_of t) (meant_by t) text p → P g t text p)
+      → Generated r words c.content o.old o.new (λ g t text. TheProgram text (P g t text))
+  promised P from q g is = generates.promised g c o e (of_command generate g is) r same (P g) (from g) q
 
   -- ---- a script
 

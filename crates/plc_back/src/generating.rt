@@ -2,9 +2,12 @@
 
 ghost use Rattle.std.specs.Prelude.{◌≡◌, ◌<◌, ◌≤◌, ◌^◌, ℕ, true, length, map, IfOk, Err};
 ghost use Rattle.cif_net.specs.View.{net_tree, choice_tree, event_tree};
+ghost use Rattle.cif_net_model.specs.Meaning.{system_of_net};
 ghost use Rattle.cif_net_model.specs.Nesting.{is_shallow};
 ghost use Rattle.st_print.specs.Layout.{printed};
+ghost use Rattle.plc_frame.specs.Faces.{face_of_net};
 ghost use Rattle.plc_event_model.specs.ProgramParts.{HasParts, net_program};
+ghost use Rattle.plc_back.specs.Texts.{Makes, TheProgram};
 ghost use Rattle.plc_back.specs.Written.{IsFirstUnclassed, IsTextOf, first_unclassed};
 ghost use Rattle.plc_back.specs.declared.error.ProfileErr.TheVariants.{Unclassed};
 
@@ -26,6 +29,10 @@ pub fn generate_text(
     requires shallow { is_shallow (net_tree guarded.now.plain.net) ≡ true }
     requires unc { bounds.unc ≤ 10000 }
     requires con { bounds.con ≤ 10000 }
+    // It reads as one program, with all that `Makes` promises of it.
+    ensures makes { IfOk result (λ text. TheProgram text.items (Makes bounds.unc bounds.con
+        (face_of_net (net_tree guarded.now.plain.net)) (system_of_net (net_tree guarded.now.plain.net)) text.items)) }
+    // It is the printed program that is defined for the net.
     ensures text { IfOk result
         (λ text. IsTextOf (net_tree guarded.now.plain.net) bounds.unc bounds.con text.items) }
     ensures unclassed { (event : ℕ) → result ≡ Err (Unclassed event) →

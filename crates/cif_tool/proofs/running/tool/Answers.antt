@@ -7,7 +7,7 @@ use Rattle.cif_why_model.proofs.Holding.{reasons-hold}
 use Rattle.cif_sim_names.specs.Sources.{names_of, told_of}
 use Rattle.plc_model.specs.Face.{HasInterface}
 use Rattle.plc_model.specs.Scans.{NeverFaults, RunsFirstSteps, ScansLegally, ScansExactly, ShowsOutputs, StaysTyped}
-use Rattle.plc_back.specs.Texts.{IsLayoutOf, TheProgram}
+use Rattle.plc_back.specs.Texts.{IsLayoutOf}
 use Rattle.cif_run.specs.declared.status.Status.TheVariants as status
 use Rattle.cif_run.specs.Works.{Reading, Writing, reading, writing}
 use Rattle.cif_run.proofs.CallLaws as call
@@ -37,40 +37,40 @@ abbrev out_of : (g : Over) → goal.After-report g → Writing
 out_of g c = writing (g.O.Sink.written c.args.out.now) (g.O.Sink.written c.run_words-ended.new.out) (g.O.Sink.faults c.args.out.now) (g.O.Sink.faults c.run_words-ended.new.out)
 
 pub returns-clause-program : goal.returns-clause-program
-returns-clause-program g c = tool.generated (texts g c) (files_of g c) (out_of g c) c.run_words-ended.result c.run_words-ended.ensures.came c.report.result c.report.ensures.unless_memory
-    (λ m t text. TheProgram text (HasInterface (shown_of t))) (λ m t text. generates.program m.unc m.con t text)
+returns-clause-program g c = tool.promised (texts g c) (files_of g c) (out_of g c) c.run_words-ended.result c.run_words-ended.ensures.came c.report.result c.report.ensures.unless_memory
+    (λ m t text. HasInterface (shown_of t)) (λ m t text p made. made.interface)
 
 pub returns-clause-starts_initial : goal.returns-clause-starts_initial
-returns-clause-starts_initial g c = tool.generated (texts g c) (files_of g c) (out_of g c) c.run_words-ended.result c.run_words-ended.ensures.came c.report.result c.report.ensures.unless_memory
-    (λ m t text. TheProgram text (StartsInitial (shown_of t) (meant_by t))) (λ m t text. generates.starts_initial m.unc m.con t text)
+returns-clause-starts_initial g c = tool.promised (texts g c) (files_of g c) (out_of g c) c.run_words-ended.result c.run_words-ended.ensures.came c.report.result c.report.ensures.unless_memory
+    (λ m t text. StartsInitial (shown_of t) (meant_by t)) (λ m t text p made. made.starts)
 
 pub returns-clause-runs_first_steps : goal.returns-clause-runs_first_steps
-returns-clause-runs_first_steps g c = tool.generated (texts g c) (files_of g c) (out_of g c) c.run_words-ended.result c.run_words-ended.ensures.came c.report.result c.report.ensures.unless_memory
-    (λ m t text. TheProgram text (RunsFirstSteps (shown_of t) (meant_by t))) (λ m t text. generates.runs_first_steps m.unc m.con t text)
+returns-clause-runs_first_steps g c = tool.promised (texts g c) (files_of g c) (out_of g c) c.run_words-ended.result c.run_words-ended.ensures.came c.report.result c.report.ensures.unless_memory
+    (λ m t text. RunsFirstSteps (shown_of t) (meant_by t)) (λ m t text p made. made.first_steps)
 
 pub returns-clause-never_faults : goal.returns-clause-never_faults
-returns-clause-never_faults g c = tool.generated (texts g c) (files_of g c) (out_of g c) c.run_words-ended.result c.run_words-ended.ensures.came c.report.result c.report.ensures.unless_memory
-    (λ m t text. TheProgram text (NeverFaults (meant_by t))) (λ m t text. generates.never_faults m.unc m.con t text)
+returns-clause-never_faults g c = tool.promised (texts g c) (files_of g c) (out_of g c) c.run_words-ended.result c.run_words-ended.ensures.came c.report.result c.report.ensures.unless_memory
+    (λ m t text. NeverFaults (meant_by t)) (λ m t text p made. made.never_faults)
 
 pub returns-clause-scans_legally : goal.returns-clause-scans_legally
-returns-clause-scans_legally g c = tool.generated (texts g c) (files_of g c) (out_of g c) c.run_words-ended.result c.run_words-ended.ensures.came c.report.result c.report.ensures.unless_memory
-    (λ m t text. TheProgram text (ScansLegally m.unc m.con (shown_of t) (meant_by t))) (λ m t text. generates.scans_legally m.unc m.con t text)
+returns-clause-scans_legally g c = tool.promised (texts g c) (files_of g c) (out_of g c) c.run_words-ended.result c.run_words-ended.ensures.came c.report.result c.report.ensures.unless_memory
+    (λ m t text. ScansLegally m.unc m.con (shown_of t) (meant_by t)) (λ m t text p made. made.legal)
 
 pub returns-clause-scans_exactly : goal.returns-clause-scans_exactly
-returns-clause-scans_exactly g c = tool.generated (texts g c) (files_of g c) (out_of g c) c.run_words-ended.result c.run_words-ended.ensures.came c.report.result c.report.ensures.unless_memory
-    (λ m t text. TheProgram text (ScansExactly m.unc m.con (shown_of t) (meant_by t))) (λ m t text. generates.scans_exactly m.unc m.con t text)
+returns-clause-scans_exactly g c = tool.promised (texts g c) (files_of g c) (out_of g c) c.run_words-ended.result c.run_words-ended.ensures.came c.report.result c.report.ensures.unless_memory
+    (λ m t text. ScansExactly m.unc m.con (shown_of t) (meant_by t)) (λ m t text p made. made.exact)
 
 pub returns-clause-shows_outputs : goal.returns-clause-shows_outputs
-returns-clause-shows_outputs g c = tool.generated (texts g c) (files_of g c) (out_of g c) c.run_words-ended.result c.run_words-ended.ensures.came c.report.result c.report.ensures.unless_memory
-    (λ m t text. TheProgram text (ShowsOutputs (shown_of t) (meant_by t))) (λ m t text. generates.shows_outputs m.unc m.con t text)
+returns-clause-shows_outputs g c = tool.promised (texts g c) (files_of g c) (out_of g c) c.run_words-ended.result c.run_words-ended.ensures.came c.report.result c.report.ensures.unless_memory
+    (λ m t text. ShowsOutputs (shown_of t) (meant_by t)) (λ m t text p made. made.outputs)
 
 pub returns-clause-stays_typed : goal.returns-clause-stays_typed
-returns-clause-stays_typed g c = tool.generated (texts g c) (files_of g c) (out_of g c) c.run_words-ended.result c.run_words-ended.ensures.came c.report.result c.report.ensures.unless_memory
-    (λ m t text. TheProgram text (StaysTyped (meant_by t))) (λ m t text. generates.stays_typed m.unc m.con t text)
+returns-clause-stays_typed g c = tool.promised (texts g c) (files_of g c) (out_of g c) c.run_words-ended.result c.run_words-ended.ensures.came c.report.result c.report.ensures.unless_memory
+    (λ m t text. StaysTyped (meant_by t)) (λ m t text p made. made.types)
 
 pub returns-clause-laid_out : goal.returns-clause-laid_out
-returns-clause-laid_out g c = tool.generated (texts g c) (files_of g c) (out_of g c) c.run_words-ended.result c.run_words-ended.ensures.came c.report.result c.report.ensures.unless_memory
-    (λ m t text. TheProgram text (IsLayoutOf text)) (λ m t text. generates.laid_out m.unc m.con t text)
+returns-clause-laid_out g c = tool.promised (texts g c) (files_of g c) (out_of g c) c.run_words-ended.result c.run_words-ended.ensures.came c.report.result c.report.ensures.unless_memory
+    (λ m t text. IsLayoutOf text) (λ m t text p made. made.layout)
 
 pub returns-clause-classed : goal.returns-clause-classed
 returns-clause-classed g c = tool.generated (texts g c) (files_of g c) (out_of g c) c.run_words-ended.result c.run_words-ended.ensures.came c.report.result c.report.ensures.unless_memory

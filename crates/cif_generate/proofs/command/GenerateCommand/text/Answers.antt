@@ -10,7 +10,7 @@ generate_text-requires-clause-shallow g c = law.loaded_shallow (g.F.Files.conten
 
 pub returns-in-Ok-clause-writes : goal.returns-in-Ok-clause-writes
 returns-in-Ok-clause-writes g c = law.loaded_text (g.F.Files.content c.args.files.now) c.args.self.now.file.now c.in_ok-net.net c.in_ok-net.ensures.loaded
-    c.args.self.now.bounds.unc c.args.self.now.bounds.con c.in-Ok.text.items c.in-Ok.ensures.text
+    c.args.self.now.bounds.unc c.args.self.now.bounds.con c.in-Ok.text.items c.in-Ok.ensures.text c.in-Ok.ensures.makes
 
 pub returns-in-Err-Unclassed-clause-stops : goal.returns-in-Err-Unclassed-clause-stops
 returns-in-Err-Unclassed-clause-stops g c = law.unclassed_stops (g.F.Files.content c.args.files.now) c.args.self.now.file.now c.in_ok-net.net c.in_ok-net.ensures.loaded
