@@ -118,7 +118,7 @@ module _ (t : Source) (few : length (components_of t) ≤ most_objects) (single 
 
 -- ---- where they stand
 
--- the body of a row is its component's
+-- the body of a listed component is its own
 pub row_stands : (y : Typing) (rows : List Row) (place k : ℕ) (row : Row) → AreTypesOf y → map row_tree rows ≡ rows_of (typed_source y) → place < length rows → row ≡ get_or rows place row → k ≡ place
     → IsBodyOf y k (inside_of row.inside)
 row_stands y rows place k row types are below is same =

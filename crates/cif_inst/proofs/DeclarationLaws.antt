@@ -44,7 +44,7 @@ abbrev pub made : {A : Type 0} → Sort → (ℕ → Component → DatumTree →
 made s g k [] = []
 made s g k (c ∷ cs) = map (g k c) (body_data s k (prefix_of c) (body_of c)) ++ made s g (k + 1) cs
 
--- where it does not ask the component
+-- where the component is not needed
 pub made-all : {A : Type 0} (s : Sort) (g : DatumTree → A) (cs : List Component) (k : ℕ) → map g (rows_data s k (map row_for cs)) ≡ made s (λ k c. g) k cs
 made-all s g [] k = refl
 made-all s g (c ∷ cs) k =

@@ -140,7 +140,7 @@ module _ (y : Typing) (types : AreTypesOf y) where
   pub all_stand : StandAll y (rows_events 0 (rows_of (typed_source y)))
   all_stand = rows-stand (components_of (typed_source y)) 0 (all-components (typed_source y))
 
--- ---- where the loop over rows has ended
+-- ---- where the loop over components has ended
 
 pub all_found : (es : List EventTree) (rows : List Row) (i : ℕ) → length rows ≤ i → es ++ rows_events i (map row_tree (drop i rows)) ≡ rows_events 0 (map row_tree rows) → es ≡ rows_events 0 (map row_tree rows)
 all_found es rows i past h = sym (append-nil es) ∙ ap (λ (rs : List Row). es ++ rows_events i (map row_tree rs)) (sym (drop_all i rows past)) ∙ h

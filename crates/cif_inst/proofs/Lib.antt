@@ -1,16 +1,5 @@
 pub mod EventLaws
-pub mod EdgeLaws
-pub mod ListedLaws
 pub mod MeasureLaws
-pub mod UseLaws
-pub mod MarkLaws
-pub mod AlphabetLaws
-pub mod LackLaws
-pub mod AutomatonLaws
-pub mod TellLaws
-pub mod RoleLaws
-pub mod MixedLaws
-pub mod RowAutoLaws
 pub mod DeclarationLaws
 pub mod TypingLaws
 pub mod VariableLaws
@@ -19,6 +8,5 @@ pub mod AlgebraicLaws
 mod DefinitionLaws
 pub mod RuleLaws
 pub mod NetLaws
-pub mod AutoLaws
 pub mod OutlineLaws
 pub mod SizeLaws

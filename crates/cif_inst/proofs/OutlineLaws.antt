@@ -1,4 +1,4 @@
--- The outlines are as large as the automata, exclusions and state invariants of the net of the source, and the measures of these tell
+-- The outlines are as large as the automata, exclusions and state invariants of the net of the source, and the measures of these have
 -- its depth.
 use Rattle.std.proofs.Common.{◌≡◌, ℕ, zero, suc, ◌+◌, ◌≤◌, max, List, [], ◌∷◌, ◌++◌, length, map, drop, refl, sym, ◌∙◌, ap, arith}
 use Rattle.std.specs.Prelude.{flat_map}
@@ -20,17 +20,18 @@ use Rattle.cif_alg.specs.Tallies.{cut_size}
 use Rattle.cif_alg.specs.Weighed.{cut}
 use Rattle.cif_alg.specs.Outlines.{CountedAuto, counted_edge, counted_auto, counted_exclusion, counted_invariant}
 use Rattle.cif_source.specs.Source.{Text, AutomatonTree, SourceBody, group_body, automaton_body}
+use Rattle.cif_inst_names.specs.Looking.{component_at}
 use Rattle.cif_inst_names.specs.declared.looking.Looking.{Looking}
-use Rattle.cif_inst_sizes.specs.Weights.{edge_weight}
+use Rattle.cif_inst_sizes.specs.Weights.{edge_weight, use_weight}
 use Rattle.cif_inst_predicates.specs.Weights.{weight_of, excluded_of, invariant_weight}
 use Rattle.cif_inst_paths.specs.Rows.{RowTree}
-use Rattle.cif_inst.specs.Edges.{automaton_edges}
-use Rattle.cif_inst.specs.Alphabets.{automaton_used, alphabet_for, monitors_for, automaton_alphabet, body_alphabets, rows_alphabets}
-use Rattle.cif_inst.specs.Autos.{auto_for, body_autos, rows_autos}
+use Rattle.cif_inst_automata.specs.Edges.{automaton_edges}
+use Rattle.cif_inst_automata.specs.Alphabets.{automaton_used, alphabet_for, monitors_for, automaton_alphabet, body_alphabets, rows_alphabets}
+use Rattle.cif_inst_automata.specs.Autos.{auto_for, body_autos, rows_autos}
 use Rattle.cif_inst.specs.Measures.{automaton_weights, body_weights, rows_weights, measure_of}
 use Rattle.cif_inst.specs.Outlines.{outline_expr, outline_edge, outline_edges, outline, outlines, outline_exclusions, outline_invariants, together}
-use Rattle.cif_inst.proofs.EdgeLaws.{role-back}
-use Rattle.cif_inst.proofs.ListedLaws.{used_by, used-edges, weights-edges}
+use Rattle.cif_inst_automata.proofs.EdgeLaws.{role-back}
+use Rattle.cif_inst_automata.proofs.ListedLaws.{locations-listed, used_by, used-edges}
 
 -- ---- what is left of a list
 
@@ -88,6 +89,9 @@ module _ (alg : ℕ → counts.Measure) (ms : List Measure) where
       ∷ invariants-as xs (j + 1) rest (left-past ms (weight_of alg x.pred ∷ []) (map (invariant_weight alg) xs ++ rest) j 1 refl left) i
 
 -- ---- automata
+
+weights-edges : (alg : ℕ → counts.Measure) (l : Looking) (k : ℕ) (a : AutomatonTree) → automaton_weights alg l k a ≡ map (edge_weight alg) (automaton_edges l k a)
+weights-edges alg l k a = locations-listed l k (length a.locs) (use_weight alg (component_at l k)) (edge_weight alg) (λ from to e u. refl) 0 a.locs
 
 module _ (alg : ℕ → counts.Measure) (l : Looking) where
   as-many : (k : ℕ) (a : AutomatonTree) → length (automaton_used l k a) ≡ length (automaton_weights alg l k a)
@@ -157,7 +161,7 @@ counted-deep (m ∷ ms) a few = omega (arith, few, counted-deep ms (beside_stopp
 deep-of : (ms : List Measure) → (together ms).depth ≡ stopped most_depth (all_beside (map as_measure ms)).depth
 deep-of ms = omega (arith, counted-deep ms (stopped_measure no_form) (omega arith))
 
--- measures that stop tell where the depth of all stops
+-- the depth of all stops where those of measures do
 stopped-deep : (xs : List counts.Measure) → stopped most_depth (all_beside xs).depth ≡ (all_beside (map as_measure (map stopped_measure xs))).depth
 stopped-deep [] = omega arith
 stopped-deep (x ∷ xs) = omega (arith, stopped-deep xs)

@@ -1,4 +1,4 @@
--- What is told of sizes breaks their rule.
+-- A refusal of sizes is due.
 use Rattle.std.proofs.Common.{◌≡◌, ℕ, ◌+◌, true, false, ◌||◌, nat_lt, List, [], ◌∷◌, length, ◌++◌, append_assoc, map, drop, refl, sym, subst, ◌∙◌, ap, arith}
 use Rattle.std.specs.Prelude.{flat_map}
 use Rattle.std.proofs.lemmas.Bool.Decides.{nat_tests}
@@ -19,7 +19,6 @@ use Rattle.cif_alg.specs.Sizes.{sizes_added}
 use Rattle.cif_alg.specs.Tallies.{counted}
 use Rattle.cif_alg.specs.Outlines.{counted_auto, counted_exclusion, counted_invariant, AreAsLarge}
 use Rattle.cif_source.specs.Source.{Source}
-use Rattle.cif_source.specs.Objects.{components_of}
 use Rattle.cif_inst_model.specs.Flat.{net_of_source}
 use Rattle.cif_inst_model.specs.NetRules.{TooLargeDue}
 use Rattle.cif_inst_names.specs.Looking.{source_for}
@@ -33,17 +32,16 @@ use Rattle.cif_inst_predicates.specs.declared.weights.PredicateWeights.{Predicat
 use Rattle.cif_inst_paths.specs.Names.{AreMatchedNames}
 use Rattle.cif_inst_paths.specs.Rows.{RowTree, rows_of}
 use Rattle.cif_inst.specs.Events.{all_events}
-use Rattle.cif_inst.specs.Alphabets.{rows_alphabets}
-use Rattle.cif_inst.specs.Autos.{rows_autos}
+use Rattle.cif_inst_automata.specs.Alphabets.{rows_alphabets}
+use Rattle.cif_inst_automata.specs.Autos.{rows_autos}
 use Rattle.cif_inst.specs.Measures.{rows_weights, measure_of, predicate_weights}
 use Rattle.cif_inst.specs.Outlines.{outlines, outline_exclusions, outline_invariants, outlined_nodes, greatest_depth, tells_size}
 use Rattle.cif_inst.specs.Net.{due, KeepsInstances}
-use Rattle.cif_inst.specs.declared.alphabets.Alphabet.{Alphabet}
+use Rattle.cif_inst_automata.specs.declared.alphabets.Alphabet.{Alphabet}
 use Rattle.cif_inst.specs.declared.error.InstErr.{InstErr}
 use Rattle.cif_inst.specs.declared.error.InstErr.TheVariants.{AlphabetLacks, RoleMixed, TooManyObjects, ConstantRange, TooLarge, Memory}
-use Rattle.cif_inst_paths.proofs.SoundLaws.{all-components}
 use Rattle.cif_inst.proofs.EventLaws.{events-are}
-use Rattle.cif_inst.proofs.NetLaws.{rows-made}
+use Rattle.cif_inst_automata.proofs.NetAutoLaws.{autos-are}
 use Rattle.cif_inst.proofs.OutlineLaws.{left-past, exclusions-as, invariants-as, rows-as, edges_of, weights-are, depth-append, own-deep, together-deep}
 
 -- a count that stops is past its limit where the whole one is
@@ -54,7 +52,7 @@ past m v =
       | false ↦ λ h. grind (arith, nat_tests)
     ] refl
 
--- what the sizes of a source are told by
+-- what the sizes of a source are found by
 pub record IsOutlined (l : Looking) (rows : List RowTree) (all : List Alphabet) (listed : List NetEvent) (w : PredicateWeights) (ms own : List Measure) : Type 0 where
   pub names : AreMatchedNames l
   pub of_source : rows ≡ rows_of (source_for l)
@@ -103,7 +101,7 @@ module _ (l : Looking) (rows : List RowTree) (all : List Alphabet) (listed : Lis
   edge_weights = rows_weights alg l 0 (rows_of t)
 
   same-autos : rows_autos l 0 rows ≡ net.autos
-  same-autos = ap (rows_autos l 0) o.of_source ∙ rows-made l o.names (components_of t) 0 (all-components t)
+  same-autos = autos-are l o.names rows o.of_source
 
   weighed : ms ≡ predicate_weights w ++ edge_weights
   weighed = o.weighed ∙ ap (λ (rs : List RowTree). predicate_weights w ++ rows_weights alg l 0 rs) o.of_source
@@ -126,7 +124,7 @@ module _ (l : Looking) (rows : List RowTree) (all : List Alphabet) (listed : Lis
     autos_as =
         ap (λ (xs : List Alphabet). map (counted_auto (table_measure ms)) (outlines (length w.exclusions + length w.invariants) xs)) (o.found ∙ ap (rows_alphabets l 0) o.of_source)
         ∙ rows-as alg l ms (rows_of t) 0 (length w.exclusions + length w.invariants) past-predicates
-        ∙ ap (map (counted_auto alg)) (rows-made l o.names (components_of t) 0 (all-components t));
+        ∙ ap (map (counted_auto alg)) (autos-are l o.names (rows_of t) refl);
     exclusions_as =
         ap (λ (xs : List Excluded). map (counted_exclusion (table_measure ms)) (outline_exclusions 0 xs)) o.predicates.exclusions
         ∙ exclusions-as alg ms net.exclusions 0 (w.invariants ++ edge_weights) (whole ∙ ap (λ (xs : List Excluded). map measure_of xs ++ (w.invariants ++ edge_weights)) o.predicates.exclusions);

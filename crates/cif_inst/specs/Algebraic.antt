@@ -54,7 +54,7 @@ home_number t k (automaton_body a) = automaton_number t (component_of t k)
 abbrev pub body_algs : Source → ℕ → Text → SourceBody → List NetAlg
 body_algs t k p b = map (alg_with t (home_number t k b) (body_added b) (map location_added (locs_in b))) (body_data sort.Algebraic k p b)
 
--- those of the rows from component k on
+-- those of the components from number k on
 abbrev pub rows_algs : Source → ℕ → List RowTree → List NetAlg
 rows_algs t k [] = []
 rows_algs t k (r ∷ rs) = body_algs t k r.0 r.1 ++ rows_algs t (k + 1) rs

@@ -49,7 +49,7 @@ abbrev pub body_data : Sort → ℕ → Text → SourceBody → List DatumTree
 body_data s k p (group_body is) = items_data s k p is
 body_data s k p (automaton_body a) = decls_data s k p a.decls
 
--- those of the rows from component k on
+-- those of the components from number k on
 abbrev pub rows_data : Sort → ℕ → List RowTree → List DatumTree
 rows_data s k [] = []
 rows_data s k (r ∷ rs) = body_data s k r.0 r.1 ++ rows_data s (k + 1) rs

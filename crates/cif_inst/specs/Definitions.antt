@@ -23,7 +23,7 @@ definition_with own located d = record { component = d.component; values = value
 abbrev pub body_definitions : ℕ → Text → SourceBody → List DefinitionTree
 body_definitions k p b = map (definition_with (body_added b) (map location_added (locs_in b))) (body_data sort.Algebraic k p b)
 
--- those of the rows from component k on
+-- those of the components from number k on
 abbrev pub rows_definitions : ℕ → List RowTree → List DefinitionTree
 rows_definitions k [] = []
 rows_definitions k (r ∷ rs) = body_definitions k r.0 r.1 ++ rows_definitions (k + 1) rs

@@ -52,7 +52,7 @@ abbrev pub body_events : ℕ → Text → SourceBody → List EventTree
 body_events k p (group_body is) = items_events k p is
 body_events k p (automaton_body a) = decls_events k p a.decls
 
--- those of the rows from component k on
+-- those of the components from number k on
 abbrev pub rows_events : ℕ → List RowTree → List EventTree
 rows_events k [] = []
 rows_events k (r ∷ rs) = body_events k r.0 r.1 ++ rows_events (k + 1) rs

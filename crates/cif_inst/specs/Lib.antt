@@ -2,17 +2,10 @@ pub mod Declarations
 pub mod Typing
 pub mod Views
 pub mod Events
-pub mod Targets
 pub mod Variables
 pub mod Equations
 pub mod Definitions
 pub mod Algebraic
-pub mod Edges
-pub mod Marks
-pub mod Alphabets
-pub mod BodyNames
-pub mod Roles
 pub mod Measures
 pub mod Outlines
-pub mod Autos
 pub mod Net

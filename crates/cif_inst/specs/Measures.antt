@@ -1,5 +1,5 @@
--- Helper of the code: what exclusions, state invariants and the edges of automata weigh in the net, by what names are looked up in and
--- where alg tells what an algebraic variable weighs.
+-- Helper of the code: the sizes and depths of exclusions, state invariants and edges in the net, by what names are looked up in, and by
+-- those of algebraic variables, alg.
 use Rattle.std.specs.Prelude.{ℕ, ◌+◌, List, [], ◌∷◌, ◌++◌, map, flat_map}
 use Rattle.cif_net_model.specs.Counts as counts
 use Rattle.cif_alg_measure.specs.declared.measures.Measure.{Measure}
@@ -25,7 +25,7 @@ abbrev pub body_weights : (alg : ℕ → counts.Measure) → Looking → (compon
 body_weights alg l k (group_body is) = []
 body_weights alg l k (automaton_body a) = automaton_weights alg l k a
 
--- those of the rows from component k on
+-- those of the components from number k on
 abbrev pub rows_weights : (alg : ℕ → counts.Measure) → Looking → ℕ → List RowTree → List Measure
 rows_weights alg l k [] = []
 rows_weights alg l k (r ∷ rs) = body_weights alg l k r.1 ++ rows_weights alg l (k + 1) rs

@@ -7,6 +7,8 @@ use Rattle.cif_inst_components.specs.declared.error.ComponentsErr.{ComponentsErr
 use Rattle.cif_inst_components.specs.declared.error.ComponentsErr.TheVariants as components
 use Rattle.cif_inst_constants.specs.declared.error.ConstErr.{ConstErr}
 use Rattle.cif_inst_constants.specs.declared.error.ConstErr.TheVariants as constant
+use Rattle.cif_inst_automata.specs.declared.error.AutomataErr.{AutomataErr}
+use Rattle.cif_inst_automata.specs.declared.error.AutomataErr.TheVariants as automata
 use Rattle.cif_inst.specs.declared.error.InstErr.{InstErr}
 use Rattle.cif_inst.specs.declared.error.InstErr.TheVariants.{AlphabetLacks, RoleMixed, TooManyObjects, ConstantRange, TooLarge, Memory}
 
@@ -17,7 +19,7 @@ pub record KeepsInstances (t : Source) : Type 0 where
   pub few : (count : ℕ) → TooManyObjectsDue t count → ⊥
   pub ranges : (at : ℕ) → ConstantRangeDue t at → ⊥
 
--- the rule of the refusal is broken, with its fields; sizes are told only where no rule on instances is broken
+-- the rule of the refusal is broken, with its fields; sizes are refused only where no rule on instances is broken
 abbrev pub due : Source → InstErr → Type 0
 due t (AlphabetLacks at) = AlphabetLacksDue t at
 due t (RoleMixed at) = RoleMixedDue t at
@@ -35,3 +37,9 @@ of_components components.Memory = Memory
 abbrev pub of_constants : ConstErr → InstErr
 of_constants (constant.ConstantRange at) = ConstantRange at
 of_constants constant.Memory = Memory
+
+-- the refusal of automata, or want of memory
+abbrev pub of_automata : AutomataErr → InstErr
+of_automata (automata.AlphabetLacks at) = AlphabetLacks at
+of_automata (automata.RoleMixed at) = RoleMixed at
+of_automata automata.Memory = Memory

@@ -1,5 +1,5 @@
--- Helper of the code: automata, exclusions and state invariants of a net with numbers of measures in the place of expressions, and what is
--- told of sizes by them.
+-- Helper of the code: automata, exclusions and state invariants of a net with numbers of measures in the place of expressions, and the
+-- sizes that are found by them.
 use Rattle.std.specs.Prelude.{◌≡◌, ℕ, suc, ◌+◌, ◌≤◌, max, nat_lt, true, ◌||◌, List, [], ◌∷◌, length, sum_by, None, if◌then◌else◌}
 use Rattle.cif_net_expr.specs.Tree.{NetExpr, net_expr, n_alg, no_net_updates}
 use Rattle.cif_net_model.specs.Net.{NetEdge, NetAuto, NetEvent, NetExclusion, NetInvariant}
@@ -12,8 +12,8 @@ use Rattle.cif_alg.specs.Sizes.{sizes_added}
 use Rattle.cif_alg.specs.Tallies.{counted}
 use Rattle.cif_inst_predicates.specs.declared.weights.Excluded.{Excluded}
 use Rattle.cif_inst_predicates.specs.declared.weights.PredicateWeights.{PredicateWeights}
-use Rattle.cif_inst.specs.declared.alphabets.Alphabet.{Alphabet}
-use Rattle.cif_inst.specs.declared.used.Used.{Used}
+use Rattle.cif_inst_automata.specs.declared.alphabets.Alphabet.{Alphabet}
+use Rattle.cif_inst_automata.specs.declared.used.Used.{Used}
 use Rattle.cif_inst.specs.declared.error.InstErr.{InstErr}
 use Rattle.cif_inst.specs.declared.error.InstErr.TheVariants.{AlphabetLacks, RoleMixed, TooManyObjects, ConstantRange, TooLarge, Memory}
 
@@ -75,11 +75,11 @@ greatest_depth ms own = max (together ms).depth (together own).depth
 abbrev pub most_forms : ℕ
 most_forms = 4000000
 
--- the forms that a measure counts; one that stopped past its limit stands for any number, and so for more than are made
+-- the forms that a measure counts; a count that stopped past its limit may be of any size, so it is more than are made
 abbrev pub weight : Measure → ℕ
 weight m = if nat_lt most_nodes m.size then suc most_forms else m.size
 
--- so few forms, of these and of algebraic variables, that they are made
+-- few enough forms to be made, of these and of algebraic variables
 pub record AreMade (measures own : List Measure) : Type 0 where
   pub deep : greatest_depth measures own ≤ most_depth
   pub few : sum_by weight measures ≤ most_forms

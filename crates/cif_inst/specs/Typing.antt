@@ -22,7 +22,7 @@ typed_component y k = component_of (typed_source y) k
 abbrev pub body_in : Typing → DatumTree → ℕ
 body_in y d = body_number y.looking.now.components.now.all d.component
 
--- names stand for what they denote, and types have their numbers
+-- names have what they denote, and types their numbers
 pub record AreTypesOf (y : Typing) : Type 0 where
   pub names : AreNamesOf y.looking.now
   pub typed : IsTyped (typed_source y) y.types.now y.turns

@@ -1,14 +1,10 @@
--- Helper of the code: what the types of `src/` stand for.
-use Rattle.cif_system.specs.System.{Role, syncing, sending, receiving}
-use Rattle.cif_source.specs.Source.{RoleTree, type_tree, channel_tree}
-use Rattle.cif_source.specs.Step.{role_of}
+-- Helper of the code: what the types of `src/` mean.
+use Rattle.cif_source.specs.Source.{type_tree, channel_tree}
 use Rattle.cif_inst_types.specs.Types.{given_tree}
 use Rattle.cif_ast.specs.declared.declarations.Class.{Class as SourceClass}
 use Rattle.cif_ast.specs.declared.declarations.Class.TheVariants as source_class
 use Rattle.cif_net.specs.declared.events.Class.{Class}
 use Rattle.cif_net.specs.declared.events.Class.TheVariants as class
-use Rattle.cif_net.specs.declared.automata.NetRole.{NetRole}
-use Rattle.cif_net.specs.declared.automata.NetRole.TheVariants as role
 use Rattle.cif_inst.specs.Declarations.{DatumTree}
 use Rattle.cif_inst.specs.Events.{EventTree}
 use Rattle.cif_inst.specs.declared.declarations.Datum.{Datum}
@@ -24,11 +20,3 @@ abbrev pub class_for : SourceClass → Class
 class_for source_class.Plain = class.Plain
 class_for source_class.Con = class.Con
 class_for source_class.Unc = class.Unc
-
-abbrev pub role_back : Role → NetRole
-role_back syncing = role.Sync
-role_back sending = role.Send
-role_back receiving = role.Recv
-
-abbrev pub role_for : RoleTree → NetRole
-role_for r = role_back (role_of r)

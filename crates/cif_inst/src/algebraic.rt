@@ -177,7 +177,7 @@ fn add_component(
 }
 
 /// The algebraic variables of these components.
-pub fn all_algs(alloc: Global, typing: &Typing, rows: &[Row]) -> Result<Items<Alg>, Memory>
+pub(crate) fn all_algs(alloc: Global, typing: &Typing, rows: &[Row]) -> Result<Items<Alg>, Memory>
     requires types { of_types.AreTypesOf typing.now }
     requires rows { map row_tree rows.now ≡ rows_of (of_types.typed_source typing.now) }
     ensures { IfOk result (λ all. map alg_tree all ≡ algebraic.rows_algs (of_types.typed_source typing.now) 0 (map row_tree rows.now)) }

@@ -4,8 +4,9 @@
 ghost use Rattle.std.specs.Prelude.{◌≡◌, ◌++◌, map, option_map, IfOk, OnOk};
 ghost use Rattle.std.specs.Option.{option_to_list};
 ghost use Rattle.cif_ast.specs.View.{view_item, view_items};
-ghost use Rattle.cif_source.specs.Source.{decl_tree, source_item, source_items};
+ghost use Rattle.cif_source.specs.Source.{decl_tree, source_item, source_items, type_tree};
 ghost use Rattle.cif_scope.specs.Written.{inside_of};
+ghost use Rattle.cif_inst_types.specs.Types.{given_tree};
 ghost use Rattle.cif_inst.specs.Declarations as declared;
 ghost use Rattle.cif_inst_paths.specs.Views.{row_tree};
 ghost use Rattle.cif_inst.specs.Views.{datum_tree};
@@ -16,7 +17,7 @@ use cif_inst_paths::Row;
 use cif_scope::{Inside, number};
 use std::alloc::Global;
 
-/// Which of them.
+/// The sort of what is declared.
 #[derive(Clone, Copy)]
 pub enum Sort {
     Input,
@@ -24,7 +25,7 @@ pub enum Sort {
     Algebraic,
 }
 
-/// One that a component declares: what its path begins with, its name and type, and the value that it is declared with, if any.
+/// An input or a variable of a component: the beginning of its path, its name and type, and its declared value.
 #[derive(Clone, Copy, Drop)]
 pub struct Datum<'a> {
     pub component: u32,
@@ -34,39 +35,41 @@ pub struct Datum<'a> {
     pub value: Option<&'a Expr>,
 }
 
+impl<'a> Datum<'a> {
+    fn new(
+        component: u32,
+        prefix: &'a Text,
+        name: &'a Ident,
+        ty: &'a TypeUse,
+        value: Option<&'a Expr>,
+    ) -> Datum<'a>
+        ensures { datum_tree result ≡ declared.datum component prefix.now name.now (type_tree ty.now) (given_tree value.entry) }
+    {
+        Datum {
+            component,
+            prefix,
+            name,
+            ty,
+            value,
+        }
+    }
+}
+
 /// What a declaration of a component declares, if it is of the sort.
 fn datum_of<'a>(sort: Sort, component: u32, prefix: &'a Text, decl: &'a Decl) -> Option<Datum<'a>>
     ensures { option_to_list (option_map datum_tree result) ≡ declared.decl_data sort component prefix.now (decl_tree decl.now) }
 {
     match decl {
         Decl::Disc { ty, name, value } => match sort {
-            Sort::Discrete => Some(Datum {
-                component,
-                prefix,
-                name,
-                ty,
-                value: value.as_ref(),
-            }),
+            Sort::Discrete => Some(Datum::new(component, prefix, name, ty, value.as_ref())),
             Sort::Input | Sort::Algebraic => None,
         },
         Decl::Input { ty, name } => match sort {
-            Sort::Input => Some(Datum {
-                component,
-                prefix,
-                name,
-                ty,
-                value: None,
-            }),
+            Sort::Input => Some(Datum::new(component, prefix, name, ty, None)),
             Sort::Discrete | Sort::Algebraic => None,
         },
         Decl::Alg { ty, name, value } => match sort {
-            Sort::Algebraic => Some(Datum {
-                component,
-                prefix,
-                name,
-                ty,
-                value: value.as_ref(),
-            }),
+            Sort::Algebraic => Some(Datum::new(component, prefix, name, ty, value.as_ref())),
             Sort::Input | Sort::Discrete => None,
         },
         Decl::TypeName { .. }
@@ -140,7 +143,7 @@ fn add_items<'a>(
 }
 
 /// Adds those of a sort that a component declares.
-pub fn add_row<'a>(
+pub(crate) fn add_row<'a>(
     sort: Sort,
     component: u32,
     row: &'a Row<'a>,
@@ -158,7 +161,11 @@ pub fn add_row<'a>(
 }
 
 /// Those of a sort that all components declare.
-pub fn data_of<'a>(alloc: Global, sort: Sort, rows: &'a [Row<'a>]) -> Result<Vec<Datum<'a>>, Memory>
+pub(crate) fn data_of<'a>(
+    alloc: Global,
+    sort: Sort,
+    rows: &'a [Row<'a>],
+) -> Result<Vec<Datum<'a>>, Memory>
     ensures { IfOk result (λ all. map datum_tree all.items ≡ declared.rows_data sort 0 (map row_tree rows.now)) }
 {
     let mut all = Vec::new(alloc);

@@ -93,7 +93,7 @@ fn add_component<'a>(
 }
 
 /// The definitions of the algebraic variables of these components, by number.
-pub fn all_definitions<'a>(
+pub(crate) fn all_definitions<'a>(
     alloc: Global,
     rows: &'a [Row<'a>],
 ) -> Result<Vec<Definition<'a>>, Memory>
@@ -125,9 +125,9 @@ fn add_measures(
     Ok(())
 }
 
-/// The measures of the expressions of these definitions. No clause speaks of them: they tell only whether there is memory for a net of
-/// which an algebraic variable depends on itself.
-pub fn definition_measures(
+/// The measures of the expressions of these definitions. They decide only whether there is memory for a net in which an algebraic
+/// variable depends on itself, so no clause speaks of them.
+pub(crate) fn definition_measures(
     alloc: Global,
     looking: &Looking<'_, '_>,
     weights: &Weights,

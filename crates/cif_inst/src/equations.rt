@@ -4,7 +4,7 @@
 ghost use Rattle.std.specs.Prelude.{◌≡◌, [], map, IfOk, OnOk};
 ghost use Rattle.cif_ast.specs.View.{view, view_item, view_items};
 ghost use Rattle.cif_source.specs.Source.{decl_tree, equation_tree, location_tree, source_item, source_items};
-ghost use Rattle.cif_source.specs.Objects.{decls_in, locs_in};
+ghost use Rattle.cif_source.specs.Objects.{locs_in};
 ghost use Rattle.cif_scope.specs.Written.{inside_of};
 ghost use Rattle.cif_inst_types.specs.Types.{given_tree};
 ghost use Rattle.cif_inst.specs.Equations as kept;
@@ -38,7 +38,7 @@ impl<'a> Equations<'a> {
     }
 
     /// The first value for a name.
-    pub fn of(&self, name: &Text) -> Option<&'a Expr>
+    pub(crate) fn of(&self, name: &Text) -> Option<&'a Expr>
         ensures { given_tree result ≡ kept.value_for name.now (kept.values_in self.now) }
     {
         match self.firsts.get(name.as_slice()) {
@@ -148,7 +148,7 @@ fn located_equations<'a>(alloc: Global, locs: &'a [Loc]) -> Result<Vec<Equations
 }
 
 /// The equations in a body.
-pub fn equations_of<'a>(alloc: Global, inside: Inside<'a>) -> Result<Defined<'a>, Memory>
+pub(crate) fn equations_of<'a>(alloc: Global, inside: Inside<'a>) -> Result<Defined<'a>, Memory>
     ensures own { IfOk result (λ d. kept.values_in d.own ≡ kept.body_added (inside_of inside.entry)) }
     ensures located { IfOk result (λ d. map kept.values_in d.located.items ≡ map kept.location_added (locs_in (inside_of inside.entry))) }
 {

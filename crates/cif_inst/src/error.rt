@@ -1,10 +1,11 @@
 //! Why a source has no net.
 
 ghost use Rattle.std.specs.Prelude.{◌≡◌};
-ghost use Rattle.cif_inst.specs.Net.{of_components, of_constants};
+ghost use Rattle.cif_inst.specs.Net.{of_automata, of_components, of_constants};
 ghost use Rattle.cif_inst.specs.declared.error.InstErr.TheVariants.{Memory as no_memory};
 
 use cif_base::Memory;
+use cif_inst_automata::AutomataErr;
 use cif_inst_components::ComponentsErr;
 use cif_inst_constants::ConstErr;
 
@@ -53,6 +54,18 @@ impl From<ConstErr> for InstErr {
         match error {
             ConstErr::ConstantRange { at } => InstErr::ConstantRange { at },
             ConstErr::Memory => InstErr::Memory,
+        }
+    }
+}
+
+impl From<AutomataErr> for InstErr {
+    ghost from_gives = { λ a e. e ≡ of_automata a };
+
+    fn from(error: AutomataErr) -> InstErr {
+        match error {
+            AutomataErr::AlphabetLacks { at } => InstErr::AlphabetLacks { at },
+            AutomataErr::RoleMixed { at } => InstErr::RoleMixed { at },
+            AutomataErr::Memory => InstErr::Memory,
         }
     }
 }

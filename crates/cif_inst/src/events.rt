@@ -175,7 +175,11 @@ fn made_events(alloc: Global, typing: &Typing, found: &[EventDatum]) -> Result<I
 }
 
 /// The events of these components, in the order of their numbers.
-pub fn all_events(alloc: Global, typing: &Typing, rows: &[Row]) -> Result<Items<Event>, Memory>
+pub(crate) fn all_events(
+    alloc: Global,
+    typing: &Typing,
+    rows: &[Row],
+) -> Result<Items<Event>, Memory>
     requires types { of_types.AreTypesOf typing.now }
     requires rows { map row_tree rows.now ≡ rows_of (of_types.typed_source typing.now) }
     ensures { IfOk result (λ all. map event_tree all ≡ events.all_events (of_types.typed_source typing.now) (map row_tree rows.now)) }

@@ -12,26 +12,24 @@ ghost use Rattle.cif_types.specs.Kinds.{KeepsKinds, AreKindsOf};
 ghost use Rattle.cif_net.specs.View.{net_tree, event_tree};
 ghost use Rattle.cif_inst_model.specs.Represents.{Represents};
 ghost use Rattle.cif_inst_names.specs.Looking.{AreNamesOf, source_for};
-ghost use Rattle.cif_inst.specs.Alphabets.{rows_alphabets};
+ghost use Rattle.cif_inst_automata.specs.Alphabets.{rows_alphabets};
 ghost use Rattle.cif_inst.specs.Events as events_by;
 ghost use Rattle.cif_inst.specs.Net.{due, KeepsInstances};
 ghost use Rattle.cif_inst_paths.specs.Rows.{rows_of};
 ghost use Rattle.cif_inst.specs.Typing.{AreTypesOf, typed_source};
 ghost use Rattle.cif_inst_paths.specs.Views.{row_tree};
 
-use crate::alphabets::{Alphabet, all_alphabets};
-use crate::autos::all_autos;
 use crate::definitions::{all_definitions, definition_measures};
 use crate::error::InstErr;
 use crate::events::all_events;
 use crate::measures::all_measures;
 use crate::objects::objects_of;
-use crate::roles::check_roles;
 use crate::sizes::{check_made, check_sizes};
 use crate::typing::Typing;
 use cif_alg::outlines_have_the_nodes_of_their_net;
 use cif_ast::Spec;
 use cif_base::Items;
+use cif_inst_automata::{Alphabet, all_autos, alphabets_of};
 use cif_inst_components::number_components;
 use cif_inst_constants::{Constants, Types, check_constants, declarations, turns};
 use cif_inst_laws::{
@@ -50,8 +48,8 @@ use cif_scope::Scopes;
 use cif_types::Kinds;
 use std::alloc::Global;
 
-/// Whether the expressions of a source are small enough to be made, or how large its net is, by the alphabets of its automata. Where an
-/// algebraic variable depends on itself no size is told: that rule (19) is asked of the net that is made.
+/// Checks that the expressions of a source are small enough to be made, by the alphabets of its automata. The error is the size of its
+/// net. Where an algebraic variable depends on itself the error is `Memory` alone: rule 19 is checked on the net that is made.
 fn check_expressions(
     alloc: Global,
     looking: &Looking<'_, '_>,
@@ -90,9 +88,9 @@ fn check_expressions(
     Ok(())
 }
 
-/// The alphabets of a source whose net is small enough to be made, or where an event outside one is named, or which automaton has an
-/// event in two roles, or how large the net is. The rules are asked in this order.
-fn alphabets_of(
+/// The alphabets of a source whose net is small enough to be made. The error is an event outside an alphabet, or else one with two roles,
+/// or else the size of the net.
+fn checked_alphabets(
     alloc: Global,
     looking: &Looking<'_, '_>,
     rows: &[Row],
@@ -110,9 +108,7 @@ fn alphabets_of(
     ensures none { IfOk result (λ all. KeepsInstances (source_for looking.now)) }
     ensures refused { IfErr result (λ e. due (source_for looking.now) e) }
 {
-    let total = looking.numbers.total();
-    let alphabets = all_alphabets(alloc, looking, rows, total.events as usize)?;
-    check_roles(alloc, looking, alphabets.as_slice(), total.events as usize)?;
+    let alphabets = alphabets_of(alloc, looking, rows)?;
     check_expressions(alloc, looking, rows, events, alphabets.as_slice())?;
     Ok(alphabets)
 }
@@ -133,7 +129,7 @@ fn made_net(alloc: Global, typing: &Typing) -> Result<Net, InstErr>
     let components = all_rows(alloc, looking.spec, looking.scopes, looking.components)?;
     let rows = components.as_slice();
     let events = all_events(alloc, typing, rows)?;
-    let alphabets = alphabets_of(alloc, looking, rows, events.as_slice())?;
+    let alphabets = checked_alphabets(alloc, looking, rows, events.as_slice())?;
     let autos = all_autos(alloc, looking, rows, alphabets.as_slice())?;
     let objects = objects_of(alloc, typing, rows)?;
     let predicates = predicates_of(alloc, looking, rows)?;

@@ -4,25 +4,17 @@
 #![tactic(auto)]
 
 mod algebraic;
-mod alphabets;
-mod autos;
-mod body_names;
 mod declarations;
 mod definitions;
-mod edges;
 mod equations;
 mod error;
 mod events;
 mod instantiating;
-mod marks;
 mod measures;
 mod objects;
 mod outlines;
-mod roles;
 mod sizes;
-mod targets;
 mod typing;
-mod used;
 mod variables;
 
 pub use error::InstErr;

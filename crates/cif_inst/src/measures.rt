@@ -1,4 +1,4 @@
-//! What the exclusions, the state invariants and the edges of all automata weigh in the net, before any of their expressions is made.
+//! The sizes and depths of the exclusions, the state invariants and the edges of a net, before any of their expressions is made.
 
 ghost use Rattle.std.specs.Prelude.{◌≡◌, ◌++◌, map, flat_map, IfOk, OnOk};
 ghost use Rattle.cif_source.specs.Source as source;
@@ -105,8 +105,8 @@ fn exclusion_measures(alloc: Global, excluded: &[Excluded]) -> Result<Items<Meas
 }
 
 /// The measures of the exclusions, of the state invariants and of the edges of these components, an edge for each use of an event, in
-/// the order of the net, by the weights of arguments and algebraic variables. The time is linear in the source, however large the net is.
-pub fn all_measures(
+/// the order of the net, by `weights` of arguments and algebraic variables. The time is linear in the source, however large the net is.
+pub(crate) fn all_measures(
     alloc: Global,
     looking: &Looking<'_, '_>,
     weights: &Weights,

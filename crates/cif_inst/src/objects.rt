@@ -26,7 +26,7 @@ pub struct Objects {
 }
 
 /// Those of a source with these components.
-pub fn objects_of(alloc: Global, typing: &Typing, rows: &[Row]) -> Result<Objects, Memory>
+pub(crate) fn objects_of(alloc: Global, typing: &Typing, rows: &[Row]) -> Result<Objects, Memory>
     requires types { AreTypesOf typing.now }
     requires rows { map row_tree rows.now ≡ rows_of (typed_source typing.now) }
     ensures inputs { IfOk result (λ all. map input_tree all.inputs ≡ variables.all_stored (typed_source typing.now) input_sort (map row_tree rows.now)) }

@@ -7,10 +7,9 @@ ghost use Rattle.cif_net.specs.View.{edge_tree, auto_tree, exclusion_tree, invar
 ghost use Rattle.cif_net_expr.specs.View.{view};
 ghost use Rattle.cif_inst.specs.Outlines as outlines;
 
-use crate::alphabets::Alphabet;
-use crate::used::Used;
 use cif_alg_measure::Measure;
 use cif_base::{Items, Memory, Text};
+use cif_inst_automata::{Alphabet, Used};
 use cif_inst_predicates::Excluded;
 use cif_net::{Auto, Exclusion, Invariant, NetEdge};
 use cif_net_expr::{NetExpr, NetForm};
@@ -59,7 +58,7 @@ fn outline_edges(alloc: Global, first: u32, used: &[Used]) -> Result<(Items<NetE
 
 /// The outlines of automata with these alphabets: the guard of each edge counts as the measure with its number among the edges of
 /// all, of which the first has the number `first`.
-pub fn all_outlines(
+pub(crate) fn all_outlines(
     alloc: Global,
     first: u32,
     alphabets: &[Alphabet],
@@ -84,7 +83,10 @@ pub fn all_outlines(
 }
 
 /// The outlines of exclusions, which count as the measures with the numbers from 0 on.
-pub fn outline_exclusions(alloc: Global, excluded: &[Excluded]) -> Result<Items<Exclusion>, Memory>
+pub(crate) fn outline_exclusions(
+    alloc: Global,
+    excluded: &[Excluded],
+) -> Result<Items<Exclusion>, Memory>
     ensures { IfOk result (λ all. map exclusion_tree all ≡ outlines.outline_exclusions 0 excluded.now) }
 {
     let mut all = Items::new(alloc);
@@ -99,7 +101,7 @@ pub fn outline_exclusions(alloc: Global, excluded: &[Excluded]) -> Result<Items<
 }
 
 /// The outlines of state invariants with these measures, which count as those with the numbers from `first` on.
-pub fn outline_invariants(
+pub(crate) fn outline_invariants(
     alloc: Global,
     first: u32,
     measures: &[Measure],

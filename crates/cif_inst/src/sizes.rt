@@ -1,17 +1,17 @@
-//! Whether the net is small enough to be made, and if not, how large it is. An argument stands in the net wherever a name of its
-//! parameter does, so the net may be exponentially larger than its source.
+//! Whether the net is small enough to be made, and if not, how large it is. The net has an argument wherever a name of its parameter
+//! is, so it may be exponentially larger than its source.
 
 ghost use Rattle.std.specs.Prelude.{◌≡◌, map, min, sum_by, IfOk};
 ghost use Rattle.std.specs.Result.{IfErr};
 ghost use Rattle.cif_net.specs.View.{event_tree};
 ghost use Rattle.cif_inst.specs.Outlines as outlines;
 
-use crate::alphabets::Alphabet;
 use crate::error::InstErr;
 use crate::outlines::{all_outlines, outline_exclusions, outline_invariants};
 use cif_alg::{MOST_FORMS, choice_nodes, with_sizes};
 use cif_alg_measure::{MOST_DEPTH, MOST_NODES, Measure};
 use cif_base::Memory;
+use cif_inst_automata::Alphabet;
 use cif_inst_parameters::Given;
 use cif_inst_predicates::PredicateWeights;
 use cif_net::Event;
@@ -29,7 +29,7 @@ fn together(measures: &[Measure]) -> Measure
     found
 }
 
-/// The forms that a measure counts. One that stopped past its limit stands for any number, and so for more than are made.
+/// The forms that a measure counts. A count that stopped past its limit may be of any size, so it is more than are made.
 fn weight(measure: Measure) -> u64
     ensures { result ≡ outlines.weight measure }
 {
@@ -86,10 +86,10 @@ fn outlined_nodes(
     Ok(with_sizes(choices, own))
 }
 
-/// Whether a net is small enough to be made, by the alphabets of its automata, its events, its exclusions and state invariants, and the
-/// measures of these, of its edges and of its algebraic variables. If not, its sizes are told where it breaks the rule on them. Where it doesn't, memory is
-/// said to be out, since an edge that no choice takes, or an exclusion of an event without choices, is too large.
-pub fn check_sizes(
+/// Checks that a net is small enough to be made, by the alphabets of its automata, its events, its predicates, the measures of these and
+/// of its edges, and the measures `own` of its algebraic variables. The error is its sizes where they break the rule (24), and else
+/// `Memory`: then an edge that no choice takes, or an exclusion of an event without choices, is too large.
+pub(crate) fn check_sizes(
     alloc: Global,
     alphabets: &[Alphabet],
     events: &[Event],
@@ -114,7 +114,7 @@ pub fn check_sizes(
     Err(InstErr::Memory)
 }
 
-/// The most instances with arguments where expressions deeper than the limit are made: each may lead an expression on in an argument.
+/// The most instances with arguments where expressions deeper than the limit are made, since each may continue one in an argument.
 const FEW_INSTANCES: usize = 16;
 
 /// Whether few components have arguments.
@@ -137,10 +137,10 @@ fn is_made(measures: &[Measure], is_flat: bool) -> bool {
     (is_low || is_flat) && forms(measures) <= MOST_FORMS
 }
 
-/// Whether a net of which an algebraic variable depends on itself is small enough to be made, by the measures of its exclusions, state
-/// invariants and edges and those of the definitions of algebraic variables, where each of these counts as one form, and by the
-/// arguments of its components. Otherwise memory is said to be out: that it depends on itself (19) is told of a net that is made.
-pub fn check_made(
+/// Checks that a net in which an algebraic variable depends on itself is small enough to be made, by the measures of its exclusions,
+/// state invariants and edges and those of `definitions` of algebraic variables, where a name of one counts as one form, and by the
+/// arguments of its components. The only error is want of memory: rule 19 is checked on a net that is made.
+pub(crate) fn check_made(
     given: &[Vec<Given<'_>>],
     measures: &[Measure],
     definitions: &[Measure],

@@ -14,7 +14,7 @@ use cif_inst_paths::body_number;
 use cif_inst_types::{NetTy, type_of};
 use std::alloc::Global;
 
-/// What the names and types of a source are found in. `turns` is one more than the components of the source have declarations.
+/// What the names and types of a source are found in. `turns` bounds chains of synonyms: the declarations of its components + 1.
 #[derive(Clone, Copy)]
 pub struct Typing<'a, 'b> {
     pub looking: &'b Looking<'a, 'b>,
@@ -23,7 +23,7 @@ pub struct Typing<'a, 'b> {
 }
 
 /// The path of what is declared.
-pub fn path_of(alloc: Global, datum: &Datum) -> Result<Text, Memory>
+pub(crate) fn path_of(alloc: Global, datum: &Datum) -> Result<Text, Memory>
     ensures { let d = datum_tree datum.now in IfOk result (λ p. p ≡ d.prefix ++ d.name.text) }
 {
     let mut path = datum.prefix.copy(alloc)?;
@@ -32,14 +32,14 @@ pub fn path_of(alloc: Global, datum: &Datum) -> Result<Text, Memory>
 }
 
 /// The number of the body of the component that declares it.
-pub fn body_of(typing: &Typing, datum: &Datum) -> u32
+pub(crate) fn body_of(typing: &Typing, datum: &Datum) -> u32
     ensures { result ≡ of_types.body_in typing.now (datum_tree datum.now) }
 {
     body_number(typing.looking.components, datum.component)
 }
 
 /// Its type in the net.
-pub fn ty_of(alloc: Global, typing: &Typing, datum: &Datum) -> Result<NetTy, Memory>
+pub(crate) fn ty_of(alloc: Global, typing: &Typing, datum: &Datum) -> Result<NetTy, Memory>
     requires { of_types.HasType typing.now (datum_tree datum.now) }
     ensures { let d = datum_tree datum.now in IfOk result (λ x. net_type_of x ≡ net_type (of_types.typed_component typing.now d.component) d.type_of) }
 {

@@ -25,7 +25,7 @@ pub struct Stored {
     pub vars: Items<Var>,
 }
 
-/// The variable that stands for a declaration, with its type and first value.
+/// The variable of a declaration, with its type and first value.
 fn variable(alloc: Global, typing: &Typing, datum: &Datum) -> Result<Var, Memory>
     requires { variables.StandsIn typing.now (datum_tree datum.now) }
     ensures { IfOk result (λ v. var_tree v ≡ variables.stored (of_types.typed_source typing.now) (datum_tree datum.now)) }
@@ -84,7 +84,7 @@ fn all_inputs(alloc: Global, typing: &Typing, found: &[Datum]) -> Result<Items<I
 }
 
 /// The inputs and the variables of these components.
-pub fn all_stored(alloc: Global, typing: &Typing, rows: &[Row]) -> Result<Stored, Memory>
+pub(crate) fn all_stored(alloc: Global, typing: &Typing, rows: &[Row]) -> Result<Stored, Memory>
     requires types { of_types.AreTypesOf typing.now }
     requires rows { map row_tree rows.now ≡ rows_of (of_types.typed_source typing.now) }
     ensures inputs { IfOk result (λ all. map input_tree all.inputs ≡ variables.all_stored (of_types.typed_source typing.now) input_sort (map row_tree rows.now)) }

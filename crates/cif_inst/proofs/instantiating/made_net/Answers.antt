@@ -15,11 +15,14 @@ predicates_of-requires-clause-names c = matched_names c.args.typing.now.looking.
 pub predicates_of-requires-clause-rows : goal.predicates_of-requires-clause-rows
 predicates_of-requires-clause-rows c = ap (λ (rs : List Row). map row_tree rs) c.as_slice-rows.ensures.value ∙ c.in_ok-components.ensures
 
-pub alphabets_of-requires-clause-rows : goal.alphabets_of-requires-clause-rows
-alphabets_of-requires-clause-rows c = ap (λ (rs : List Row). map row_tree rs) c.as_slice-rows.ensures.value ∙ c.in_ok-components.ensures
+pub checked_alphabets-requires-clause-rows : goal.checked_alphabets-requires-clause-rows
+checked_alphabets-requires-clause-rows c = ap (λ (rs : List Row). map row_tree rs) c.as_slice-rows.ensures.value ∙ c.in_ok-components.ensures
 
-pub alphabets_of-requires-clause-events : goal.alphabets_of-requires-clause-events
-alphabets_of-requires-clause-events c = ap (λ (es : List Event). map event_tree es) c.as_slice.ensures ∙ c.in_ok-events.ensures
+pub checked_alphabets-requires-clause-events : goal.checked_alphabets-requires-clause-events
+checked_alphabets-requires-clause-events c = ap (λ (es : List Event). map event_tree es) c.as_slice.ensures ∙ c.in_ok-events.ensures
+
+pub all_autos-requires-clause-names : goal.all_autos-requires-clause-names
+all_autos-requires-clause-names c = matched_names c.args.typing.now.looking.now c.requires.types.names c.requires.kinds
 
 pub all_autos-requires-clause-rows : goal.all_autos-requires-clause-rows
 all_autos-requires-clause-rows c = ap (λ (rs : List Row). map row_tree rs) c.as_slice-rows.ensures.value ∙ c.in_ok-components.ensures

@@ -1,7 +1,0 @@
-use Rattle.std.proofs.Common.{◌≡◌, drop}
-use Rattle.std.specs.List.{list_any}
-use Rattle.cif_inst.specs.Marks.{is_marked}
-use Rattle.cif_inst.proofs.marks.has_mark.Given as goal
-
-abbrev pub invariant-loop-event : goal.invariant-loop-event
-invariant-loop-event l = list_any (is_marked l.mark l.marks) (drop l.event-index l.events) ≡ list_any (is_marked l.mark l.marks) l.events

@@ -1,0 +1,14 @@
+pub mod EdgeLaws
+pub mod ListedLaws
+pub mod UseLaws
+pub mod MarkLaws
+pub mod AlphabetLaws
+pub mod LackLaws
+pub mod AutomatonLaws
+pub mod TellLaws
+pub mod RoleLaws
+pub mod MixedLaws
+pub mod RowAutoLaws
+pub mod AutoLaws
+pub mod NetAutoLaws
+pub mod RuleLaws

@@ -1,0 +1,9 @@
+pub mod Views
+pub mod Targets
+pub mod Edges
+pub mod Marks
+pub mod Alphabets
+pub mod BodyNames
+pub mod Roles
+pub mod Rules
+pub mod Autos
