@@ -2,6 +2,7 @@
 #![tactic(auto)]
 
 mod cutting;
+mod dropping;
 mod error;
 mod gate;
 mod laws;
@@ -9,6 +10,7 @@ mod part;
 mod reading;
 mod workers;
 
+pub use dropping::drop_cases;
 pub use error::CaseErr;
 pub use gate::{Gate, NoGate};
 pub use laws::batches_agree;

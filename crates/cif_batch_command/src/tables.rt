@@ -18,7 +18,7 @@ use st_check::Checked;
 use std::alloc::Global;
 use std::thread::Threads;
 
-/// The number of threads that read cases and replay them.
+/// The number of threads that read cases, replay them and drop them.
 const WORKERS: u32 = 4;
 
 /// The row of the file, counted from 1 over all cases, of a row of a case.
@@ -87,7 +87,11 @@ pub fn cases_text<R: Threads + Sync, G: Gate + Sync>(
     ensures named { IfErr result (λ e. IsNamed (view program.now) e.status e.variable) }
 {
     match cif_batch::read_cases(rt, alloc, text, program, WORKERS) {
-        Ok(cases) => tables(rt, alloc, program, &cases, gate),
+        Ok(cases) => {
+            let found = tables(rt, alloc, program, &cases, gate);
+            cif_batch::drop_cases(rt, alloc, cases, WORKERS);
+            found
+        }
         Err(error) => Err(Ended::plain(alloc, row_status(error))),
     }
 }
