@@ -1,6 +1,6 @@
 -- The bodies of a made source: the specification, and a plant for each number.
 use Rattle.std.proofs.Common.{◌≡◌, ℕ, zero, suc, Bool, true, false, List, [], ◌∷◌, ◌++◌, refl, sym, ap, subst, ◌∙◌, arith, codes}
-use Rattle.std.specs.Prelude.{flat_map, if◌then◌else◌}
+use Rattle.std.specs.Prelude.{flat_map, IsTrue, if◌then◌else◌}
 use Rattle.std.specs.List.{Any, AllByRecursion}
 use Rattle.std.proofs.lemmas.Grind.{flat_map-append}
 use Rattle.cif_source.specs.Source.{SourceItem, Source, list_of_items, automaton_body}
@@ -10,7 +10,13 @@ use Rattle.cif_maker.specs.Draws.{has_need, most_of, next_of, numbers_below}
 use Rattle.cif_maker.specs.MadeText.{numbered, place, plant_pieces, need_pieces}
 use Rattle.cif_maker_laws.specs.MadeTree.{source_of_list, ident_at, plant_body, plant_items, need_item, block_place, need_place, block_items, made_source}
 
--- ---- lists
+-- ---- tests and lists
+
+pub not_true : (b : Bool) → b ≡ false → IsTrue b → ⊥
+not_true b e h = let w : false ≡ true = sym e ∙ h in cc
+
+pub not_false : (b : Bool) → b ≡ true → b ≡ false → ⊥
+not_false b e h = let w : false ≡ true = sym h ∙ e in cc
 
 any_cases : {A : Type 0} (P : A → Type 0) (x : A) (xs : List A) → Any P (x ∷ xs) → (P x → ⊥) → (Any P xs → ⊥) → ⊥
 any_cases P x xs (zero, y, l, e, p) here there = here (subst P (sym e) p)
@@ -28,11 +34,11 @@ pub each_of_all : {A B : Type 0} (P : B → Type 0) (f : A → List B) (xs : Lis
 each_of_all P f [] h = tt
 each_of_all P f (x ∷ xs) h = each-append P (f x) (flat_map f xs) (h x) (each_of_all P f xs h)
 
-flat_twice : {A B C : Type 0} (g : B → List C) (f : A → List B) (xs : List A) → flat_map g (flat_map f xs) ≡ flat_map (λ x. flat_map g (f x)) xs
+pub flat_twice : {A B C : Type 0} (g : B → List C) (f : A → List B) (xs : List A) → flat_map g (flat_map f xs) ≡ flat_map (λ x. flat_map g (f x)) xs
 flat_twice g f [] = refl
 flat_twice g f (x ∷ xs) = flat_map-append g (f x) (flat_map f xs) ∙ ap (λ u. flat_map g (f x) ++ u) (flat_twice g f xs)
 
-flat_same : {A B : Type 0} (f g : A → List B) (xs : List A) → ((x : A) → f x ≡ g x) → flat_map f xs ≡ flat_map g xs
+pub flat_same : {A B : Type 0} (f g : A → List B) (xs : List A) → ((x : A) → f x ≡ g x) → flat_map f xs ≡ flat_map g xs
 flat_same f g [] h = refl
 flat_same f g (x ∷ xs) h = ap (λ u. u ++ flat_map f xs) (h x) ∙ ap (λ u. g x ++ u) (flat_same f g xs h)
 

@@ -10,4 +10,10 @@ pub mod Bodies
 pub mod NoSubject
 pub mod Lookups
 pub mod Names
+pub mod ValueKinds
+pub mod DeclaredOnce
+pub mod MadeComponents
+pub mod ConstantRanges
+pub mod Alphabets
+pub mod MadeObjects
 mod Examples

@@ -22,7 +22,7 @@ use Rattle.cif_maker_laws.proofs.Bodies.{made, at_of, items_for, by_blocks}
 abbrev pub IsShort : ℕ → Type 0
 IsShort n = n < 10 ^ 64
 
-decimals_same : (i j : ℕ) → IsShort i → IsShort j → decimal i ≡ decimal j → i ≡ j
+pub decimals_same : (i j : ℕ) → IsShort i → IsShort j → decimal i ≡ decimal j → i ≡ j
 decimals_same i j h k e = sym (decimal-value i h) ∙ ap (digits_from 0) e ∙ decimal-value j k
 
 pub same_number : (i : ℕ) → same_text (decimal i) (decimal i) ≡ true
@@ -70,10 +70,10 @@ found_in_range p f i x e a (suc n) h l u = go (i == a) refl (found_in_range p f 
 -- ---- what the specification declares
 
 module _ (seed size : ℕ) where
-  abbrev entries_for : Bool → ℕ → Entries
+  abbrev pub entries_for : Bool → ℕ → Entries
   entries_for b i = flat_map item_entries (items_for seed size b i)
 
-  all_entries : scope_of (whole (made seed size)) ≡ flat_map (λ i. entries_for (has_need seed size i) i) (range_with_len 0 size)
+  pub all_entries : scope_of (whole (made seed size)) ≡ flat_map (λ i. entries_for (has_need seed size i) i) (range_with_len 0 size)
   all_entries = by_blocks seed size item_entries
 
   below : (n m : ℕ) → n < m → IsShort m → IsShort n

@@ -12,7 +12,7 @@ use Rattle.cif_source.specs.Scoping.{is_missing, is_wrong, UnknownName, UnknownO
 use Rattle.cif_maker.specs.Draws.{has_need, next_of}
 use Rattle.cif_maker.specs.MadeText.{numbered}
 use Rattle.cif_maker_laws.specs.MadeTree.{name_at, dotted_at}
-use Rattle.cif_maker_laws.proofs.Bodies.{any_none, each-append, made, made_bodies, at_of, need_at_of, plant_of, items_for, by_blocks, each_item}
+use Rattle.cif_maker_laws.proofs.Bodies.{not_true, any_none, each-append, made, made_bodies, at_of, need_at_of, plant_of, items_for, by_blocks, each_item}
 use Rattle.cif_maker_laws.proofs.Lookups.{IsShort, uncontrollable_entry, controllable_entry, sensor_entry, uncontrollable_declared, controllable_declared, sensor_declared, plant_declared}
 
 -- ---- numbers in a range
@@ -21,15 +21,12 @@ pub each_in_range : {A : Type 0} (P : A → Type 0) (f : ℕ → List A) (a n : 
 each_in_range P f a zero h = tt
 each_in_range P f a (suc n) h = each-append P (f a) (flat_map f (range_with_len (a + 1) n)) (h a (omega arith)) (each_in_range P f (a + 1) n (λ i l. h i (omega arith)))
 
-next_small : (size i : ℕ) → i < size → next_of size i < size
+pub next_small : (size i : ℕ) → i < size → next_of size i < size
 next_small zero i l = absurd (omega arith)
 next_small (suc n) i l = go (i + 1)
   where
     go : (k : ℕ) → k % suc n < suc n
     go k = omega arith
-
-not_true : (b : Bool) → b ≡ false → IsTrue b → ⊥
-not_true b e h = let w : false ≡ true = sym e ∙ h in cc
 
 module _ (seed size : ℕ) (short : IsShort size) where
   -- what is refused of the whole and of each plant below the size is refused
@@ -169,7 +166,7 @@ module _ (seed size : ℕ) (short : IsShort size) where
   themselves [] = refl
   themselves (x ∷ xs) = ap (λ u. x ∷ u) (themselves xs)
 
-  whole_instances : instances_of (whole (made seed size)) ≡ []
+  pub whole_instances : instances_of (whole (made seed size)) ≡ []
   unfolding just
   whole_instances = no_instance (list_of_items (made seed size)) (subst (λ xs. AllByRecursion (λ x. as_instance x ≡ None) xs) (themselves (list_of_items (made seed size)))
       (each_item seed size (λ x. as_instance x ≡ None) just block))

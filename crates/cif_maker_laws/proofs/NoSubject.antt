@@ -12,12 +12,12 @@ use Rattle.cif_source.specs.Components.{Component, StandingInstance, whole, Entr
 use Rattle.cif_source.specs.Lookup.{ScopeEntry, reached, found, definition_found}
 use Rattle.cif_source.specs.Objects.{decls_of, item_decls}
 use Rattle.cif_source.specs.Uses.{names_in}
-use Rattle.cif_source.specs.Constants.{constants_of, Bounds, decl_types, bounds_in, decl_constants, typed_constants}
+use Rattle.cif_source.specs.Constants.{constants_of, Bounds, decl_types, bounds_in, bounds_of, decl_constants, typed_constants}
 use Rattle.cif_source.specs.Scoping.{is_wrong, found_written, DefinitionCycleDue, ReachesItself, ReachesDefinition, ReachesType, instances_within, names_of}
 use Rattle.cif_source.specs.BodyRules.{is_constant, NotConstantDue, HasInitials, InitialsDue, edges_of, targets_of_all, LeadsElsewhere, NotOwnDue, lists_of, AssignsTwice, AssignedTwiceDue, alg_of, algs_of, definition_counts, EquationsDue}
 use Rattle.cif_maker_laws.proofs.Bodies.{any_none, made, plant_of, items_for, in_no_body, each_item}
 
-no_member : {A : Type 0} (P : A → Type 0) → Any P [] → ⊥
+pub no_member : {A : Type 0} (P : A → Type 0) → Any P [] → ⊥
 no_member P a = any_none P [] tt a
 
 -- the declaration has no bound, no constant and no first value
@@ -60,23 +60,31 @@ module _ (seed size : ℕ) where
 
   -- ---- constants
 
+  constant_block : (b : Bool) (i : ℕ) → AllByRecursion HasNoConstant (flat_map item_decls (items_for seed size b i))
+  constant_block true i = ((refl, refl), ((refl, refl), ((refl, refl), ((refl, refl), tt))))
+  constant_block false i = ((refl, refl), ((refl, refl), ((refl, refl), tt)))
+
+  no_constant : AllByRecursion HasNoConstant (decls_of (whole (made seed size)))
+  no_constant = each_item seed size HasNoConstant item_decls constant_block
+
+  pub whole_bounds : bounds_of (whole (made seed size)) ≡ []
+  whole_bounds = no_bounds (decls_of (whole (made seed size))) no_constant
+
+  pub whole_typed : typed_constants (whole (made seed size)) ≡ []
+  whole_typed = no_typed (decls_of (whole (made seed size))) no_constant
+
+  pub whole_constants : constants_of (whole (made seed size)) ≡ []
+  whole_constants =
+      ap (λ bs. flat_map (λ (b : Bounds). b.0 ∷ b.1 ∷ []) bs ++ map (λ (v : TypeTree × Tree). v.1) (typed_constants (whole (made seed size)))) whole_bounds
+      ∙ ap (λ vs. map (λ (v : TypeTree × Tree). v.1) vs) whole_typed
+
   pub constant_parts : (at : ℕ) → NotConstantDue (made seed size) at → ⊥
   constant_parts at = in_no_body seed size (λ c. Any (Wrong c) (flat_map names_in (constants_of c)))
-      (λ a. no_member (Wrong (whole (made seed size))) (subst (λ es. Any (Wrong (whole (made seed size))) (flat_map names_in es)) none_of_whole a))
+      (λ a. no_member (Wrong (whole (made seed size))) (subst (λ es. Any (Wrong (whole (made seed size))) (flat_map names_in es)) whole_constants a))
       (λ i a. no_member (Wrong (plant_of seed size i)) a)
     where
       Wrong : Component → Name → Type 0
       Wrong c nm = (nm.at ≡ at) × IsTrue (is_wrong is_constant (found c nm))
-
-      block : (b : Bool) (i : ℕ) → AllByRecursion HasNoConstant (flat_map item_decls (items_for seed size b i))
-      block true i = ((refl, refl), ((refl, refl), ((refl, refl), ((refl, refl), tt))))
-      block false i = ((refl, refl), ((refl, refl), ((refl, refl), tt)))
-
-      none_of_whole : constants_of (whole (made seed size)) ≡ []
-      none_of_whole =
-          let each : AllByRecursion HasNoConstant (decls_of (whole (made seed size))) = each_item seed size HasNoConstant item_decls block in
-          ap (λ bs. flat_map (λ (b : Bounds). b.0 ∷ b.1 ∷ []) bs ++ map (λ (v : TypeTree × Tree). v.1) (typed_constants (whole (made seed size)))) (no_bounds (decls_of (whole (made seed size))) each)
-          ∙ ap (λ vs. map (λ (v : TypeTree × Tree). v.1) vs) (no_typed (decls_of (whole (made seed size))) each)
 
   -- ---- definitions of algebraic variables
 
@@ -111,7 +119,7 @@ module _ (seed size : ℕ) where
   Reaches-nothing : Component → Ident × Entry → Type 0
   Reaches-nothing c e = (instances_within (c, e.1) ≡ []) × (names_of e.1 ≡ [])
 
-  no_chain : {A : Type 0} (R : A → A → Type 0) (x z : A) → ((y : A) → R x y → ⊥) → Chain R x z → ⊥
+  pub no_chain : {A : Type 0} (R : A → A → Type 0) (x z : A) → ((y : A) → R x y → ⊥) → Chain R x z → ⊥
   no_chain R x z h (one r) = h z r
   no_chain R x z h (more {y = y} r c) = h y r
 

@@ -3,8 +3,9 @@
 ghost use Rattle.std.specs.Prelude.{◌≡◌, ℕ, ◌<◌, ◌^◌, true, List, []};
 ghost use Rattle.cif_lex.specs.Tokens.{Tokens};
 ghost use Rattle.cif_parse.specs.Grammar.{Reads};
-ghost use Rattle.cif_source.specs.BodyRules.{NotConstantDue, InitialsDue, NotOwnDue, AssignedTwiceDue, EquationsDue};
-ghost use Rattle.cif_source.specs.Scoping.{UnknownDue, WrongKindDue, DefinitionCycleDue};
+ghost use Rattle.cif_source.specs.BodyRules.{MismatchDue, NotConstantDue, InitialsDue, NotOwnDue, AssignedTwiceDue, EquationsDue};
+ghost use Rattle.cif_source.specs.InstanceRules.{AlphabetLacksDue, RoleMixedDue, TooManyObjectsDue, ConstantRangeDue};
+ghost use Rattle.cif_source.specs.Scoping.{UnknownDue, DuplicateDue, WrongKindDue, DefinitionCycleDue};
 ghost use Rattle.cif_source.specs.Source.{source_of};
 ghost use Rattle.cif_maker.specs.MadeText.{made_text};
 ghost use Rattle.cif_maker_laws.specs.MadeSpec.{made_spec};
@@ -26,16 +27,24 @@ pub fn made_trees_are_sources()
     ensures { (seed size : ℕ) → source_of (made_spec seed size) ≡ made_source seed size }
 {}
 
-/// Rules that a made source keeps: each name is declared, and what is declared is of the sort that the name's position asks for; no
-/// definition, type or constant reaches itself; bounds and first values are constant; each automaton has one initial location;
-/// an edge assigns variables of its own automaton, each once; no algebraic variable lacks a definition or has several.
+/// Rules that a made source keeps: each name is declared, in each scope once, and what is declared is of the sort that the name's
+/// position asks for; no definition, type or constant reaches itself; each expression has the kind that its position asks for, and
+/// each use of an event fits what is sent along it; bounds and first values are constant, and in their ranges; each automaton has
+/// one initial location, the events of its edges in its alphabet, and one role for each; an edge assigns variables of its own
+/// automaton, each once; no algebraic variable lacks a definition or has several; the objects are at most 100,000.
 pub fn made_sources_keep_rules()
     ensures unknown { (seed size at : ℕ) → size < 10 ^ 64 → UnknownDue (made_source seed size) at → ⊥ }
+    ensures duplicate { (seed size at first : ℕ) → size < 10 ^ 64 → DuplicateDue (made_source seed size) at first → ⊥ }
     ensures wrong_kind { (seed size at : ℕ) → size < 10 ^ 64 → WrongKindDue (made_source seed size) at → ⊥ }
     ensures definition_cycle { (seed size at : ℕ) → DefinitionCycleDue (made_source seed size) at → ⊥ }
+    ensures mismatch { (seed size at : ℕ) → size < 10 ^ 64 → MismatchDue (made_source seed size) at → ⊥ }
     ensures not_constant { (seed size at : ℕ) → NotConstantDue (made_source seed size) at → ⊥ }
     ensures initials { (seed size at count : ℕ) → InitialsDue (made_source seed size) at count → ⊥ }
     ensures not_own { (seed size at : ℕ) → NotOwnDue (made_source seed size) at → ⊥ }
     ensures assigned_twice { (seed size at : ℕ) → AssignedTwiceDue (made_source seed size) at → ⊥ }
+    ensures alphabet_lacks { (seed size at : ℕ) → AlphabetLacksDue (made_source seed size) at → ⊥ }
+    ensures role_mixed { (seed size at : ℕ) → RoleMixedDue (made_source seed size) at → ⊥ }
     ensures equations { (seed size at count : ℕ) → EquationsDue (made_source seed size) at count → ⊥ }
+    ensures too_many_objects { (seed size count : ℕ) → size < 10 ^ 4 → TooManyObjectsDue (made_source seed size) count → ⊥ }
+    ensures constant_range { (seed size at : ℕ) → ConstantRangeDue (made_source seed size) at → ⊥ }
 {}

@@ -1,15 +1,26 @@
 use Rattle.cif_maker_laws.proofs.Names.{all_known, all_of_their_sort}
 use Rattle.cif_maker_laws.proofs.NoSubject.{no_cycle, constant_parts, one_initial, own_targets, assigned_once, no_equations}
+use Rattle.cif_maker_laws.proofs.ValueKinds.{all_fit}
+use Rattle.cif_maker_laws.proofs.DeclaredOnce.{no_duplicate}
+use Rattle.cif_maker_laws.proofs.Alphabets.{no_lacking, no_mixed_role}
+use Rattle.cif_maker_laws.proofs.MadeObjects.{not_too_many}
+use Rattle.cif_maker_laws.proofs.ConstantRanges.{constants_fit}
 use Rattle.cif_maker_laws.proofs.laws.made_sources_keep_rules.Goals as goal
 
 pub returns-clause-unknown : goal.returns-clause-unknown
 returns-clause-unknown c = λ seed size at short. all_known seed size short at
+
+pub returns-clause-duplicate : goal.returns-clause-duplicate
+returns-clause-duplicate c = λ seed size at first short. no_duplicate seed size short at first
 
 pub returns-clause-wrong_kind : goal.returns-clause-wrong_kind
 returns-clause-wrong_kind c = λ seed size at short. all_of_their_sort seed size short at
 
 pub returns-clause-definition_cycle : goal.returns-clause-definition_cycle
 returns-clause-definition_cycle c = no_cycle
+
+pub returns-clause-mismatch : goal.returns-clause-mismatch
+returns-clause-mismatch c = λ seed size at short. all_fit seed size short at
 
 pub returns-clause-not_constant : goal.returns-clause-not_constant
 returns-clause-not_constant c = constant_parts
@@ -23,5 +34,17 @@ returns-clause-not_own c = own_targets
 pub returns-clause-assigned_twice : goal.returns-clause-assigned_twice
 returns-clause-assigned_twice c = assigned_once
 
+pub returns-clause-alphabet_lacks : goal.returns-clause-alphabet_lacks
+returns-clause-alphabet_lacks c = no_lacking
+
+pub returns-clause-role_mixed : goal.returns-clause-role_mixed
+returns-clause-role_mixed c = no_mixed_role
+
 pub returns-clause-equations : goal.returns-clause-equations
 returns-clause-equations c = no_equations
+
+pub returns-clause-too_many_objects : goal.returns-clause-too_many_objects
+returns-clause-too_many_objects c = not_too_many
+
+pub returns-clause-constant_range : goal.returns-clause-constant_range
+returns-clause-constant_range c = constants_fit
