@@ -16,4 +16,9 @@ pub mod MadeComponents
 pub mod ConstantRanges
 pub mod Alphabets
 pub mod MadeObjects
+pub mod MadeDeclarations
+pub mod EventNumbers
+pub mod MadeChoices
+pub mod MadeNet
+pub mod MadeIntervals
 mod Examples

@@ -1,4 +1,4 @@
-//! That the text of a made source reads as a source, as laws for the crates above.
+//! That the text of a made source reads as a source, and rules that it keeps, as laws for the crates above.
 #![tactic(auto)]
 
 mod laws;

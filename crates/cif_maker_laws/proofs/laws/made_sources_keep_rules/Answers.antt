@@ -1,3 +1,4 @@
+use Rattle.std.proofs.Common.{ℕ, ◌≤◌, ◌<◌, ◌^◌, arith}
 use Rattle.cif_maker_laws.proofs.Names.{all_known, all_of_their_sort}
 use Rattle.cif_maker_laws.proofs.NoSubject.{no_cycle, constant_parts, one_initial, own_targets, assigned_once, no_equations}
 use Rattle.cif_maker_laws.proofs.ValueKinds.{all_fit}
@@ -5,6 +6,9 @@ use Rattle.cif_maker_laws.proofs.DeclaredOnce.{no_duplicate}
 use Rattle.cif_maker_laws.proofs.Alphabets.{no_lacking, no_mixed_role}
 use Rattle.cif_maker_laws.proofs.MadeObjects.{not_too_many}
 use Rattle.cif_maker_laws.proofs.ConstantRanges.{constants_fit}
+use Rattle.cif_maker_laws.proofs.MadeNet.{no_alg_cycle, reads_no_input, none_false}
+use Rattle.cif_maker_laws.proofs.MadeIntervals.{no_zero_divisor, not_too_wide}
+use Rattle.cif_maker_laws.proofs.MadeChoices.{not_too_many_choices, all_classed}
 use Rattle.cif_maker_laws.proofs.laws.made_sources_keep_rules.Goals as goal
 
 pub returns-clause-unknown : goal.returns-clause-unknown
@@ -48,3 +52,27 @@ returns-clause-too_many_objects c = not_too_many
 
 pub returns-clause-constant_range : goal.returns-clause-constant_range
 returns-clause-constant_range c = constants_fit
+
+pub returns-clause-alg_cycle : goal.returns-clause-alg_cycle
+returns-clause-alg_cycle c = no_alg_cycle
+
+pub returns-clause-zero_divisor : goal.returns-clause-zero_divisor
+returns-clause-zero_divisor c = λ seed size at short. no_zero_divisor seed size short at
+
+pub returns-clause-too_wide : goal.returns-clause-too_wide
+returns-clause-too_wide c = λ seed size at short. not_too_wide seed size short at
+
+pub returns-clause-invariant_reads_input : goal.returns-clause-invariant_reads_input
+returns-clause-invariant_reads_input c = reads_no_input
+
+pub returns-clause-invariant_false : goal.returns-clause-invariant_false
+returns-clause-invariant_false c = none_false
+
+pub returns-clause-too_many_choices : goal.returns-clause-too_many_choices
+returns-clause-too_many_choices c = λ seed size count few. not_too_many_choices seed size (short_of few) count few
+  where
+    short_of : {n : ℕ} → n ≤ 2 ^ 13 → n < 10 ^ 64
+    short_of l = omega arith
+
+pub returns-clause-unclassed : goal.returns-clause-unclassed
+returns-clause-unclassed c = all_classed
