@@ -21,4 +21,7 @@ pub mod EventNumbers
 pub mod MadeChoices
 pub mod MadeNet
 pub mod MadeIntervals
+pub mod MadeSums
+pub mod MadeNodes
+pub mod MadeProfile
 mod Examples

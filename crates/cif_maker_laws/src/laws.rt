@@ -7,7 +7,8 @@ ghost use Rattle.cif_source.specs.BodyRules.{MismatchDue, NotConstantDue, Initia
 ghost use Rattle.cif_source.specs.InstanceRules.{AlphabetLacksDue, RoleMixedDue, TooManyObjectsDue, ConstantRangeDue};
 ghost use Rattle.cif_source.specs.Scoping.{UnknownDue, DuplicateDue, WrongKindDue, DefinitionCycleDue};
 ghost use Rattle.cif_source.specs.Source.{source_of};
-ghost use Rattle.cif_inst_model.specs.NetRules.{AlgCycleDue, ZeroDivisorDue, TooWideDue, InvariantReadsInputDue, InvariantFalseDue, TooManyChoicesDue, UnclassedDue};
+ghost use Rattle.cif_inst_model.specs.NetRules.{AlgCycleDue, ZeroDivisorDue, TooWideDue, InvariantReadsInputDue, InvariantFalseDue, TooLargeDue, TooManyChoicesDue, UnclassedDue};
+ghost use Rattle.cif_inst_model.specs.WellFormed.{IsInProfile};
 ghost use Rattle.cif_maker.specs.MadeText.{made_text};
 ghost use Rattle.cif_maker_laws.specs.MadeSpec.{made_spec};
 ghost use Rattle.cif_maker_laws.specs.MadeTree.{made_source};
@@ -33,8 +34,9 @@ pub fn made_trees_are_sources()
 /// each use of an event fits what is sent along it; bounds and first values are constant, and in their ranges; each automaton has
 /// one initial location, the events of its edges in its alphabet, and one role for each; an edge assigns variables of its own
 /// automaton, each once; no algebraic variable lacks a definition or has several; the objects are at most 100,000.
-/// Of its net: no algebraic variable depends on itself, no divisor may be 0, each interval is in 64 bits, and no state invariant
-/// reads an input or is false at first. The choices are at most 16,384, and each event has a class.
+/// Of its net: no algebraic variable depends on itself, no divisor may be 0, each interval is in 64 bits, no state invariant reads
+/// an input or is false at first, and the forms of all choices are at most 1,000,000, nested at most 100 deep. The choices are at
+/// most 16,384, and each event has a class.
 pub fn made_sources_keep_rules()
     ensures unknown { (seed size at : ℕ) → size < 10 ^ 64 → UnknownDue (made_source seed size) at → ⊥ }
     ensures duplicate { (seed size at first : ℕ) → size < 10 ^ 64 → DuplicateDue (made_source seed size) at first → ⊥ }
@@ -55,6 +57,12 @@ pub fn made_sources_keep_rules()
     ensures too_wide { (seed size at : ℕ) → size < 10 ^ 64 → TooWideDue (made_source seed size) at → ⊥ }
     ensures invariant_reads_input { (seed size at : ℕ) → InvariantReadsInputDue (made_source seed size) at → ⊥ }
     ensures invariant_false { (seed size at : ℕ) → InvariantFalseDue (made_source seed size) at → ⊥ }
+    ensures too_large { (seed size nodes depth : ℕ) → size < 10 ^ 4 → TooLargeDue (made_source seed size) nodes depth → ⊥ }
     ensures too_many_choices { (seed size count : ℕ) → size ≤ 2 ^ 13 → TooManyChoicesDue (made_source seed size) count → ⊥ }
     ensures unclassed { (seed size event : ℕ) → UnclassedDue (made_source seed size) event → ⊥ }
+{}
+
+/// A made source of a size up to 8,192 breaks no rule, and each of its events has a class.
+pub fn made_sources_are_in_profile()
+    ensures { (seed size : ℕ) → size ≤ 2 ^ 13 → IsInProfile (made_source seed size) }
 {}

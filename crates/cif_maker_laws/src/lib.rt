@@ -4,5 +4,6 @@
 mod laws;
 
 pub use laws::{
-    made_sources_keep_rules, made_sources_read, made_trees_are_sources, written_pieces_are_tokens,
+    made_sources_are_in_profile, made_sources_keep_rules, made_sources_read,
+    made_trees_are_sources, written_pieces_are_tokens,
 };

@@ -1,4 +1,4 @@
-use Rattle.std.proofs.Common.{ℕ, ◌≤◌, ◌<◌, ◌^◌, arith}
+use Rattle.std.proofs.Common.{ℕ, ◌<◌, ◌^◌, arith}
 use Rattle.cif_maker_laws.proofs.Names.{all_known, all_of_their_sort}
 use Rattle.cif_maker_laws.proofs.NoSubject.{no_cycle, constant_parts, one_initial, own_targets, assigned_once, no_equations}
 use Rattle.cif_maker_laws.proofs.ValueKinds.{all_fit}
@@ -9,6 +9,8 @@ use Rattle.cif_maker_laws.proofs.ConstantRanges.{constants_fit}
 use Rattle.cif_maker_laws.proofs.MadeNet.{no_alg_cycle, reads_no_input, none_false}
 use Rattle.cif_maker_laws.proofs.MadeIntervals.{no_zero_divisor, not_too_wide}
 use Rattle.cif_maker_laws.proofs.MadeChoices.{not_too_many_choices, all_classed}
+use Rattle.cif_maker_laws.proofs.MadeNodes.{not_too_large}
+use Rattle.cif_maker_laws.proofs.MadeProfile.{short}
 use Rattle.cif_maker_laws.proofs.laws.made_sources_keep_rules.Goals as goal
 
 pub returns-clause-unknown : goal.returns-clause-unknown
@@ -68,11 +70,14 @@ returns-clause-invariant_reads_input c = reads_no_input
 pub returns-clause-invariant_false : goal.returns-clause-invariant_false
 returns-clause-invariant_false c = none_false
 
-pub returns-clause-too_many_choices : goal.returns-clause-too_many_choices
-returns-clause-too_many_choices c = λ seed size count few. not_too_many_choices seed size (short_of few) count few
+pub returns-clause-too_large : goal.returns-clause-too_large
+returns-clause-too_large c = λ seed size nodes depth few. not_too_large seed size (short_of few) nodes depth few
   where
-    short_of : {n : ℕ} → n ≤ 2 ^ 13 → n < 10 ^ 64
+    short_of : {n : ℕ} → n < 10 ^ 4 → n < 10 ^ 64
     short_of l = omega arith
+
+pub returns-clause-too_many_choices : goal.returns-clause-too_many_choices
+returns-clause-too_many_choices c = λ seed size count few. not_too_many_choices seed size (short size few) count few
 
 pub returns-clause-unclassed : goal.returns-clause-unclassed
 returns-clause-unclassed c = all_classed
