@@ -1,9 +1,10 @@
 -- The two events of a plant of a made source have different numbers.
-use Rattle.std.proofs.Common.{◌≡◌, ℕ, zero, suc, ◌+◌, ◌≤◌, ◌<◌, ◌⊎◌, Bool, true, false, not, cond, List, [], ◌∷◌, ◌++◌, Some, refl, sym, ap, subst, ◌∙◌, arith, codes, inl, inr}
+use Rattle.std.proofs.Common.{◌≡◌, ℕ, zero, suc, ◌+◌, ◌≤◌, ◌<◌, ◌⊎◌, Bool, true, false, not, cond, List, [], ◌∷◌, ◌++◌, Option, Some, refl, sym, ap, subst, ◌∙◌, arith, codes, inl, inr}
 use Rattle.std.specs.Prelude.{flat_map, decimal}
 use Rattle.std.specs.List.{range_with_len, position_or_len}
 use Rattle.grammar.specs.Pieces.{Text}
 use Rattle.grammar.proofs.Texts.{and_left, same_is, same_equal}
+use Rattle.cif_ast.specs.declared.names.Name.{Name}
 use Rattle.cif_system.specs.Words.{Member}
 use Rattle.cif_source.specs.Source.{DeclTree}
 use Rattle.cif_source.specs.Components.{whole, Entries, decl_entries, same_text, path_of, same_path}
@@ -13,7 +14,7 @@ use Rattle.cif_source.specs.Step.{event_at}
 use Rattle.cif_source.proofs.NameLaws.{denotes-found}
 use Rattle.cif_maker.specs.MadeText.{numbered}
 use Rattle.cif_maker_laws.specs.MadeTree.{name_at}
-use Rattle.cif_maker_laws.proofs.Bodies.{made, plant_of}
+use Rattle.cif_maker_laws.proofs.Bodies.{made, at_of, need_at_of, plant_of}
 use Rattle.cif_maker_laws.proofs.Lookups.{IsShort, same_number, uncontrollable_entry, controllable_entry}
 use Rattle.cif_maker_laws.proofs.Names.{u_found, c_found, c_found_above}
 use Rattle.cif_maker_laws.proofs.DeclaredOnce.{other_first}
@@ -75,7 +76,7 @@ one_name d x y = go (decl_entries d)
     go [] a b = absurd (let w : false ≡ true = a in cc)
     go (e ∷ es) a b = sym (equal e.0.text x a) ∙ equal e.0.text y b
 
-module _ (seed size : ℕ) (short : IsShort size) where
+module _ (seed size : ℕ) where
   abbrev pub u_number : ℕ → ℕ
   u_number i = number_in (events (made seed size)) (whole (made seed size)) (numbered (codes "u") i)
 
@@ -103,11 +104,26 @@ module _ (seed size : ℕ) (short : IsShort size) where
 
   -- ---- the events that names denote
 
-  pub u_denoted : (i k : ℕ) → i < size → event_at (denotes (plant_of seed size i) (name_at (numbered (codes "u") i) k)) ≡ Some (u_number i)
-  u_denoted i k l = ap event_at (denotes-found (plant_of seed size i) (name_at (numbered (codes "u") i) k) (whole (made seed size), uncontrollable_entry seed size i) (u_found seed size short i k l) refl)
+  -- of the edges of plant i
+  abbrev pub u_event : ℕ → Option ℕ
+  u_event i = event_at (denotes (plant_of seed size i) (name_at (numbered (codes "u") i) (at_of seed size i 19)))
 
-  pub c_denoted : (i k : ℕ) → i < size → event_at (denotes (plant_of seed size i) (name_at (numbered (codes "c") i) k)) ≡ Some (c_number i)
-  c_denoted i k l = ap event_at (denotes-found (plant_of seed size i) (name_at (numbered (codes "c") i) k) (whole (made seed size), controllable_entry seed size i) (c_found seed size short i k l) refl)
+  abbrev pub c_event : ℕ → Option ℕ
+  c_event i = event_at (denotes (plant_of seed size i) (name_at (numbered (codes "c") i) (at_of seed size i 37)))
 
-  pub c_denoted_above : (i k : ℕ) → i < size → event_at (denotes (whole (made seed size)) (name_at (numbered (codes "c") i) k)) ≡ Some (c_number i)
-  c_denoted_above i k l = ap event_at (denotes-found (whole (made seed size)) (name_at (numbered (codes "c") i) k) (whole (made seed size), controllable_entry seed size i) (c_found_above seed size short i k l) refl)
+  module _ (short : IsShort size) where
+    pub u_denoted : (i : ℕ) → i < size → u_event i ≡ Some (u_number i)
+    u_denoted i l =
+        let name : Name = name_at (numbered (codes "u") i) (at_of seed size i 19) in
+        ap event_at (denotes-found (plant_of seed size i) name (whole (made seed size), uncontrollable_entry seed size i) (u_found seed size short i (at_of seed size i 19) l) refl)
+
+    pub c_denoted : (i : ℕ) → i < size → c_event i ≡ Some (c_number i)
+    c_denoted i l =
+        let name : Name = name_at (numbered (codes "c") i) (at_of seed size i 37) in
+        ap event_at (denotes-found (plant_of seed size i) name (whole (made seed size), controllable_entry seed size i) (c_found seed size short i (at_of seed size i 37) l) refl)
+
+    -- of the second line of block i
+    pub c_denoted_above : (i : ℕ) → i < size → event_at (denotes (whole (made seed size)) (name_at (numbered (codes "c") i) (need_at_of seed size i 1))) ≡ Some (c_number i)
+    c_denoted_above i l =
+        let name : Name = name_at (numbered (codes "c") i) (need_at_of seed size i 1) in
+        ap event_at (denotes-found (whole (made seed size)) name (whole (made seed size), controllable_entry seed size i) (c_found_above seed size short i (need_at_of seed size i 1) l) refl)

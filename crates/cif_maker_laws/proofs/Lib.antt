@@ -18,10 +18,10 @@ pub mod Alphabets
 pub mod MadeObjects
 pub mod MadeDeclarations
 pub mod EventNumbers
+pub mod MadeSums
 pub mod MadeChoices
 pub mod MadeNet
 pub mod MadeIntervals
-pub mod MadeSums
 pub mod MadeNodes
 pub mod MadeProfile
 mod Examples

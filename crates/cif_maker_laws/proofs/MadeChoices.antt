@@ -1,34 +1,28 @@
 -- Each event of a made source has one choice at most, and a class.
-use Rattle.std.proofs.Common.{◌≡◌, ℕ, zero, suc, ◌*◌, ◌≤◌, ◌<◌, ◌^◌, Bool, true, false, ◌&&◌, ◌||◌, List, [], ◌∷◌, ◌++◌, Option, Some, None, length, refl, sym, ap, subst, ◌∙◌, arith, codes}
+use Rattle.std.proofs.Common.{◌≡◌, ℕ, zero, suc, ◌*◌, ◌≤◌, ◌<◌, ◌^◌, Bool, true, false, ◌&&◌, ◌||◌, List, [], ◌∷◌, ◌++◌, Option, Some, None, length, refl, sym, ap, subst, ◌∙◌, arith}
 use Rattle.std.specs.Prelude.{map, flat_map, nat_eq, if◌then◌else◌}
-use Rattle.std.specs.List.{AllByRecursion, cons_option, sum_by, slice_get, list_any}
+use Rattle.std.specs.List.{AllByRecursion, cons_option, slice_get, list_any}
 use Rattle.std.proofs.lemmas.List.{length-map}
-use Rattle.std.proofs.lemmas.List.Sums.{sum-map, sum_by-cons}
+use Rattle.std.proofs.lemmas.List.Sums.{sum-map}
 use Rattle.std.proofs.lemmas.List.FromFn.{length-range_with_len}
 use Rattle.std.proofs.lemmas.Bool.Decides.{nat_tests}
 use Rattle.cif_system.specs.System.{Automaton, Event, System, no_channel, plain}
 use Rattle.cif_system.specs.Step.{is_number, is_channel_of, same_class, has_class, is_of, is_party}
 use Rattle.cif_system.specs.Choices.{stay, options, product_by, choice_count, all_choices, event_numbers}
-use Rattle.cif_source.specs.Lookup.{denotes}
 use Rattle.cif_source.specs.Objects.{events}
-use Rattle.cif_source.specs.Step.{event_at, event_for, automaton_for, system_of}
+use Rattle.cif_source.specs.Step.{event_for, automaton_for, system_of}
 use Rattle.cif_net_model.specs.Counts.{most_choices}
 use Rattle.cif_inst_model.specs.NetRules.{TooManyChoicesDue, UnclassedDue}
 use Rattle.cif_maker.specs.Draws.{numbers_below}
-use Rattle.cif_maker.specs.MadeText.{numbered}
-use Rattle.cif_maker_laws.specs.MadeTree.{name_at}
-use Rattle.cif_maker_laws.proofs.Bodies.{not_true, each_of_all, made, at_of, plant_of}
+use Rattle.cif_maker_laws.proofs.Bodies.{not_true, each_of_all, made, plant_of}
 use Rattle.cif_maker_laws.proofs.Lookups.{IsShort}
 use Rattle.cif_maker_laws.proofs.Names.{each_in_range}
 use Rattle.cif_maker_laws.proofs.MadeComponents.{made_automata}
 use Rattle.cif_maker_laws.proofs.MadeDeclarations.{map_flat, event_pair, made_events}
-use Rattle.cif_maker_laws.proofs.EventNumbers.{u_number, c_number, numbers_apart, u_denoted, c_denoted}
+use Rattle.cif_maker_laws.proofs.EventNumbers.{u_number, c_number, numbers_apart, u_event, c_event, u_denoted, c_denoted}
+use Rattle.cif_maker_laws.proofs.MadeSums.{total, summed, total_less, each_alike}
 
--- ---- sums and products
-
-pub sum_few : {A : Type 0} (f : A → ℕ) (xs : List A) → ((x : A) → f x ≤ 1) → sum_by f xs ≤ length xs
-sum_few f [] h = omega arith
-sum_few f (x ∷ xs) h = let e = sum_by-cons f x xs in let a = h x in let b = sum_few f xs h in omega arith
+-- ---- products
 
 small_times : (a b : ℕ) → a ≤ 1 → b ≤ 1 → a * b ≤ 1
 small_times zero b h l = omega arith
@@ -41,17 +35,14 @@ product_few f (x ∷ xs) h = small_times (f x) (product_by f xs) h.0 (product_fe
 
 -- ---- what a plant may do for an event
 
-abbrev options_by : Bool → Bool → List (Option ℕ)
-options_by x y =
-    if x || (y || false)
-    then cons_option (if x then Some (Some 0) else None) (cons_option (if y then Some (Some 1) else None) []) ++ stay ((x || (y || false)) && false)
-    else None ∷ []
-
-few_options : (x y : Bool) → (x ≡ true → y ≡ true → ⊥) → length (options_by x y) ≤ 1
-few_options true true h = absurd (h refl refl)
-few_options true false h = omega arith
-few_options false true h = omega arith
-few_options false false h = omega arith
+-- of two edges, of which no event has both
+pub few_options : (s x y : Bool) → (x ≡ true → y ≡ true → ⊥)
+    → length (if s then cons_option (if x then Some (Some 0) else None) (cons_option (if y then Some (Some 1) else None) []) ++ stay (s && false) else None ∷ []) ≤ 1
+few_options false x y h = omega arith
+few_options true true true h = absurd (h refl refl)
+few_options true true false h = omega arith
+few_options true false true h = omega arith
+few_options true false false h = omega arith
 
 pub is_own : (e n : ℕ) (o : Option ℕ) → o ≡ Some n → is_number e o ≡ true → n ≡ e
 is_own e n o h g = go n e (sym (ap (is_number e) h) ∙ g)
@@ -104,10 +95,10 @@ module _ (seed size : ℕ) where
   module _ (short : IsShort size) where
     plant_options : (e i : ℕ) → i < size → length (options e (automaton_for (plant_of seed size i))) ≤ 1
     plant_options e i l =
-        let o : Option ℕ = event_at (denotes (plant_of seed size i) (name_at (numbered (codes "u") i) (at_of seed size i 19))) in
-        let p : Option ℕ = event_at (denotes (plant_of seed size i) (name_at (numbered (codes "c") i) (at_of seed size i 37))) in
-        few_options (is_number e o) (is_number e p)
-        (λ a b. numbers_apart seed size short i l (is_own e (u_number seed size short i) o (u_denoted seed size short i (at_of seed size i 19) l) a ∙ sym (is_own e (c_number seed size short i) p (c_denoted seed size short i (at_of seed size i 37) l) b)))
+        let u : Bool = is_number e (u_event seed size i) in
+        let c : Bool = is_number e (c_event seed size i) in
+        few_options (u || (c || false)) u c
+        (λ a b. numbers_apart seed size i l (is_own e (u_number seed size i) (u_event seed size i) (u_denoted seed size short i l) a ∙ sym (is_own e (c_number seed size i) (c_event seed size i) (c_denoted seed size short i l) b)))
 
     system_automata : system.automata ≡ flat_map (λ i. automaton_for (plant_of seed size i) ∷ []) (numbers_below size)
     system_automata = ap (map automaton_for) (made_automata seed size) ∙ map_flat automaton_for (λ i. plant_of seed size i ∷ []) (numbers_below size)
@@ -126,8 +117,9 @@ module _ (seed size : ℕ) where
 
     pub not_too_many_choices : (count : ℕ) → size ≤ 2 ^ 13 → TooManyChoicesDue (made seed size) count → ⊥
     not_too_many_choices count l h =
-        let summed : all_choices system ≡ sum_by (choice_count system) (event_numbers system) = sum-map (choice_count system) (event_numbers system) in
-        let few : sum_by (choice_count system) (event_numbers system) ≤ length (event_numbers system) = sum_few (choice_count system) (event_numbers system) few_choices in
+        let sum : all_choices system ≡ total (choice_count system) (event_numbers system) = sum-map (choice_count system) (event_numbers system) ∙ summed (choice_count system) (event_numbers system) in
+        let few = total_less (choice_count system) (λ e. 1) (event_numbers system) few_choices in
+        let ones = each_alike 1 (event_numbers system) in
         let listed : length (event_numbers system) ≡ length system.events = length-range_with_len 0 (length system.events) in
         let counted : length system.events ≡ 2 * size = events_count in
         let past : most_choices < all_choices system = h.0 in

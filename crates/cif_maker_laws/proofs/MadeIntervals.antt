@@ -28,23 +28,17 @@ use Rattle.cif_maker_laws.proofs.MadeNet.{guard_form, sum_form, of_member, net, 
 
 -- ---- ranges from 0 to a small number
 
+in_64 : (m : ℕ) → m ≤ 10 → nat_le m 9223372036854775807 ≡ true
+in_64 m l = grind (arith, nat_tests)
+
 narrow_to : (m : ℕ) → m ≤ 10 → is_narrow (between (pos 0) (pos m)) ≡ true
-narrow_to m l = go m l
-  where
-    go : (m : ℕ) → m ≤ 10 → nat_le m 9223372036854775807 ≡ true
-    go m l = grind (arith, nat_tests)
+narrow_to m l = in_64 m l
 
 narrow_point : (m : ℕ) → m ≤ 10 → is_narrow (point (pos m)) ≡ true
-narrow_point m l = rw (go m l) refl
-  where
-    go : (m : ℕ) → m ≤ 10 → nat_le m 9223372036854775807 ≡ true
-    go m l = grind (arith, nat_tests)
+narrow_point m l = rw (in_64 m l) refl
 
 narrow_sum : (m : ℕ) → m ≤ 9 → is_narrow (add_ranges false (between (pos 0) (pos m)) (point (pos 1))) ≡ true
-narrow_sum m l = go (m + 1) (omega arith)
-  where
-    go : (m : ℕ) → m ≤ 10 → nat_le m 9223372036854775807 ≡ true
-    go m l = grind (arith, nat_tests)
+narrow_sum m l = in_64 (m + 1) (omega arith)
 
 -- from 0 to a number up to 9
 IsSmall : Range → Type 0

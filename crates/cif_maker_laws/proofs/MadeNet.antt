@@ -151,7 +151,7 @@ module _ (seed size : ℕ) where
 
     -- the next plant is in its first location
     abbrev pub exclusion : ℕ → NetExclusion
-    exclusion i = needing (idle_form (automaton_number (made seed size) (plant_of seed size (next_of size i))) (need_at_of seed size i 3)) (c_number seed size short i)
+    exclusion i = needing (idle_form (automaton_number (made seed size) (plant_of seed size (next_of size i))) (need_at_of seed size i 3)) (c_number seed size i)
 
     abbrev pub exclusions_for : Bool → ℕ → List NetExclusion
     exclusions_for b i = if b then exclusion i ∷ [] else []
@@ -160,8 +160,8 @@ module _ (seed size : ℕ) where
     block_exclusions true i l =
         let c = whole (made seed size) in
         let predicate : NetExpr = predicate_at c (idle_of_next i (next_of size i) (need_at_of seed size i)) in
-        ap (λ o. cons_option (option_map (needing predicate) o) [] ++ []) (c_denoted_above seed size short i (need_at_of seed size i 1) l)
-        ∙ ap (λ p. needing p (c_number seed size short i) ∷ []) (idle_net i (next_of size i) (need_at_of seed size i) (next_small size i l))
+        ap (λ o. cons_option (option_map (needing predicate) o) [] ++ []) (c_denoted_above seed size short i l)
+        ∙ ap (λ p. needing p (c_number seed size i) ∷ []) (idle_net i (next_of size i) (need_at_of seed size i) (next_small size i l))
     block_exclusions false i l = refl
 
     net_exclusions_are : net.exclusions ≡ flat_map (λ i. exclusions_for (has_need seed size i) i) (numbers_below size)

@@ -1,5 +1,5 @@
 -- The choices of the net of a made source have few forms, and its expressions are shallow.
-use Rattle.std.proofs.Common.{◌≡◌, ℕ, zero, suc, ◌+◌, ◌*◌, ◌≤◌, ◌<◌, ◌^◌, Bool, true, false, ◌&&◌, List, [], ◌∷◌, ◌++◌, Option, Some, None, length, refl, sym, ap, subst, ◌∙◌, arith, codes, inl, inr}
+use Rattle.std.proofs.Common.{◌≡◌, ℕ, zero, suc, ◌+◌, ◌*◌, ◌≤◌, ◌<◌, ◌^◌, Bool, true, false, ◌&&◌, List, [], ◌∷◌, ◌++◌, Option, Some, None, length, refl, sym, ap, subst, ◌∙◌, arith, inl, inr}
 use Rattle.std.specs.Prelude.{map, flat_map, filter, filter_map, zip, nat_eq, nat_lt, slice_get, unwrap_or, if◌then◌else◌}
 use Rattle.std.specs.List.{AllByRecursion, range_with_len, cons_option, sum_by, enumerate_from, list_any}
 use Rattle.std.proofs.lemmas.List.{length-append, length-map}
@@ -19,20 +19,16 @@ use Rattle.cif_net_model.specs.Meaning.{automaton_in, event_in, system_of_net}
 use Rattle.cif_net_model.specs.Unfolding.{unfolded}
 use Rattle.cif_net_model.specs.Listing.{NetMove, syncs_on, move_if, edge_at}
 use Rattle.cif_net_model.specs.Counts.{no_form, measure, all_beside, alg_measure, alg_measures, sizes, size_of, invariant_exprs, choice_nodes, event_nodes, nodes, depth, most_nodes, most_depth, is_too_large}
-use Rattle.cif_source.specs.Lookup.{denotes}
 use Rattle.cif_source.specs.Objects.{events}
-use Rattle.cif_source.specs.Step.{event_at}
 use Rattle.cif_inst_model.specs.Flat.{net_auto, net_event}
 use Rattle.cif_inst_model.specs.NetRules.{TooLargeDue}
 use Rattle.cif_maker.specs.Draws.{numbers_below}
-use Rattle.cif_maker.specs.MadeText.{numbered}
-use Rattle.cif_maker_laws.specs.MadeTree.{name_at}
-use Rattle.cif_maker_laws.proofs.Bodies.{not_true, each-append, each_of_all, made, at_of, plant_of}
+use Rattle.cif_maker_laws.proofs.Bodies.{not_true, each-append, each_of_all, made, plant_of}
 use Rattle.cif_maker_laws.proofs.Lookups.{IsShort}
 use Rattle.cif_maker_laws.proofs.Names.{each_in_range}
 use Rattle.cif_maker_laws.proofs.MadeDeclarations.{map_flat, event_pair, made_events}
-use Rattle.cif_maker_laws.proofs.EventNumbers.{u_number, c_number, numbers_apart, u_denoted, c_denoted}
-use Rattle.cif_maker_laws.proofs.MadeChoices.{is_own, no_channels, events_number}
+use Rattle.cif_maker_laws.proofs.EventNumbers.{u_number, c_number, numbers_apart, u_event, c_event, u_denoted, c_denoted}
+use Rattle.cif_maker_laws.proofs.MadeChoices.{few_options, is_own, no_channels, events_number}
 use Rattle.cif_maker_laws.proofs.MadeNet.{guard_form, sum_form, true_form, idle_form, net, net_algs, net_no_invariants, net_autos, few_exclusions, plant_exprs, edges_hold, exclusions_hold, others_hold}
 use Rattle.cif_maker_laws.proofs.MadeSums.{total, summed, total_less, total_plus, total_swapped, where_equal, once, at_most_one, members_once, each_alike}
 
@@ -132,16 +128,8 @@ options_from e o p =
     ++ stay (list_any (nat_eq e) (cons_option o (cons_option p [])) && false)
     else None ∷ []
 
-few_by : (s x y : Bool) → (x ≡ true → y ≡ true → ⊥)
-    → length (if s then cons_option (if x then Some (Some 0) else None) (cons_option (if y then Some (Some 1) else None) []) ++ stay (s && false) else None ∷ []) ≤ 1
-few_by false x y h = omega arith
-few_by true true true h = absurd (h refl refl)
-few_by true true false h = omega arith
-few_by true false true h = omega arith
-few_by true false false h = omega arith
-
 few_from : (e u c : ℕ) → (u ≡ c → ⊥) → length (options_from e (Some u) (Some c)) ≤ 1
-few_from e u c apart = few_by (list_any (nat_eq e) (u ∷ c ∷ [])) (nat_eq u e) (nat_eq c e) (λ a b. apart (is_own e u (Some u) refl a ∙ sym (is_own e c (Some c) refl b)))
+few_from e u c apart = few_options (list_any (nat_eq e) (u ∷ c ∷ [])) (nat_eq u e) (nat_eq c e) (λ a b. apart (is_own e u (Some u) refl a ∙ sym (is_own e c (Some c) refl b)))
 
 each_short : (n : Net) (e : ℕ) (xs : List NetAuto) → AllByRecursion (λ a. length (options e (automaton_in n a)) ≤ 1) xs → AllByRecursion (λ ys. length ys ≤ 1) (may_do n e xs)
 each_short n e [] h = tt
@@ -215,12 +203,10 @@ module _ (seed size : ℕ) (short : IsShort size) where
 
   plant_options : (e i : ℕ) → i < size → length (options e (automaton_in made_net (net_auto (plant_of seed size i)))) ≤ 1
   plant_options e i l =
-      let o : Option ℕ = event_at (denotes (plant_of seed size i) (name_at (numbered (codes "u") i) (at_of seed size i 19))) in
-      let p : Option ℕ = event_at (denotes (plant_of seed size i) (name_at (numbered (codes "c") i) (at_of seed size i 37))) in
-      let u = u_number seed size short i in
-      let c = c_number seed size short i in
-      subst (λ o. length (options_from e o p) ≤ 1) (sym (u_denoted seed size short i (at_of seed size i 19) l))
-      (subst (λ p. length (options_from e (Some u) p) ≤ 1) (sym (c_denoted seed size short i (at_of seed size i 37) l)) (few_from e u c (numbers_apart seed size short i l)))
+      let u = u_number seed size i in
+      let c = c_number seed size i in
+      subst (λ o. length (options_from e o (c_event seed size i)) ≤ 1) (sym (u_denoted seed size short i l))
+      (subst (λ p. length (options_from e (Some u) p) ≤ 1) (sym (c_denoted seed size short i l)) (few_from e u c (numbers_apart seed size i l)))
 
   each_auto : (P : NetAuto → Type 0) → ((i : ℕ) → i < size → P (net_auto (plant_of seed size i))) → AllByRecursion P made_net.autos
   each_auto P h = subst (AllByRecursion P) (sym (net_autos seed size)) (each_in_range P (λ i. net_auto (plant_of seed size i) ∷ []) 0 size (λ i l. (h i (omega arith), tt)))
@@ -267,12 +253,7 @@ module _ (seed size : ℕ) (short : IsShort size) where
 
   plants_alike : (b : ℕ) (is : List ℕ) → total (λ (a : NetAuto). total (λ (x : ℕ). b) a.alphabet) (flat_map (λ i. net_auto (plant_of seed size i) ∷ []) is) ≤ total (λ (i : ℕ). b + b) is
   plants_alike b [] = omega arith
-  plants_alike b (i ∷ is) =
-      let o : Option ℕ = event_at (denotes (plant_of seed size i) (name_at (numbered (codes "u") i) (at_of seed size i 19))) in
-      let p : Option ℕ = event_at (denotes (plant_of seed size i) (name_at (numbered (codes "c") i) (at_of seed size i 37))) in
-      let here = two_at_most b o p in
-      let more = plants_alike b is in
-      omega arith
+  plants_alike b (i ∷ is) = let here = two_at_most b (u_event seed size i) (c_event seed size i) in let more = plants_alike b is in omega arith
 
   -- over all events an automaton counts once for each event of its alphabet
   counted_once : (b k : ℕ) → total (λ e. total (counts b e) made_net.autos) (range_with_len 0 k) ≤ total (λ (i : ℕ). b + b) (numbers_below size)
