@@ -14,7 +14,8 @@ measured:
 - `replay` of the rows of all cases as one case: as many scans in one process
 
 A time is that of the clock, beside that of the processor; each is the best of all turns. Four workers are compared with one, and one with `replay`
-of all rows; and it is told how much of the work one thread did alone, if the rest was done by four. The last lines, by GNU time, have the most memory of
+of all rows; and it is told how much of the work one thread did alone, if the rest was done by four. Then four runs of `replay` at once are
+compared with one: where two processors are one core, as they may be on rented machines, four are not four times as fast as one. The last lines, by GNU time, have the most memory of
 `batch` for a quarter, a half and all of the cases, with the sizes of the cases and of their tables, and that of the last `replay`.
 """
 import argparse
@@ -61,6 +62,17 @@ def cost(run):
     if status:
         raise SystemExit(f"{' '.join(run.words)}: status {status}")
     return Cost(ended - begun, used.ru_utime + used.ru_stime)
+
+
+def at_once(words, count, turns):
+    """The least time of the clock, of all turns, for some runs at the same time."""
+    found = []
+    for _ in range(turns):
+        begun = time.monotonic()
+        for it in [subprocess.Popen(words, stdin=subprocess.DEVNULL, stdout=subprocess.DEVNULL) for _ in range(count)]:
+            it.wait()
+        found.append(time.monotonic() - begun)
+    return min(found)
 
 
 def without_threads():
@@ -130,6 +142,8 @@ def main():
             times = count if runs[name].words is one else 1
             print(f"{name}: {it.clock * times:.3f} s of the clock, {it.processor * times:.3f} s of the processor")
         compare(costs, count)
+        shared = 4 * costs["replay of all rows as one case"].clock / at_once(whole, 4, asked.turns)
+        print(f"four runs of replay at once, which share nothing, have {shared:.2f} times the speed of one: so much four processors give here")
         for it, file in all_cases.items() if os.path.exists(GNU_TIME) else ():
             sizes = f"{os.path.getsize(file) >> 10} KB of cases and {len(table) * it >> 10} KB of tables"
             print(f"{it} cases: {memory([program, 'batch', 'made.st', file])} KB of memory for {sizes}")

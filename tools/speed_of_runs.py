@@ -6,8 +6,8 @@
 - lines: 1,000,000 steps of a plant with two classes, with a loop in Rust that writes the same lines one by one
 - cell: a script of 4 MiB over examples/cell.cif, with an interpreter in Rust of the same choices
 - sets: a script of 4 MiB of `set` lines over 10,000 inputs, with one over 10
-- steps: 10,000 steps in a net of 100,000 objects, with those in one of 100; the time without a step is taken off
-- waiting: 10,000 steps behind 10,000 events that have none, with those behind 10; the same
+- steps: 1,000,000 steps in a net of 100,000 objects, with those in one of 100; the time without a step is taken off
+- waiting: 1,000,000 steps behind 10,000 events that have none, with those behind 10; the same
 
 Rust is `speed_of_runs.rs`, which rustc compiles; where there is none, the first two are left out. A time is that of the processor, the best
 of N turns (5), in which the two run one after the other. With --instructions callgrind counts the instructions of each instead, without
@@ -103,7 +103,7 @@ def made(name, text):
     return name
 
 
-def steps_of(program, name, text, count=10000):
+def steps_of(program, name, text, count=1000000):
     file = made(name, text)
     return Run([program, "simulate", file, "--first", count], [program, "simulate", file, "--first", 0])
 
